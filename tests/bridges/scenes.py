@@ -67,7 +67,7 @@ def changes_reach_others_once(fleet, draw):
         assert (state["state"], state["untold"], state["behind"], state["differing"]) == ("instep", "0", "0", "0"), state
 
 
-def answered_behind_the_stream(fleet, draw):
+def answered_after_the_stream(fleet, draw):
     """While the server writes nothing, no client is answered that a change is held; then it is there."""
     bridge, line = fleet.start(), number("a", 1, draw.randrange(100))
     fleet.ask("CLIENT", "PAUSE", 400, "WRITE")
@@ -213,7 +213,7 @@ def served_once_caught_up(fleet, draw):
     assert late.all() == held(lines), "it served before it had caught up"
 
 
-def a_start_behind_a_compaction(fleet, draw):
+def a_start_after_a_compaction(fleet, draw):
     """What the stream said before it was compacted stands in the snapshot, whatever comes behind it."""
     first = fleet.start()
     lines = numbers("a", draw.randrange(60, 90))
@@ -1073,6 +1073,6 @@ from tls_scenes import *
 
 SCENES = [it for it in dict(globals()).values() if callable(it) and getattr(it, "__code__", None) and it.__code__.co_varnames[:2] == ("fleet", "draw")]
 COMPACTED = (  # with few entries kept
-    "a_start_behind_a_compaction", "a_snapshot_that_is_lost", "paused_and_trimmed_under", "a_clash", "meddled_types", "counts_that_are_forged",
+    "a_start_after_a_compaction", "a_snapshot_that_is_lost", "paused_and_trimmed_under", "a_clash", "meddled_types", "counts_that_are_forged",
     "more_than_two_stores_hold", "a_snapshot_lost_while_it_is_read", "a_stream_of_another_scope", "a_scope_that_changes", "states_of_compacting",
 )

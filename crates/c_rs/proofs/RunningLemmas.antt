@@ -18,7 +18,7 @@ use Rattle.c_rs.specs.declared.session.RsSession.{RsSession}
 use Rattle.c_rs.specs.Requests.{CallsRs, CallsUnlessBarred, is_for_rs_alone}
 use Rattle.c_rs.specs.Running.{CallsInTurn, HasNoText, IsNoEntry, IsEntryOf, CallsAreTurns}
 
--- one more behind them
+-- one more past them
 pub calls_more : (texts : List ℕ) (rs : List Request) (ys : List Answer) (old mid new : RsSession) (r : Request) (a : Answer)
     → CallsInTurn texts old rs ys mid → CallsRs texts mid r a new → CallsInTurn texts old (rs ++ r ∷ []) (ys ++ a ∷ []) new
 calls_more texts [] [] old mid new r a none called = (new, subst (λ (s : RsSession). CallsRs texts s r a new) none called, refl)
@@ -26,7 +26,7 @@ calls_more texts (x ∷ rs) (y ∷ ys) old mid new r a calls called = (calls.0, 
 calls_more texts [] (y ∷ ys) old mid new r a calls called = absurd calls
 calls_more texts (x ∷ rs) [] old mid new r a calls called = absurd calls
 
--- the next request is asked, and its answer put behind the others
+-- the next request is asked, and its answer put past the others
 pub calls_next : (texts : List ℕ) (rs : List Request) (ys : List Answer) (old mid new : RsSession) (i : ℕ) (d : Request) (a : Answer) → i < length rs → i < length ys
     → CallsInTurn texts old (take i rs) (take i ys) mid → CallsRs texts mid (get_or rs i d) a new
     → CallsInTurn texts old (take (i + 1) rs) (take (i + 1) (slice_set ys i a)) new
@@ -39,9 +39,9 @@ calls_next texts rs ys old mid new i d a asks places calls called =
 pub silent_next : (ys : List Answer) (i : ℕ) (a : Answer) → i < length ys → All HasNoText (take i ys) → a.pieces ≡ 0 → All HasNoText (take (i + 1) (slice_set ys i a))
 silent_next ys i a places silent none = subst (All HasNoText) (sym (take_more_set ys i a places)) (All-push HasNoText (take i ys) a silent none)
 
--- the places behind it stay
-pub behind_next : (ys place : List Answer) (i : ℕ) (a : Answer) → drop i ys ≡ drop i place → drop (i + 1) (slice_set ys i a) ≡ drop (i + 1) place
-behind_next ys place i a behind = drop-set-lt (i + 1) ys i a (omega arith) ∙ sym (drop-drop 1 i ys) ∙ ap (drop 1) behind ∙ drop-drop 1 i place
+-- the places past it stay
+pub after_next : (ys place : List Answer) (i : ℕ) (a : Answer) → drop i ys ≡ drop i place → drop (i + 1) (slice_set ys i a) ≡ drop (i + 1) place
+after_next ys place i a past = drop-set-lt (i + 1) ys i a (omega arith) ∙ sym (drop-drop 1 i ys) ∙ ap (drop 1) past ∙ drop-drop 1 i place
 
 -- what one call is: a turn of the store, or none
 abbrev OneCall : List ℕ → RsSession → Request → Answer → RsSession → Type 0

@@ -36,7 +36,7 @@ pub record RunsCalls (old : RsSession) (requests : List Request) (texts : List �
     (new : RsSession) : Type 0 where
   pub within : (done ≤ length requests) × (done ≤ length place)
   pub calls : CallsInTurn texts old (take done requests) (take done answers) new
-  pub behind : drop done answers ≡ drop done place
+  pub past : drop done answers ≡ drop done place
   pub ended : (All HasNoText (take done answers) × ((done ≡ length requests) ⊎ (done ≡ length place))) ⊎ EndsWithText (take done answers)
 
 -- ---- what such a run is to the machine

@@ -56,18 +56,18 @@ unbroken_line e valid =
 line_of : (e : EndpointRecord) → IsEndpoint e → length (codes "nameof " ++ endpoint_text e) ≤ 4096 → IsLineOf (Store (NameOf e)) (codes "nameof " ++ endpoint_text e)
 line_of e valid short = record { written = (valid, tt); text = refl; short = short }
 
-named : (bytes behind : List ℕ) (e : EndpointRecord) → length bytes ≤ 4096 → bytes ≡ codes "nameof " ++ behind → IsEndpoint e
-    → (behind ≡ endpoint_text e) ⊎ (behind ≡ endpoint_text e ++ 10 ∷ []) → IsCommandIn bytes (Store (NameOf e))
-named bytes behind e short is valid (inl whole) =
+named : (bytes past : List ℕ) (e : EndpointRecord) → length bytes ≤ 4096 → bytes ≡ codes "nameof " ++ past → IsEndpoint e
+    → (past ≡ endpoint_text e) ⊎ (past ≡ endpoint_text e ++ 10 ∷ []) → IsCommandIn bytes (Store (NameOf e))
+named bytes past e short is valid (inl whole) =
     let line = codes "nameof " ++ endpoint_text e in
     let same : bytes ≡ line = is ∙ ap (λ (r : List ℕ). codes "nameof " ++ r) whole in
     record { line = line; is = record { unbroken = unbroken_line e valid; text = inl same }; stands = line_of e valid (omega (arith, short, ap length same)) }
-named bytes behind e short is valid (inr ended) =
+named bytes past e short is valid (inr ended) =
     let line = codes "nameof " ++ endpoint_text e in
     let same : bytes ≡ with_newline line = is ∙ ap (λ (r : List ℕ). codes "nameof " ++ r) ended in
     record { line = line; is = record { unbroken = unbroken_line e valid; text = inr same }; stands = line_of e valid (omega (arith, short, ap length same, length-append line (10 ∷ []))) }
 
-pub of_name : (bytes behind : List ℕ) → length bytes ≤ 4096 → bytes ≡ codes "nameof " ++ behind → (found : Option EndpointRecord)
-    → IfSome found (λ e. IsEndpointAlone e behind) → IfSome found (λ e. IsCommandIn bytes (Store (NameOf e)))
-of_name bytes behind short is None alone = tt
-of_name bytes behind short is (Some e) alone = named bytes behind e short is alone.valid alone.text
+pub of_name : (bytes past : List ℕ) → length bytes ≤ 4096 → bytes ≡ codes "nameof " ++ past → (found : Option EndpointRecord)
+    → IfSome found (λ e. IsEndpointAlone e past) → IfSome found (λ e. IsCommandIn bytes (Store (NameOf e)))
+of_name bytes past short is None alone = tt
+of_name bytes past short is (Some e) alone = named bytes past e short is alone.valid alone.text

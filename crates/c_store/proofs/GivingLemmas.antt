@@ -12,7 +12,7 @@ use Rattle.rs_to_store.proofs.ListLemmas.{next_taken}
 use Rattle.rs_to_store.proofs.SubmitLemmas.{all_more}
 use Rattle.c_store.specs.Giving.{told_move, GivesMoves}
 
--- what a list leaves of another behind it
+-- what a list leaves of another past it
 pub drop_over : {X : Type 0} (n : ℕ) (xs ys : List X) → drop n (xs ++ ys) ≡ drop n xs ++ drop (n - length xs) ys
 drop_over n [] ys = sym (ap (λ l. l ++ drop (n - 0) ys) (drop_all n [] (omega arith)) ∙ ap (λ m. drop m ys) (let e : n - 0 ≡ n = omega arith in e))
 drop_over zero (x ∷ xs) ys = ap (λ m. (x ∷ xs) ++ drop m ys) (let e : 0 ≡ 0 - length (x ∷ xs) = omega arith in e)
@@ -42,9 +42,9 @@ module _ (moves : List Move) (place now : List TableMove) (count : ℕ) (given :
       let front = map told_move (take count moves) in
       let whole : take count moves ≡ moves = take_all count moves (omega (arith, all)) in
       let before : take count now ≡ front = ap (take count) given.moves_are ∙ take_at front (drop count place) count front_length in
-      let behind : drop (suc count) now ≡ drop (suc count) place = ap (drop (suc count)) given.moves_are ∙ drop-append-drop count place front (suc count) (omega arith) front_length in
+      let past : drop (suc count) now ≡ drop (suc count) place = ap (drop (suc count)) given.moves_are ∙ drop-append-drop count place front (suc count) (omega arith) front_length in
       let split : slice_set now count x ≡ take count now ++ x ∷ drop (suc count) now = set_split now count x fits in
-      let both : take count now ++ x ∷ drop (suc count) now ≡ front ++ x ∷ drop (suc count) place = ap (λ l. l ++ x ∷ drop (suc count) now) before ∙ ap (λ l. front ++ x ∷ l) behind in
+      let both : take count now ++ x ∷ drop (suc count) now ≡ front ++ x ∷ drop (suc count) place = ap (λ l. l ++ x ∷ drop (suc count) now) before ∙ ap (λ l. front ++ x ∷ l) past in
       let told : front ++ x ∷ [] ≡ map told_move (take (count + 1) (moves ++ step ∷ [])) =
       ap (λ l. map told_move l ++ x ∷ []) whole ∙ sym (map-append told_move moves (step ∷ [])) ∙ ap (map told_move) (sym (take_all (count + 1) (moves ++ step ∷ []) (omega (arith, all, more)))) in
       let next : suc count ≡ count + 1 = omega arith in record {

@@ -60,15 +60,15 @@ pub fn fast_name_of(bytes: &[u8]) -> Option<Endpoint>
     if bytes.len() > LONGEST_LINE {
         return None;
     }
-    match behind_name_of(bytes) {
-        Some(behind) => endpoint_alone(behind),
+    match after_name_of(bytes) {
+        Some(after) => endpoint_alone(after),
         None => None,
     }
 }
 
 // Returns what follows the word `nameof` and a space. `None` for any other line.
 #[inline(always)]
-fn behind_name_of(line: &[u8]) -> Option<&[u8]>
+fn after_name_of(line: &[u8]) -> Option<&[u8]>
     ensures { IfSome result (λ rest. line.now ≡ codes "nameof " ++ rest.now) }
 {
     match line {

@@ -47,7 +47,7 @@ pub fn no_text() -> Given
 pub fn give_part(text: &[u8], first: usize, room: &mut [u8]) -> Given
     ensures { GivesPart text.now first room.old result room.new }
 {
-    let rest = behind(text, first);
+    let rest = past(text, first);
     let count = text.len() as u64;
     if room.len() < rest.len() {
         let length = room.len();
@@ -67,7 +67,7 @@ pub fn give_part(text: &[u8], first: usize, room: &mut [u8]) -> Given
 }
 
 // Returns the text after its first bytes.
-fn behind(text: &[u8], first: usize) -> &[u8]
+fn past(text: &[u8], first: usize) -> &[u8]
     ensures { result.now ≡ drop first text.now }
 {
     if first < text.len() {

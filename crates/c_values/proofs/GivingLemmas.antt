@@ -24,13 +24,13 @@ one_more items i x lt is =
     ∙ concat-append (take i ps) (item_spelling x ∷ []) ∙ ap (λ l. concat (take i ps) ++ l) (append-nil (item_spelling x))
 
 -- bytes that are put after a front
-pub put_behind : (front old room new p : List ℕ) (at : ℕ) → at ≡ length front → room ≡ front ++ drop at old
+pub put_after : (front old room new p : List ℕ) (at : ℕ) → at ≡ length front → room ≡ front ++ drop at old
     → new ≡ take at room ++ (p ++ drop (at + length p) room) → new ≡ (front ++ p) ++ drop (at + length p) old
-put_behind front old room new p at is e put =
+put_after front old room new p at is e put =
     let seam : take at room ≡ front = ap (λ n. take n room) is ∙ ap (take (length front)) e ∙ take-append_seam front (drop at old) in
-    let behind : drop (at + length p) room ≡ drop (at + length p) old =
+    let past : drop (at + length p) room ≡ drop (at + length p) old =
     ap (λ n. drop (n + length p) room) is ∙ ap (drop (length front + length p)) e ∙ drop-append-add front (drop at old) (length p) ∙ drop-drop (length p) at old in
-    put ∙ ap (λ l. l ++ (p ++ drop (at + length p) room)) seam ∙ ap (λ l. front ++ (p ++ l)) behind ∙ sym (append_assoc front p (drop (at + length p) old))
+    put ∙ ap (λ l. l ++ (p ++ drop (at + length p) room)) seam ∙ ap (λ l. front ++ (p ++ l)) past ∙ sym (append_assoc front p (drop (at + length p) old))
 
 -- all that is given of some pieces, where as many were given as there are
 pub all_given : (items : List Item) (old room : List ℕ) (count taken : ℕ) → count ≡ length items
@@ -47,8 +47,8 @@ all_given items old room count taken all is e = record {
 }
 
 -- the copies of the pieces after the first ones
-pub given_behind : (items : List Item) (first : ℕ) (old new : List ℕ) (given : Given) → GivesPieces (map item_spelling (take (length items - first) (drop first items))) old given new
+pub given_after : (items : List Item) (first : ℕ) (old new : List ℕ) (given : Given) → GivesPieces (map item_spelling (take (length items - first) (drop first items))) old given new
     → GivesPieces (drop first (map item_spelling items)) old given new
-given_behind items first old new given gives =
+given_after items first old new given gives =
     let all : take (length items - first) (drop first items) ≡ drop first items = take_all (length items - first) (drop first items) (omega (arith, length-drop first items)) in
     subst (λ (ps : List (List ℕ)). GivesPieces ps old given new) (ap (map item_spelling) all ∙ sym (drop-map item_spelling first items)) gives

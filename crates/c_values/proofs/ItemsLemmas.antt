@@ -52,7 +52,7 @@ none_at rest [] some none is e = omega (arith, ap length e)
 none_at rest (z ∷ zs) some none is e = none z (flat_map item_spelling zs) (All-head IsItem z zs is) e
 
 -- if no item's line comes after the lines of some items, the text isn't the lines of any items
-pub none_behind : (text rest : List ℕ) (xs ys : List Item) → All IsItem xs → text ≡ flat_map item_spelling xs ++ rest → 0 < length rest → HasNoItem rest → ¬ AreLines ys text
-none_behind text rest xs ys xis e some none are =
+pub none_after : (text rest : List ℕ) (xs ys : List Item) → All IsItem xs → text ≡ flat_map item_spelling xs ++ rest → 0 < length rest → HasNoItem rest → ¬ AreLines ys text
+none_after text rest xs ys xis e some none are =
     let left : (zs : List Item) × All IsItem zs × (rest ≡ flat_map item_spelling zs) = left_of xs ys rest xis are.each (sym e ∙ are.text_is) in
     none_at rest left.0 some none left.1 left.2

@@ -93,8 +93,8 @@ unfoldable pub scope_of : Request → List ℕ → Option Scope
 scope_of r text = cond (r.under == 0) (Some All) (option_map Under (query_at r.kinds text))
 
 -- The key after which a page begins, with an inner `None` for the first page.
-unfoldable pub behind_of : Request → Option (Option Key)
-behind_of r = cond (r.behind == 0) (Some None) (option_map Some (key_of_parts (named_in r) (kind_at r.behind)))
+unfoldable pub after_of : Request → Option (Option Key)
+after_of r = cond (r.behind == 0) (Some None) (option_map Some (key_of_parts (named_in r) (kind_at r.behind)))
 
 -- ---- the commands
 
@@ -130,7 +130,7 @@ since_of_request r text =
 
 unfoldable pub page_of_request : Request → List ℕ → Option Command
 page_of_request r text =
-    option_and_then (λ (after : Option Key). option_map (λ scope. Page scope after r.max) (scope_of r text)) (behind_of r)
+    option_and_then (λ (after : Option Key). option_map (λ scope. Page scope after r.max) (scope_of r text)) (after_of r)
 
 -- The command of a request with this text, by its number. A Merge isn't among these.
 unfoldable pub command_of : Request → List ℕ → Option Command

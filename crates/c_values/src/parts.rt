@@ -2,7 +2,7 @@
 
 ghost use Rattle.std.specs.Prelude.{◌≡◌};
 ghost use Rattle.c_values.specs.Request.{generation_at, endpoint_at, caller_of, version_at, versioned, kind_at, name_at, named_in, key_of};
-ghost use Rattle.c_values.specs.Request.{behind_of, delete_of, sweep_of};
+ghost use Rattle.c_values.specs.Request.{after_of, delete_of, sweep_of};
 
 use crate::request::Request;
 use ds_machine::Command;
@@ -84,9 +84,9 @@ pub fn key_of(request: &Request) -> Option<Key>
 }
 
 /// Returns the key after which a Page begins, with an inner `None` for the first page. `None` if it isn't a key.
-#[tactic(auto, unfolding(crate::specs::Request::behind_of))]
-pub(crate) fn behind(request: &Request) -> Option<Option<Key>>
-    ensures { result ≡ behind_of request.now }
+#[tactic(auto, unfolding(crate::specs::Request::after_of))]
+pub(crate) fn after_key(request: &Request) -> Option<Option<Key>>
+    ensures { result ≡ after_of request.now }
 {
     if request.behind == 0 {
         return Some(None);

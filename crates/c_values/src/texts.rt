@@ -8,7 +8,7 @@ ghost use Rattle.c_values.specs.Asked.{is_long, request_text};
 ghost use Rattle.c_values.specs.Request.{string_at, memory_at, kind_at, valued, query_at, scope_of};
 ghost use Rattle.c_values.specs.Request.{publish_of, publish_command, subscribe_of, since_of_request, page_of_request};
 
-use crate::parts::{behind, caller_of, endpoint, key_of, version};
+use crate::parts::{after_key, caller_of, endpoint, key_of, version};
 use crate::request::Request;
 use ds_entry::{Blob, BlobFault, Text, TextFault, Value};
 use ds_feed::Cursor;
@@ -22,8 +22,8 @@ use std::alloc::Global;
 pub fn text_of<'a>(texts: &'a [u8], request: &Request) -> Option<&'a [u8]>
     ensures { let text = request_text request.now texts.now in MatchOption result (text ≡ None) (λ t. text ≡ Some t.now) }
 {
-    let behind = texts.get(request.text_at as usize..)?;
-    behind.get(..request.text_length as usize)
+    let after = texts.get(request.text_at as usize..)?;
+    after.get(..request.text_length as usize)
 }
 
 #[inline(never)]
@@ -246,7 +246,7 @@ pub(crate) fn page(alloc: Global, request: &Request, text: &[u8]) -> Result<Opti
     ensures room { OnErr result (IsTrue (not (request.now.under == 0))) }
     ensures fits { OnErr result (page_of_request request.now text.now ≢ None) }
 {
-    let Some(after) = behind(request) else {
+    let Some(after) = after_key(request) else {
         return Ok(None);
     };
     let Some(scope) = scope(alloc, request, text)? else {

@@ -20,7 +20,7 @@ use Rattle.ds_submap.specs.Take.{IsTakeStopped}
 use Rattle.desk_store.proofs.FitLemmas.{checks_fit}
 use Rattle.desk_store.specs.Called.{MadeCall}
 use Rattle.desk_store.specs.Record.{PassRecord}
-use Rattle.desk_store.proofs.RecordLemmas.{call_behind}
+use Rattle.desk_store.proofs.RecordLemmas.{call_after}
 use Rattle.ds_reader.specs.Asked.{subscribe_anew}
 use Rattle.desk_store.specs.Follower.{FollowerRecord, follower_of, mapped}
 use Rattle.desk_store.specs.KeepsUp.{KeepsUpWith, StandsForFront, StandsIfStamped}
@@ -70,7 +70,7 @@ module _ (p q : PassRecord) (f : FollowerRecord) (stamp before after place : ℕ
         ends = record { items = items; checks = record { command = refl; reply = refl }; few = few };
         stamp_is = refl;
         up_to = record {
-          at = call_behind p q (Check f.sub most_items) (Checked items stamp after) place own_called;
+          at = call_after p q (Check f.sub most_items) (Checked items stamp after) place own_called;
           current = checked_current p q f.sub f.map.query stamp after place items (mapped f) stood own_called (held_items held) top few;
         };
       }

@@ -46,9 +46,9 @@ whole_merges : (own : List (Entry Command Reply)) → AllByRecursion IsWholeMerg
 whole_merges [] all = tt
 whole_merges (e ∷ es) all = (all.0.0, inr (all.0.1, whole_merges es all.1))
 
-merges_behind : (own more : List (Entry Command Reply)) → AllByRecursion IsWholeMerge own → AreMerges more → AreMerges (own ++ more)
-merges_behind [] more all merges = merges
-merges_behind (e ∷ own) more all merges = (all.0.0, inr (all.0.1, merges_behind own more all.1 merges))
+merges_after : (own more : List (Entry Command Reply)) → AllByRecursion IsWholeMerge own → AreMerges more → AreMerges (own ++ more)
+merges_after [] more all merges = merges
+merges_after (e ∷ own) more all merges = (all.0.0, inr (all.0.1, merges_after own more all.1 merges))
 
 whole_both : (own more : List (Entry Command Reply)) → AllByRecursion IsWholeMerge own → AllByRecursion IsWholeMerge more → AllByRecursion IsWholeMerge (own ++ more)
 whole_both [] more all rest = rest
@@ -100,11 +100,11 @@ only_none p items = record { own = []; made = made_none p; merges = tt; in_order
 pub only_all : (p q : PassRecord) (xs ys : List Item) (m : ℕ) → GivesAll p q xs m → GivesOnly p q (xs ++ ys)
 only_all p q xs ys m a = record { own = a.own; made = a.made; merges = whole_merges a.own a.merges; in_order = (ys, ap (λ (l : List Item). l ++ ys) a.items_are) }
 
-pub only_behind : (p q r : PassRecord) (xs ys : List Item) (m : ℕ) → GivesAll p q xs m → GivesOnly q r ys → GivesOnly p r (xs ++ ys)
-only_behind p q r xs ys m a o = record {
+pub only_after : (p q r : PassRecord) (xs ys : List Item) (m : ℕ) → GivesAll p q xs m → GivesOnly q r ys → GivesOnly p r (xs ++ ys)
+only_after p q r xs ys m a o = record {
   own = a.own ++ o.own;
   made = made_more p q r a.own o.own a.made o.made;
-  merges = merges_behind a.own o.own a.merges o.merges;
+  merges = merges_after a.own o.own a.merges o.merges;
   in_order = (
     o.in_order.0,
     ap (λ (l : List Item). l ++ o.in_order.0) (given_both a.own o.own) ∙ append_assoc (all_given a.own) (all_given o.own) o.in_order.0
@@ -124,8 +124,8 @@ leaves_rest p q items front rest m g whole many = record {
   left = omega (arith, many, ap (λ (l : List Item). length l) g.items_are, ap (λ (l : List Item). length l) whole, length-append front rest);
 }
 
-pub leaves_behind : (p q r : PassRecord) (xs ys : List Item) (m : ℕ) → GivesAll p q xs m → LeavesSome q r ys → LeavesSome p r (xs ++ ys)
-leaves_behind p q r xs ys m a o = record {
+pub leaves_after : (p q r : PassRecord) (xs ys : List Item) (m : ℕ) → GivesAll p q xs m → LeavesSome q r ys → LeavesSome p r (xs ++ ys)
+leaves_after p q r xs ys m a o = record {
   own = a.own ++ o.own;
   made = made_more p q r a.own o.own a.made o.made;
   merges = whole_both a.own o.own a.merges o.merges;
@@ -208,12 +208,12 @@ module _ (rest part : List Item) (is : part ≡ take most_items rest) where
   pub part_within : length part ≤ length rest
   part_within = omega (arith, part_and_rest)
 
-  module _ (behind items front : List Item) (left : behind ≡ drop most_items rest) (whole : front ++ rest ≡ items) where
-    pub parts_more : (front ++ part) ++ behind ≡ items
-    parts_more = append_assoc front part behind ∙ ap (λ (l : List Item). front ++ l) (ap (λ (l : List Item). part ++ l) left ∙ both_are) ∙ whole
+  module _ (past items front : List Item) (left : past ≡ drop most_items rest) (whole : front ++ rest ≡ items) where
+    pub parts_more : (front ++ part) ++ past ≡ items
+    parts_more = append_assoc front part past ∙ ap (λ (l : List Item). front ++ l) (ap (λ (l : List Item). part ++ l) left ∙ both_are) ∙ whole
 
     pub only_part : (p q r : PassRecord) (m : ℕ) → GivesAll p q front m → GivesOnly q r part → GivesOnly p r items
-    only_part p q r m g o = subst (λ (l : List Item). GivesOnly p r l) parts_more (only_more p r (front ++ part) behind (only_behind p q r front part m g o))
+    only_part p q r m g o = subst (λ (l : List Item). GivesOnly p r l) parts_more (only_more p r (front ++ part) past (only_after p q r front part m g o))
 
 pub gives_end : (p q : PassRecord) (items front rest : List Item) (m : ℕ) → GivesAll p q front m → front ++ rest ≡ items → length rest ≡ 0 → GivesAll p q items m
 gives_end p q items front [] m g whole none = subst (λ (l : List Item). GivesAll p q l m) (sym (append-nil front) ∙ whole) g
@@ -225,7 +225,7 @@ module _ (p q r : PassRecord) (items front rest : List Item) (m : ℕ) (g : Give
   gives_rest n o = subst (λ (l : List Item). GivesAll p r l (m + n)) whole (gives_both p q r front rest m n g o)
 
   pub only_rest : GivesOnly q r rest → GivesOnly p r items
-  only_rest o = subst (λ (l : List Item). GivesOnly p r l) whole (only_behind p q r front rest m g o)
+  only_rest o = subst (λ (l : List Item). GivesOnly p r l) whole (only_after p q r front rest m g o)
 
 pub only_front : (p q : PassRecord) (items front rest : List Item) (m : ℕ) → GivesAll p q front m → front ++ rest ≡ items → GivesOnly p q items
 only_front p q items front rest m g whole = subst (λ (l : List Item). GivesOnly p q l) whole (only_all p q front rest m g)

@@ -18,7 +18,7 @@ use Rattle.ds_machine.specs.declared.reply.Reply.TheVariants as replies
 use Rattle.ds_machine.specs.declared.refusal.Refusal.{Refusal}
 use Rattle.desk_store.specs.Called.{Made, MadeCall}
 use Rattle.desk_store.specs.CallFaults.{FailsAsking}
-use Rattle.desk_store.specs.Record.{PassRecord, place_behind}
+use Rattle.desk_store.specs.Record.{PassRecord, place_after}
 use Rattle.desk_store.specs.declared.call_fault.CallFault.{CallFault}
 use Rattle.desk_store.specs.declared.call_fault.CallFault.TheVariants as calls
 use Rattle.desk_store.proofs.FaultLemmas.{fails_by, fails_later}
@@ -30,7 +30,7 @@ use Rattle.desk_store.specs.declared.exchange_fault.ExchangeFault.{ExchangeFault
 use Rattle.desk_store.specs.declared.exchange_fault.ExchangeFault.TheVariants.{Call, Stopped}
 use Rattle.desk_store.specs.Giving.{GivesAll, GivesOnly}
 use Rattle.desk_store.specs.Telling.{AsksInTurn, AsksPages, IsOpenPage, all_told, cursor_told, first_told, items_told, page_asked, since_asked}
-use Rattle.desk_store.proofs.GivingLemmas.{gives_both, gives_none, leaves_behind, only_all, only_behind, only_none}
+use Rattle.desk_store.proofs.GivingLemmas.{gives_both, gives_none, leaves_after, only_all, only_after, only_none}
 
 -- ---- the items of replies
 pub told_both : (own more : List (Entry Command Reply)) → all_told (own ++ more) ≡ all_told own ++ all_told more
@@ -85,7 +85,7 @@ module _ (p next r s new : PassRecord) (own : List (Entry Command Reply)) (made 
   giving_fails (Call calls.NoRoom) some = inr (record {
     own = own;
     made = made;
-    leaves = subst (λ (l : List Item). LeavesSome r new l) (sym told) (leaves_behind r s new before items taken gives some);
+    leaves = subst (λ (l : List Item). LeavesSome r new l) (sym told) (leaves_after r s new before items taken gives some);
   })
   giving_fails (Stopped done cause) w = record {
     front = gives.own ++ w.front;
@@ -202,19 +202,19 @@ module _ (p q r s next : PassRecord) (after : Option Key) (first : Option Cursor
       own = k.own ++ asked_page ∷ [];
       made = made_page;
       asks = asks_page;
-      gives = subst (λ (l : List Item). GivesOnly r new l) (sym page_told) (only_behind r s new (all_told k.own) page.items taken k.gives o);
+      gives = subst (λ (l : List Item). GivesOnly r new l) (sym page_told) (only_after r s new (all_told k.own) page.items taken k.gives o);
     }
 
     pub page_stops : (fault : ExchangeFault) → IsGivingFault s new page.items fault → IsExchangeFault p next r new fault
     page_stops fault by = giving_fails p next r s new (k.own ++ asked_page ∷ []) made_page (all_told k.own) page.items taken k.gives page_told fault by
 
     -- a desk has places for so few pages that they have fewer items than 2^127
-    pub told_few : place_behind next ≤ 2 ^ 62 → length page.items < 2 ^ 64 → done + length page.items < 2 ^ 127
+    pub told_few : place_after next ≤ 2 ^ 62 → length page.items < 2 ^ 64 → done + length page.items < 2 ^ 127
     told_few at few =
         omega (arith, k.bound, at, few, made_above p next (k.own ++ asked_page ∷ []) made_page, length-append k.own (asked_page ∷ []))
 
     module _ (n : ℕ) (g : GivesAll s new page.items n) where
-      pub taken_few : place_behind next ≤ 2 ^ 62 → length page.items < 2 ^ 64 → taken + n < 2 ^ 127
+      pub taken_few : place_after next ≤ 2 ^ 62 → length page.items < 2 ^ 64 → taken + n < 2 ^ 127
       taken_few at few = omega (arith, told_few at few, k.done_is, k.gives.within, g.within)
 
       gives_page : GivesAll r new (all_told (k.own ++ asked_page ∷ [])) (taken + n)

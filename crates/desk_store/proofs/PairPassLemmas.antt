@@ -18,7 +18,7 @@ use Rattle.ds_content.specs.Content.{ContentRecord}
 use Rattle.ds_store.specs.Turns.{Turn}
 use Rattle.ds_store.proofs.TurnLemmas.{turns_answer, turns_run}
 use Rattle.desk_store.specs.Called.{FoundWorn, Made, MadeCall}
-use Rattle.desk_store.specs.Record.{HasJustItsCalls, HasLegalHistory, IsInTurns, place_behind}
+use Rattle.desk_store.specs.Record.{HasJustItsCalls, HasLegalHistory, IsInTurns, place_after}
 use Rattle.desk_store.proofs.PassLemmas.{first_stood}
 use Rattle.rs_core.specs.State.{RsRecord}
 use Rattle.rs_store.specs.ByRs.{is_by_rs}
@@ -50,8 +50,8 @@ replied_by services command (Acted actions replies given) old new turn other = a
 replied_by services command (Refused fault) old new turn other = absurd turn
 
 module _ {Z : Type 0} {G : Ghosts (View (BoxedPair Z) RsCommand RsReply)} (p : Pass (BoxedPair Z) RsCommand RsReply G) where
-  pub behind_is : place_behind (pair_record p) ≡ next_place p
-  behind_is = ap (λ (n : ℕ). first_place p + n) (turns_many (history p))
+  pub after_is : place_after (pair_record p) ≡ next_place p
+  after_is = ap (λ (n : ℕ). first_place p + n) (turns_many (history p))
 
   pub is_in_turns : IsInTurns (pair_record p)
   is_in_turns = turns_join (history p)
@@ -85,7 +85,7 @@ module _ {Z : Type 0} {G : Ghosts (View (BoxedPair Z) RsCommand RsReply)} (p q :
   }
 
   pub found_worn : (fault : DeskFault) → FindsNoPlace is_pair RsTurn fault p q → FoundWorn (pair_record p) (pair_record q) fault
-  found_worn fault f = record { fault_is = f.0; made = sees_made f.1; full = behind_is q ∙ f.3 }
+  found_worn fault f = record { fault_is = f.0; made = sees_made f.1; full = after_is q ∙ f.3 }
 
   -- ---- it called
   replied_from : (o : Option (BoxedPair Z)) → opening p ≡ o → is_some o ≡ true → (command : Command) (reply : RsReply) (place : ℕ) →

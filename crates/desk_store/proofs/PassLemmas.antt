@@ -22,7 +22,7 @@ use Rattle.ds_store.specs.Turns.{Turn}
 use Rattle.ds_store.proofs.TurnLemmas.{turns_answer, turns_run}
 use Rattle.desk_store.specs.Called.{FoundWorn, Made, MadeCall}
 use Rattle.desk_store.specs.Later.{SeesMoreByCalls, SeesMoreByLooks, SeesMoreByNotes}
-use Rattle.desk_store.specs.Record.{Boxed, HasJustItsCalls, HasLegalHistory, IsInTurns, boxed_content, is_content, pass_origin, pass_record, place_behind, turn_by_turn}
+use Rattle.desk_store.specs.Record.{Boxed, HasJustItsCalls, HasLegalHistory, IsInTurns, boxed_content, is_content, pass_origin, pass_record, place_after, turn_by_turn}
 
 -- ---- a turn for each entry
 turns_both : (xs ys : List (Entry Command Reply)) → turn_by_turn (xs ++ ys) ≡ turn_by_turn xs ++ turn_by_turn ys
@@ -41,8 +41,8 @@ first_stood [] e old new run = run.1.stood
 first_stood (x ∷ es) e old new run = run.1.stood
 
 module _ {Z : Type 0} {G : Ghosts (View (Boxed Z) Command Reply)} (p : Pass (Boxed Z) Command Reply G) where
-  pub behind_is : place_behind (pass_record p) ≡ next_place p
-  behind_is = ap (λ (n : ℕ). first_place p + n) (turns_many (history p))
+  pub after_is : place_after (pass_record p) ≡ next_place p
+  after_is = ap (λ (n : ℕ). first_place p + n) (turns_many (history p))
 
   pub is_in_turns : IsInTurns (pass_record p)
   is_in_turns = turns_join (history p)
@@ -71,7 +71,7 @@ module _ {Z : Type 0} {G : Ghosts (View (Boxed Z) Command Reply)} (p q : Pass (B
   }
 
   pub found_worn : (fault : DeskFault) → FindsNoPlace is_content Turn fault p q → FoundWorn (pass_record p) (pass_record q) fault
-  found_worn fault f = record { fault_is = f.0; made = sees_made f.1; full = behind_is q ∙ f.3 }
+  found_worn fault f = record { fault_is = f.0; made = sees_made f.1; full = after_is q ∙ f.3 }
 
   -- ---- it called
   module _ (command : Command) (reply : Reply) (place : ℕ) (c : Calls is_content Turn p q command reply place) where

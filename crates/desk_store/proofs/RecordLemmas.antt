@@ -10,7 +10,7 @@ use Rattle.ds_machine.specs.declared.reply.Reply.{Reply}
 use Rattle.ds_store.specs.Turns.{Answered}
 use Rattle.desk_store.specs.Called.{HadAccepted, Made, MadeCall}
 use Rattle.desk_store.specs.Later.{MadeSeesMore, SeenMoreAgain}
-use Rattle.desk_store.specs.Record.{HasJustItsCalls, PassOrigin, PassRecord, place_behind}
+use Rattle.desk_store.specs.Record.{HasJustItsCalls, PassOrigin, PassRecord, place_after}
 
 -- ---- calls in order
 pub made_none : (p : PassRecord) → Made p p []
@@ -47,7 +47,7 @@ made_more p q r own more a b = record {
 }
 
 -- each of them has a place after what was seen
-pub made_above : (p q : PassRecord) (own : List (Entry Command Reply)) → Made p q own → place_behind p + length own ≤ place_behind q
+pub made_above : (p q : PassRecord) (own : List (Entry Command Reply)) → Made p q own → place_after p + length own ≤ place_after q
 made_above p q own a =
     omega (arith, ap (λ (o : PassOrigin). o.first) a.same, ap (λ (l : List (List (Entry Command Reply))). length l) a.turns_are, length-append p.turns a.turned, a.apart)
 
@@ -61,8 +61,8 @@ seen_more_again p q r a b = record { same_opening = b.same_opening ∙ a.same_op
 -- ---- one call
 module _ (p q : PassRecord) (command : Command) (reply : Reply) (place : ℕ) (c : MadeCall p q command reply place) where
   -- nothing has been seen after it
-  pub call_behind : place + 1 ≡ place_behind q
-  call_behind =
+  pub call_after : place + 1 ≡ place_after q
+  call_after =
       omega (arith, c.at, ap (λ (o : PassOrigin). o.first) c.made.same, ap (λ (l : List (List (Entry Command Reply))). length l) c.turns_end, length-append (p.turns ++ c.turned) ((entry p.origin.number command reply ∷ []) ∷ []))
 
   -- each run of what the pass has seen ends with it

@@ -11,7 +11,7 @@ use Rattle.ds_machine.specs.declared.reply.Reply.TheVariants as replies
 use Rattle.desk_store.specs.Called.{FoundWorn, Made, MadeCall}
 use Rattle.desk_store.specs.declared.call_fault.CallFault.{CallFault}
 use Rattle.desk_store.specs.declared.call_fault.CallFault.TheVariants.{Desk, Refused, NoRoom}
-use Rattle.desk_store.specs.Record.{PassRecord, place_behind}
+use Rattle.desk_store.specs.Record.{PassRecord, place_after}
 
 -- Whether the fault reports this refusal of the store: NoRoom as NoRoom, any other as Refused.
 abbrev pub TellsRefusal : Refusal → CallFault → Type 0
@@ -37,7 +37,7 @@ pub record EndsRefused (own : List (Entry Command Reply)) (refusal : Refusal) : 
 -- Whether the fault ended these calls of a pass, which is q after them: no place is left at the desk, the store refused the last of them,
 -- or memory ran out.
 abbrev pub IsFaultAfter : PassRecord → List (Entry Command Reply) → CallFault → Type 0
-IsFaultAfter q own (Desk fault) = (fault ≡ Worn) × (place_behind q ≡ 2 ^ 62)
+IsFaultAfter q own (Desk fault) = (fault ≡ Worn) × (place_after q ≡ 2 ^ 62)
 IsFaultAfter q own (Refused refusal) = (refusal ≢ refusals.NoRoom) × EndsRefused own refusal
 IsFaultAfter q own NoRoom = Unit {0}
 

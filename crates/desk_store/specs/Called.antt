@@ -7,7 +7,7 @@ use Rattle.desk.specs.declared.fault.DeskFault.TheVariants.{Worn}
 use Rattle.ds_machine.specs.declared.command.Command.{Command}
 use Rattle.ds_machine.specs.declared.reply.Reply.{Reply}
 use Rattle.ds_machine.specs.declared.reply.Reply.TheVariants.{Refused}
-use Rattle.desk_store.specs.Record.{HasJustItsCalls, HasLegalHistory, PassRecord, place_behind}
+use Rattle.desk_store.specs.Record.{HasJustItsCalls, HasLegalHistory, PassRecord, place_after}
 
 -- Whether q is the pass p later, which may have seen more, and made exactly these calls. Either it is unchanged, or its entries in the
 -- history are exactly its calls.
@@ -51,4 +51,4 @@ pub record HadAccepted (p q : PassRecord) : Type 0 where
 pub record FoundWorn (p q : PassRecord) (fault : DeskFault) : Type 0 where
   pub fault_is : fault ≡ Worn
   pub made : Made p q []
-  pub full : place_behind q ≡ 2 ^ 62
+  pub full : place_after q ≡ 2 ^ 62

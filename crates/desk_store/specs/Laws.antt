@@ -12,7 +12,7 @@ use Rattle.desk_store.specs.Later.{MadeSeesMore, SeenMoreAgain, SeesMoreByCalls,
 use Rattle.desk_store.specs.MapLaws.{ChecksFit, FollowsAlone, FollowsCheck, FollowsFirst, FollowsOn, TellsOthers, TellsOwn}
 use Rattle.desk_store.specs.PairLater.{PairSeesMoreByCalls, PairSeesMoreByLooks, PairSeesMoreByNotes}
 use Rattle.desk_store.specs.PairRecord.{BoxedPair, pair_record}
-use Rattle.desk_store.specs.Record.{Boxed, IsInTurns, pass_record, place_behind}
+use Rattle.desk_store.specs.Record.{Boxed, IsInTurns, pass_record, place_after}
 
 -- The laws of a map that follows a store.
 pub record FollowersFollow : Type 0 where
@@ -39,7 +39,7 @@ pub record SeesMore {Z : Type 0} {G : Ghosts (View (Boxed Z) Command Reply)} (p 
   pub again : SeenMoreAgain
   -- the history is the turns', and each turn has a place of the desk
   pub turns : IsInTurns (pass_record p)
-  pub places : place_behind (pass_record p) ≡ next_place p
+  pub places : place_after (pass_record p) ≡ next_place p
 
 -- The laws of a pass at a desk of RS and its store.
 pub record PairSeesMore {Z : Type 0} {G : Ghosts (View (BoxedPair Z) RsCommand RsReply)} (p : Pass (BoxedPair Z) RsCommand RsReply G)
@@ -50,4 +50,4 @@ pub record PairSeesMore {Z : Type 0} {G : Ghosts (View (BoxedPair Z) RsCommand R
   pub notes : PairSeesMoreByNotes p
   -- the store's history is the turns', and each turn has a place of the desk
   pub turns : IsInTurns (pair_record p)
-  pub places : place_behind (pair_record p) ≡ next_place p
+  pub places : place_after (pair_record p) ≡ next_place p

@@ -62,8 +62,8 @@ pass_record p = record {
 }
 
 -- The first place after the history that the pass has seen. Each turn has a place.
-abbrev pub place_behind : PassRecord → ℕ
-place_behind p = p.origin.first + length p.turns
+abbrev pub place_after : PassRecord → ℕ
+place_after p = p.origin.first + length p.turns
 
 -- Whether the pass's history is that of its turns, in order.
 abbrev pub IsInTurns : PassRecord → Type 0

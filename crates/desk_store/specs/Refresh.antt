@@ -7,7 +7,7 @@ use Rattle.ds_machine.specs.declared.command.Command.{Command}
 use Rattle.ds_machine.specs.declared.reply.Reply.{Reply}
 use Rattle.desk_store.specs.Following.{IsCurrent}
 use Rattle.desk_store.specs.Called.{HadAccepted, Made}
-use Rattle.desk_store.specs.Record.{AfterEach, HasLegalHistory, PassRecord, place_behind}
+use Rattle.desk_store.specs.Record.{AfterEach, HasLegalHistory, PassRecord, place_after}
 use Rattle.desk_store.specs.Seat.{IsSameSeat, SeatRecord}
 use Rattle.desk_store.specs.declared.refreshing.Fresh.{Fresh}
 use Rattle.desk_store.specs.declared.refreshing.Fresh.TheVariants.{UpTo, More}
@@ -32,7 +32,7 @@ SeatCallsOnly s t f limit = IsSameSeat s t × CallsOnly s.pass t.pass f limit
 
 -- Whether the place is the first one after the history that q has seen, and the map is what the store holds there under the query.
 pub record IsUpTo (q : PassRecord) (g : FollowerRecord) (place : ℕ) : Type 0 where
-  pub at : place ≡ place_behind q
+  pub at : place ≡ place_after q
   pub current : AfterEach q q.history (λ t. IsCurrent t g.map.query (mapped g))
 
 -- Whether the last call ended the refresh, and none before it did. Its place is above all that p had seen.
@@ -48,7 +48,7 @@ pub record EndsUpTo (p q : PassRecord) (f g : FollowerRecord) (limit place : ℕ
   pub ends : ChecksLast f.sub last stamp after
   pub stamp_is : g.stamp ≡ Some after
   pub up_to : IsUpTo q g place
-  pub above : place_behind p < place
+  pub above : place_after p < place
 
 -- Whether exactly `limit` calls were made, and none of them ended the refresh.
 pub record EndsMore (p q : PassRecord) (f g : FollowerRecord) (limit : ℕ) : Type 0 where

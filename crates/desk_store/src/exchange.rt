@@ -11,7 +11,7 @@ use crate::giving::give;
 use ds_feed::{Cursor, Page, Since};
 use ds_machine::Scope;
 use ds_names::limits::MOST_ITEMS;
-use ds_reader::go_behind;
+use ds_reader::go_past;
 use std::sync::Wait;
 
 /// The result of an exchange.
@@ -91,7 +91,7 @@ fn exchange_pages<W: Wait, A: ClientSeat, B: ClientSeat>(
             last,
             cursor,
         } = page(a, Scope::All, after, MOST_ITEMS as u32)?;
-        go_behind(&mut after, &items);
+        go_past(&mut after, &items);
         let from = first.unwrap_or(cursor);
         let count = items.len();
         let given = give(b, items)?;

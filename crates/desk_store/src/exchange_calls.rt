@@ -5,7 +5,7 @@ ghost use Rattle.ds_machine.specs.declared.command.Command.TheVariants as comman
 ghost use Rattle.ds_machine.specs.declared.reply.Reply.TheVariants.{Paged, Journaled};
 ghost use Rattle.desk_store.specs.Called.{MadeCall};
 ghost use Rattle.desk_store.specs.CallFaults.{FailsAsking};
-ghost use Rattle.desk_store.specs.Record.{place_behind};
+ghost use Rattle.desk_store.specs.Record.{place_after};
 ghost use Rattle.desk_store.specs.Seat.{IsSameSeat};
 
 use crate::call_fault::CallFault;
@@ -24,7 +24,7 @@ pub(crate) fn page<S: ClientSeat>(
     ensures same { IsSameSeat (S.seat seat.old) (S.seat seat.new) }
     ensures told { IfOk result (λ page. (place : ℕ)
         × MadeCall (S.seat seat.old).pass (S.seat seat.new).pass (commands.Page scope after max) (Paged page) place) }
-    ensures bound { OnOk result (place_behind (S.seat seat.new).pass ≤ 2 ^ 62) }
+    ensures bound { OnOk result (place_after (S.seat seat.new).pass ≤ 2 ^ 62) }
     ensures fault { IfErr result (FailsAsking (S.seat seat.old).pass (S.seat seat.new).pass (commands.Page scope after max)) }
 {
     let (reply, _place) = seat.send(Command::Page { scope, after, max })?;

@@ -132,10 +132,10 @@ module _ {X : Type 0} (all : Option Move → List (ℕ × X)) (values : Option M
   none_left id [] h = refl
   none_left id (r ∷ requests) h = values-append id (part r) (parts all ask test requests) ∙ (ap (λ (l : List X). l ++ values_of id (parts all ask test requests)) (part_other r id h.0) ∙ none_left id requests h.1)
 
-  behind : (r : Request) (rest : List (ℕ × X)) (requests : List Request) → AllByRecursion (λ (s : Request). r.id == s.id ≡ false) requests → AllByRecursion (λ (s : Request). values_of s.id rest ≡ value s) requests →
+  past : (r : Request) (rest : List (ℕ × X)) (requests : List Request) → AllByRecursion (λ (s : Request). r.id == s.id ≡ false) requests → AllByRecursion (λ (s : Request). values_of s.id rest ≡ value s) requests →
       AllByRecursion (λ (s : Request). values_of s.id (part r ++ rest) ≡ value s) requests
-  behind r rest [] d h = tt
-  behind r rest (s ∷ requests) d h = (values-append s.id (part r) rest ∙ (ap (λ (l : List X). l ++ values_of s.id rest) (part_other r s.id d.0) ∙ h.0), behind r rest requests d.1 h.1)
+  past r rest [] d h = tt
+  past r rest (s ∷ requests) d h = (values-append s.id (part r) rest ∙ (ap (λ (l : List X). l ++ values_of s.id rest) (part_other r s.id d.0) ∙ h.0), past r rest requests d.1 h.1)
 
   turned : (r : Request) (requests : List Request) → AllByRecursion (λ (s : Request). r.id == s.id ≡ false) requests → AllByRecursion (λ (s : Request). s.id == r.id ≡ false) requests
   turned r [] d = tt
@@ -147,5 +147,5 @@ module _ {X : Type 0} (all : Option Move → List (ℕ × X)) (values : Option M
   each_left [] h = tt
   each_left (r ∷ requests) h = (
     values-append r.id (part r) (parts all ask test requests) ∙ (ap (λ (l : List X). values_of r.id (part r) ++ l) (none_left r.id requests (turned r requests h.0)) ∙ (append-nil (values_of r.id (part r)) ∙ part_own r)),
-    behind r (parts all ask test requests) requests h.0 (each_left requests h.1),
+    past r (parts all ask test requests) requests h.0 (each_left requests h.1),
   )

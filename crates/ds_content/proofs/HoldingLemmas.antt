@@ -32,9 +32,9 @@ changes_alone : (cs : List ChangeRecord) → changes_in (map change_item cs) ≡
 changes_alone [] = refl
 changes_alone (c ∷ cs) = ap (λ l. c ∷ l) (changes_alone cs)
 
-changes_behind : (es : List (List ℕ × ℕ)) (cs : List ChangeRecord) → changes_in (map floor_item es ++ map change_item cs) ≡ cs
-changes_behind [] cs = changes_alone cs
-changes_behind (e ∷ es) cs = changes_behind es cs
+changes_after : (es : List (List ℕ × ℕ)) (cs : List ChangeRecord) → changes_in (map floor_item es ++ map change_item cs) ≡ cs
+changes_after [] cs = changes_alone cs
+changes_after (e ∷ es) cs = changes_after es cs
 
 no_floors : (cs : List ChangeRecord) → floors_in (map change_item cs) ≡ []
 no_floors [] = refl
@@ -45,7 +45,7 @@ floors_before [] cs = no_floors cs
 floors_before (e ∷ es) cs = ap (λ l. floor_of e.0 e.1 ∷ l) (floors_before es cs)
 
 pub changes_are : (h : Holding) → changes_in (held_items h) ≡ held_changes h
-changes_are h = changes_behind (entries h.floors) (held_changes h)
+changes_are h = changes_after (entries h.floors) (held_changes h)
 
 pub floors_are : (h : Holding) → floors_in (held_items h) ≡ held_floors h
 floors_are h = floors_before (entries h.floors) (held_changes h)

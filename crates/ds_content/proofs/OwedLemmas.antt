@@ -63,13 +63,13 @@ floor_owed_as v s f stands = ap (λ (l : List (Option Followed)). map is_some l)
 
 -- ---- the flags of a mask
 
-behind : (ws : List (Option Watching)) (i : Item) (n k : ℕ) → get_or (map (watches_item i) ws ++ replicate n false) k false ≡ watches_item i (get_or ws k None)
-behind [] i n k = no_flag n k
-behind (w ∷ ws) i n zero = refl
-behind (w ∷ ws) i n (suc k) = behind ws i n k
+past : (ws : List (Option Watching)) (i : Item) (n k : ℕ) → get_or (map (watches_item i) ws ++ replicate n false) k false ≡ watches_item i (get_or ws k None)
+past [] i n k = no_flag n k
+past (w ∷ ws) i n zero = refl
+past (w ∷ ws) i n (suc k) = past ws i n k
 
 pub padded_flag : (ws : List (Option Watching)) (i : Item) (k : ℕ) → get_or (padded (map (watches_item i) ws)) k false ≡ watches_item i (get_or ws k None)
-padded_flag ws i k = behind ws i (128 - length (map (watches_item i) ws)) k
+padded_flag ws i k = past ws i (128 - length (map (watches_item i) ws)) k
 
 pub padded_long : (fs : List Bool) → length fs ≤ 128 → length (padded fs) ≡ 128
 padded_long fs few = let n = length-append fs (replicate (128 - length fs) false) in let m = length-replicate {A = Bool} (128 - length fs) false in omega (arith, n, m, few)

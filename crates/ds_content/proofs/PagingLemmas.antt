@@ -12,7 +12,7 @@ use Rattle.ds_entry.specs.Item.{passes}
 use Rattle.ds_entry.specs.declared.floor.Floor.{Floor}
 use Rattle.ds_entry.specs.declared.item.Item.{Item}
 use Rattle.ds_entry.specs.declared.item.Item.TheVariants.{Change as Changed, Floor as Floored}
-use Rattle.ds_feed.specs.Page.{is_behind_key, still_to_come, floors_of, changes_of, page_of}
+use Rattle.ds_feed.specs.Page.{is_after_key, still_to_come, floors_of, changes_of, page_of}
 use Rattle.ds_feed.specs.declared.cursor.Cursor.{Cursor}
 use Rattle.ds_feed.specs.declared.reading.Page.{Page}
 use Rattle.ds_held.specs.Held.{Holding, held_items, held_changes, held_floors, change_item}
@@ -129,17 +129,17 @@ module _ (keep : Key → Bool) (cs : List ChangeRecord) (max : ℕ) (start : Lis
 
 -- ---- the page
 module _ (keep : Key → Bool) where
-  behind_is : (after : Option Key) (c : ChangeRecord) → is_behind_key after (Changed c) ≡ comes_after after c
-  behind_is None c = refl
-  behind_is (Some a) c = refl
+  after_is : (after : Option Key) (c : ChangeRecord) → is_after_key after (Changed c) ≡ comes_after after c
+  after_is None c = refl
+  after_is (Some a) c = refl
 
   -- of the changes
   changes_to_come : (after : Option Key) (cs : List ChangeRecord) → still_to_come (passes keep) after (map change_item cs) ≡ map change_item (to_come keep after cs)
   changes_to_come after [] = refl
-  changes_to_come after (c ∷ cs) = by_test (changes_to_come after cs) (keep c.key) (is_behind_key after (Changed c)) (comes_after after c) refl refl (behind_is after c)
+  changes_to_come after (c ∷ cs) = by_test (changes_to_come after cs) (keep c.key) (is_after_key after (Changed c)) (comes_after after c) refl refl (after_is after c)
     where
-      by_test : still_to_come (passes keep) after (map change_item cs) ≡ map change_item (to_come keep after cs) → (k b d : Bool) → keep c.key ≡ k → is_behind_key after (Changed c) ≡ b → b ≡ d
-          → filter (is_behind_key after) (cond k (Changed c ∷ filter (passes keep) (map change_item cs)) (filter (passes keep) (map change_item cs))) ≡ map change_item
+      by_test : still_to_come (passes keep) after (map change_item cs) ≡ map change_item (to_come keep after cs) → (k b d : Bool) → keep c.key ≡ k → is_after_key after (Changed c) ≡ b → b ≡ d
+          → filter (is_after_key after) (cond k (Changed c ∷ filter (passes keep) (map change_item cs)) (filter (passes keep) (map change_item cs))) ≡ map change_item
           (filter (λ (x : ChangeRecord). keep x.key) (cond d (c ∷ filter (comes_after after) cs) (filter (comes_after after) cs)))
       by_test rest k true false e f g = absurd (cc)
       by_test rest k false true e f g = absurd (cc)

@@ -61,10 +61,7 @@ fn gives(before: &[u8], rest: &[u8], field: &[u8]) -> bool {
         return false;
     }
     match rest.strip_prefix(field) {
-        Some(behind) => matches!(
-            behind.trim_ascii_start().first().copied(),
-            Some(b'=' | b']')
-        ),
+        Some(after) => matches!(after.trim_ascii_start().first().copied(), Some(b'=' | b']')),
         None => false,
     }
 }

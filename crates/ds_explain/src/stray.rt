@@ -7,8 +7,8 @@ pub(crate) const BYTE_ORDER_MARK: &[u8] = b"\xef\xbb\xbf";
 
 /// Returns a sentence about what is at the place, if that says more than what was expected there.
 pub(crate) fn stray_at(text: &[u8], place: usize, rest: &[u8]) -> Option<&'static str> {
-    if let Some(behind) = read_byte(rest, 0x1b) {
-        return Some(key(behind));
+    if let Some(after) = read_byte(rest, 0x1b) {
+        return Some(key(after));
     }
     if place == 0 {
         return stray_first(rest);
@@ -37,8 +37,8 @@ fn stray_first(rest: &[u8]) -> Option<&'static str> {
 }
 
 // Returns a sentence about a terminal's key, by the bytes after the escape.
-fn key(behind: &[u8]) -> &'static str {
-    match behind.get(1).copied() {
+fn key(after: &[u8]) -> &'static str {
+    match after.get(1).copied() {
         Some(b'A') => "the Up key was found: `rlwrap dsctl` adds history and editing",
         Some(b'B') => "the Down key was found: `rlwrap dsctl` adds history and editing",
         Some(b'C') => "the Right key was found: `rlwrap dsctl` adds history and editing",

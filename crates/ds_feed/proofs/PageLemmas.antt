@@ -16,7 +16,7 @@ use Rattle.ds_entry.specs.Item.{item_cmp}
 use Rattle.ds_entry.specs.declared.item.Item.{Item}
 use Rattle.ds_entry.specs.declared.item.Item.TheVariants.{Change as Changed, Floor as Floored}
 use Rattle.ds_entry.proofs.Members.{Contains-head, Contains-tail, Contains-from_filter}
-use Rattle.ds_feed.specs.Page.{is_floor, is_behind_key, still_to_come, floors_of, changes_of}
+use Rattle.ds_feed.specs.Page.{is_floor, is_after_key, still_to_come, floors_of, changes_of}
 use Rattle.ds_feed.specs.Laws.{PagesGoOn}
 
 -- ---- lists
@@ -78,36 +78,36 @@ contains_at (y ∷ ys) (suc n) x e = Contains-tail y ys x (contains_at ys n x e)
 
 -- ---- what is after a key
 
-not_behind_itself : (k : Key) → is_lt (key_cmp k k) ≡ false
-not_behind_itself k = rw (tied_itself keys_total k) refl
+not_after_itself : (k : Key) → is_lt (key_cmp k k) ≡ false
+not_after_itself k = rw (tied_itself keys_total k) refl
 
 -- An item before a change isn't after its key.
-before : (x : Item) (c : ChangeRecord) → item_cmp x (Changed c) ≡ Less → is_behind_key (Some c.key) x ≡ false
+before : (x : Item) (c : ChangeRecord) → item_cmp x (Changed c) ≡ Less → is_after_key (Some c.key) x ≡ false
 before (Changed d) c e =
     let h : key_cmp c.key d.key ≡ Greater = keys_total.antisymm c.key d.key ∙ ap ordering_reverse e in
     rw h refl
 before (Floored f) c e = refl
 
 -- An item after a change is after its key.
-after_it : (c : ChangeRecord) (x : Item) → item_cmp (Changed c) x ≡ Less → is_behind_key (Some c.key) x ≡ true
+after_it : (c : ChangeRecord) (x : Item) → item_cmp (Changed c) x ≡ Less → is_after_key (Some c.key) x ≡ true
 after_it c (Changed d) e = ap is_lt e
 after_it c (Floored f) e = cc
 
 -- The items after the key of a change in an ordered list are those that follow it.
-follows : (xs : List Item) (n : ℕ) (c : ChangeRecord) → IsStrictlySortedBy item_cmp xs → slice_get xs n ≡ Some (Changed c) → filter (is_behind_key (Some c.key)) xs ≡ drop (suc n) xs
+follows : (xs : List Item) (n : ℕ) (c : ChangeRecord) → IsStrictlySortedBy item_cmp xs → slice_get xs n ≡ Some (Changed c) → filter (is_after_key (Some c.key)) xs ≡ drop (suc n) xs
 unfolding IsStrictlySortedBy
 follows [] n c s e = cc
 follows (x ∷ xs) zero c s e =
     let h : x ≡ Changed c = cc in
-    let here : is_behind_key (Some c.key) x ≡ false = ap (is_behind_key (Some c.key)) h ∙ not_behind_itself c.key in
-    let rest : AllByRecursion (λ y. is_behind_key (Some c.key) y ≡ true) xs = along (λ y. item_cmp x y ≡ Less) (λ y. is_behind_key (Some c.key) y ≡ true) (λ y l. after_it c y (subst (λ (z : Item). item_cmp z y ≡ Less) h l)) xs s.0 in
-    rw here (all_pass (is_behind_key (Some c.key)) xs rest)
+    let here : is_after_key (Some c.key) x ≡ false = ap (is_after_key (Some c.key)) h ∙ not_after_itself c.key in
+    let rest : AllByRecursion (λ y. is_after_key (Some c.key) y ≡ true) xs = along (λ y. item_cmp x y ≡ Less) (λ y. is_after_key (Some c.key) y ≡ true) (λ y l. after_it c y (subst (λ (z : Item). item_cmp z y ≡ Less) h l)) xs s.0 in
+    rw here (all_pass (is_after_key (Some c.key)) xs rest)
 follows (x ∷ xs) (suc n) c s e =
-    let here : is_behind_key (Some c.key) x ≡ false = before x c (at_place (λ y. item_cmp x y ≡ Less) xs n (Changed c) s.0 e) in
+    let here : is_after_key (Some c.key) x ≡ false = before x c (at_place (λ y. item_cmp x y ≡ Less) xs n (Changed c) s.0 e) in
     rw here (follows xs n c s.1 e)
 
 -- What is after a key that is after another one is after that one too.
-further : (after : Option Key) (c : ChangeRecord) → is_behind_key after (Changed c) ≡ true → (i : Item) → is_behind_key (Some c.key) i ≡ true → is_behind_key after i ≡ true
+further : (after : Option Key) (c : ChangeRecord) → is_after_key after (Changed c) ≡ true → (i : Item) → is_after_key (Some c.key) i ≡ true → is_after_key after i ≡ true
 further None c h i k = refl
 further (Some a) c h (Floored f) k = cc
 further (Some a) c h (Changed d) k = ap is_lt (keys_total.trans a c.key d.key (less (key_cmp a c.key) h) (less (key_cmp c.key d.key) k))
@@ -117,7 +117,7 @@ further (Some a) c h (Changed d) k = ap is_lt (keys_total.trans a c.key d.key (l
     less Equal e = cc
     less Greater e = cc
 
-no_floor : (c : ChangeRecord) (i : Item) → is_behind_key (Some c.key) i ≡ true → not (is_floor i) ≡ true
+no_floor : (c : ChangeRecord) (i : Item) → is_after_key (Some c.key) i ≡ true → not (is_floor i) ≡ true
 no_floor c (Changed d) k = refl
 no_floor c (Floored f) k = cc
 
@@ -130,20 +130,20 @@ pages_go_on test after max held cursor front c s e = at_end (last_of_both (floor
     changes : List Item
     changes = changes_of rest
 
-    behind : Item → Bool
-    behind = is_behind_key (Some c.key)
+    past : Item → Bool
+    past = is_after_key (Some c.key)
 
     in_order : IsStrictlySortedBy item_cmp changes
-    in_order = IsStrictlySortedBy-filter item_cmp (λ i. not (is_floor i)) rest (IsStrictlySortedBy-filter item_cmp (is_behind_key after) (filter test held) (IsStrictlySortedBy-filter item_cmp test held s))
+    in_order = IsStrictlySortedBy-filter item_cmp (λ i. not (is_floor i)) rest (IsStrictlySortedBy-filter item_cmp (is_after_key after) (filter test held) (IsStrictlySortedBy-filter item_cmp test held s))
 
-    at_change : (n : ℕ) → length (take max changes) ≡ suc n → slice_get changes n ≡ Some (Changed c) → filter behind (filter test held) ≡ drop max changes
+    at_change : (n : ℕ) → length (take max changes) ≡ suc n → slice_get changes n ≡ Some (Changed c) → filter past (filter test held) ≡ drop max changes
     at_change n l h =
         let there = Contains-from_filter (λ i. not (is_floor i)) rest (Changed c) (contains_at changes n (Changed c) h) in
-        let passes = (Contains-from_filter (is_behind_key after) (filter test held) (Changed c) there.0).1 in
+        let passes = (Contains-from_filter (is_after_key after) (filter test held) (Changed c) there.0).1 in
         let count : suc n ≡ min max (length changes) = sym l ∙ length-take max changes in
-        sym (narrowed behind (is_behind_key after) (further after c passes) (filter test held)) ∙
-        (sym (narrowed behind (λ i. not (is_floor i)) (no_floor c) rest) ∙ (follows changes n c in_order h ∙ (ap (λ (k : ℕ). drop k changes) count ∙ drop_min max changes)))
+        sym (narrowed past (is_after_key after) (further after c passes) (filter test held)) ∙
+        (sym (narrowed past (λ i. not (is_floor i)) (no_floor c) rest) ∙ (follows changes n c in_order h ∙ (ap (λ (k : ℕ). drop k changes) count ∙ drop_min max changes)))
 
-    at_end : Contains (floors_of rest) (Changed c) ⊎ ((n : ℕ) × (length (take max changes) ≡ suc n) × (slice_get (take max changes) n ≡ Some (Changed c))) → filter behind (filter test held) ≡ drop max changes
+    at_end : Contains (floors_of rest) (Changed c) ⊎ ((n : ℕ) × (length (take max changes) ≡ suc n) × (slice_get (take max changes) n ≡ Some (Changed c))) → filter past (filter test held) ≡ drop max changes
     at_end (inl h) = let t : false ≡ true = (Contains-from_filter is_floor rest (Changed c) h).1 in absurd (cc)
     at_end (inr h) = at_change h.0 h.1 (taken_at max h.0 changes (Changed c) h.2)

@@ -15,10 +15,10 @@ is_floor (Floored f) = true
 
 -- Whether the item belongs after this key. A change does if its key is greater. A floor belongs only on the first page,
 -- which comes after no key.
-abbrev pub is_behind_key : Option Key → Item → Bool
-is_behind_key None i = true
-is_behind_key (Some after) (Changed c) = is_lt (key_cmp after c.key)
-is_behind_key (Some after) (Floored f) = false
+abbrev pub is_after_key : Option Key → Item → Bool
+is_after_key None i = true
+is_after_key (Some after) (Changed c) = is_lt (key_cmp after c.key)
+is_after_key (Some after) (Floored f) = false
 
 -- A snapshot: everything held that passes the test, and the cursor at that time.
 abbrev pub snapshot_of : (Item → Bool) → List Item → Cursor → Snapshot
@@ -26,7 +26,7 @@ snapshot_of test held cursor = record { items = filter test held; cursor = curso
 
 -- The items that the page after the key and all later pages return.
 abbrev pub still_to_come : (Item → Bool) → Option Key → List Item → List Item
-still_to_come test after held = filter (is_behind_key after) (filter test held)
+still_to_come test after held = filter (is_after_key after) (filter test held)
 
 abbrev pub floors_of : List Item → List Item
 floors_of items = filter is_floor items

@@ -15,7 +15,7 @@ use Rattle.ds_join.specs.declared.merge.Stop.{Stop}
 use Rattle.ds_join.specs.ItemTop.{IsTop}
 use Rattle.ds_join.proofs.ItemTopLemmas.{top_of_top}
 use Rattle.ds_held.specs.Held.{Holding, held_items, IsSound}
-use Rattle.ds_held.specs.Join.{ItemAnswer, after_item, IsItemRefused, AreMerged, IsJoinStopped, JoinStopsBehind}
+use Rattle.ds_held.specs.Join.{ItemAnswer, after_item, IsItemRefused, AreMerged, IsJoinStopped, JoinStopsAfter}
 use Rattle.ds_held.proofs.HeldLemmas.{held_is_top}
 use Rattle.ds_held.proofs.MergeLemmas.{merge_joins}
 use Rattle.ds_held.proofs.RaiseLemmas.{raise_joins}
@@ -130,14 +130,14 @@ pub length_items : {X : Type 0} (f : X → Item) (xs : List X) → length xs ≡
 length_items f xs = sym (length-map xs f)
 
 -- ---- what a join says of all
-pub merged_behind : {A : Type 0} (r : Result A Stop) (old : Holding) (xs ys : List Item) (m new : Holding) → AreMerged old xs m → OnOk r (AreMerged m ys new) → OnOk r (AreMerged old (xs ++ ys) new)
-merged_behind (Ok a) old xs ys m new v w = merged_both old xs ys m new v w
-merged_behind (Err stop) old xs ys m new v w = tt
+pub merged_then : {A : Type 0} (r : Result A Stop) (old : Holding) (xs ys : List Item) (m new : Holding) → AreMerged old xs m → OnOk r (AreMerged m ys new) → OnOk r (AreMerged old (xs ++ ys) new)
+merged_then (Ok a) old xs ys m new v w = merged_both old xs ys m new v w
+merged_then (Err stop) old xs ys m new v w = tt
 
-pub stopped_behind : {A : Type 0} (r : Result A Stop) (ys : List Item) (m new : Holding) (n : ℕ) → IfErr r (JoinStopsBehind n m ys new) → (old : Holding) (xs : List Item) →
+pub stopped_after : {A : Type 0} (r : Result A Stop) (ys : List Item) (m new : Holding) (n : ℕ) → IfErr r (JoinStopsAfter n m ys new) → (old : Holding) (xs : List Item) →
     AreMerged old xs m → n ≡ length xs → IfErr r (IsJoinStopped old (xs ++ ys) new)
-stopped_behind (Ok a) ys m new n s old xs w e = tt
-stopped_behind (Err stop) ys m new n s old xs w e = s old xs w e
+stopped_after (Ok a) ys m new n s old xs w e = tt
+stopped_after (Err stop) ys m new n s old xs w e = s old xs w e
 
 pub join_if_ok : {A : Type 0} (r : Result A Stop) (old : Holding) (items : List Item) (new : Holding) → IsSound old → OnOk r (AreMerged old items new) → OnOk r (IsTop (held_items new) (held_items old ++ items))
 join_if_ok (Ok a) old items new sound w = all_join old items new sound w
@@ -152,6 +152,6 @@ all_sound : (old : Holding) (items : List Item) (new : Holding) → IsSound old 
 all_sound old [] new sound w = subst IsSound (sym w) sound
 all_sound old (i ∷ items) new sound w = all_sound (after_item old i (Ok w.0)) items new (item_sound old sound i w.0 w.1) w.2
 
-pub sound_behind : {A : Type 0} (r : Result A Stop) (old : Holding) (items : List Item) (new : Holding) → IsSound old → OnOk r (AreMerged old items new) → IfErr r (IsJoinStopped old items new) → IsSound new
-sound_behind (Ok a) old items new sound w s = all_sound old items new sound w
-sound_behind (Err stop) old items new sound w s = all_sound old (take stop.done items) new sound s.merged
+pub sound_then : {A : Type 0} (r : Result A Stop) (old : Holding) (items : List Item) (new : Holding) → IsSound old → OnOk r (AreMerged old items new) → IfErr r (IsJoinStopped old items new) → IsSound new
+sound_then (Ok a) old items new sound w s = all_sound old items new sound w
+sound_then (Err stop) old items new sound w s = all_sound old (take stop.done items) new sound s.merged

@@ -65,8 +65,8 @@ module _ {K V X : Type 0} (R : K → K → Ordering) (total : IsTotalOrder R) (e
   pub before_gap : (x : X) (xs : List X) (k : K) (i : ℕ) → Place (x ∷ xs) k (Err (suc i)) → R k (row x).0 ≡ Greater
   before_gap x xs k i p = turned_greater (row x).0 k (p.1.0 0 x (omega arith) (omega arith))
 
-  pub behind_gap : (x : X) (xs : List X) (k : K) → Place (x ∷ xs) k (Err zero) → R k (row x).0 ≡ Less
-  behind_gap x xs k p = turned_less (row x).0 k (p.1.1 0 x (omega arith) (omega arith))
+  pub after_gap : (x : X) (xs : List X) (k : K) → Place (x ∷ xs) k (Err zero) → R k (row x).0 ≡ Less
+  after_gap x xs k p = turned_less (row x).0 k (p.1.1 0 x (omega arith) (omega arith))
 
   -- an element at its place
   pub at_place : (x : X) (xs : List X) (k : K) → Place (x ∷ xs) k (Ok zero) → (row x).0 ≡ k
@@ -87,7 +87,7 @@ module _ {K V X : Type 0} (R : K → K → Ordering) (total : IsTotalOrder R) (e
   put_there [] c (Err zero) s p = refl
   put_there [] c (Err (suc i)) s p = absurd (omega (arith, p.0))
   put_there (x ∷ xs) c (Err zero) s p =
-      sym (ap (λ r. by_order r (row c ∷ row x ∷ rows xs) (((row x).0, (row c).1) ∷ rows xs) (row x ∷ put R (row c).0 (row c).1 (rows xs))) (behind_gap x xs (row c).0 p))
+      sym (ap (λ r. by_order r (row c ∷ row x ∷ rows xs) (((row x).0, (row c).1) ∷ rows xs) (row x ∷ put R (row c).0 (row c).1 (rows xs))) (after_gap x xs (row c).0 p))
   put_there (x ∷ xs) c (Err (suc i)) s p =
       ap (λ l. row x ∷ l) (put_there xs c (Err i) (both _ _ s).1 (rest_gap x xs (row c).0 i p))
       ∙ sym (ap (λ r. by_order r (row c ∷ row x ∷ rows xs) (((row x).0, (row c).1) ∷ rows xs) (row x ∷ put R (row c).0 (row c).1 (rows xs))) (before_gap x xs (row c).0 i p))
@@ -101,7 +101,7 @@ module _ {K V X : Type 0} (R : K → K → Ordering) (total : IsTotalOrder R) (e
   find_none : (xs : List X) (k : K) (i : ℕ) → Place xs k (Err i) → find R k (rows xs) ≡ None
   find_none [] k i p = refl
   find_none (x ∷ xs) k zero p =
-      ap (λ r. cond (is_eq r) (Some (row x).1) (find R k (rows xs))) (behind_gap x xs k p)
+      ap (λ r. cond (is_eq r) (Some (row x).1) (find R k (rows xs))) (after_gap x xs k p)
       ∙ find_none xs k 0 (omega arith, (λ n d l w. absurd (omega (arith, w)), λ n d l w. p.1.1 (suc n) d (omega arith) (omega (arith, w))))
   find_none (x ∷ xs) k (suc i) p = ap (λ r. cond (is_eq r) (Some (row x).1) (find R k (rows xs))) (before_gap x xs k i p) ∙ find_none xs k i (rest_gap x xs k i p)
 

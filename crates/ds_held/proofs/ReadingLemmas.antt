@@ -17,6 +17,6 @@ module _ (fs : List Floor) (cs : List ChangeRecord) where
       sym (get_front i (map floored fs) (map change_item cs) (omega (arith, within, length-map fs floored)) ∙ slice_get-map floored fs i ∙ ap (option_map floored) (slice_get_read fs (length fs) i f refl within is))
 
   pub change_item_at : (i : ℕ) (o : Option ChangeRecord) → length fs ≤ i → o ≡ slice_get cs (i - length fs) → option_map change_item o ≡ slice_get (map floored fs ++ map change_item cs) i
-  change_item_at i o behind is =
+  change_item_at i o past is =
       ap (option_map change_item) is ∙ sym (slice_get-map change_item cs (i - length fs)) ∙ sym (get_back (i - length fs) (map floored fs) (map change_item cs))
-      ∙ ap (slice_get (map floored fs ++ map change_item cs)) (omega (arith, behind, length-map fs floored))
+      ∙ ap (slice_get (map floored fs ++ map change_item cs)) (omega (arith, past, length-map fs floored))

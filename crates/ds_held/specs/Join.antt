@@ -35,7 +35,7 @@ pub record IsJoinStopped (old : Holding) (items : List Item) (new : Holding) (st
   pub refused : (next : Item) × (slice_get items stop.done ≡ Some next) × IsItemRefused new next stop.fault
 
 -- `IsJoinStopped` for these items after `before` others that were merged already.
-abbrev pub JoinStopsBehind : ℕ → Holding → List Item → Holding → Stop → Type 0
-JoinStopsBehind before old items new stop =
+abbrev pub JoinStopsAfter : ℕ → Holding → List Item → Holding → Stop → Type 0
+JoinStopsAfter before old items new stop =
     (start : Holding) (front : List Item) → AreMerged start front old → before ≡ length front →
     IsJoinStopped start (front ++ items) new stop

@@ -2,7 +2,7 @@
 
 ghost use Rattle.std.specs.Prelude.{◌≡◌, ◌≤◌, ◌++◌, map, length, IfErr, OnOk};
 ghost use Rattle.ds_held.specs.Held.{change_item, IsSound};
-ghost use Rattle.ds_held.specs.Join.{AreMerged, IsJoinStopped, JoinStopsBehind};
+ghost use Rattle.ds_held.specs.Join.{AreMerged, IsJoinStopped, JoinStopsAfter};
 ghost use Rattle.ds_held.specs.Kept.{floored};
 
 use crate::held::Held;
@@ -36,7 +36,7 @@ fn merge_all(
     requires few_before { before ≤ 64 }
     requires few { length other.now ≤ 4096 }
     ensures merged { OnOk result (AreMerged held.old (map change_item other.now) held.new) }
-    ensures stopped { IfErr result (JoinStopsBehind before held.old (map change_item other.now) held.new) }
+    ensures stopped { IfErr result (JoinStopsAfter before held.old (map change_item other.now) held.new) }
 {
     let mut done = before;
     for i in 0..other.len() {

@@ -33,19 +33,19 @@ find_first : (e : Key × ChangeRecord) (es : List (Key × ChangeRecord)) → fin
 find_first e es = ap (λ r. cond (is_eq r) (Some e.1) (find key_cmp e.0 es)) (tied_itself keys_total e.0)
 
 -- A key that is found after the first isn't the first's.
-found_behind : (x q : Key) (v : ChangeRecord) (es : List (Key × ChangeRecord)) → T (below_all key_cmp x es) → find key_cmp q es ≡ Some v → eq_by_cmp key_cmp q x ≡ false
-found_behind x q v [] b h = absurd (cc)
-found_behind x q v (e ∷ es) b h =
+found_after : (x q : Key) (v : ChangeRecord) (es : List (Key × ChangeRecord)) → T (below_all key_cmp x es) → find key_cmp q es ≡ Some v → eq_by_cmp key_cmp q x ≡ false
+found_after x q v [] b h = absurd (cc)
+found_after x q v (e ∷ es) b h =
     elim (eq_by_cmp key_cmp q e.0) as (λ t. eq_by_cmp key_cmp q e.0 ≡ t → cond t (Some e.1) (find key_cmp q es) ≡ Some v → eq_by_cmp key_cmp q x ≡ false) [
       | true ↦ λ tied s. unlike key_cmp keys_total x q e.0 tied (both _ _ b).0
-      | false ↦ λ _ s. found_behind x q v es (both _ _ b).1 s
+      | false ↦ λ _ s. found_after x q v es (both _ _ b).1 s
     ] refl h
 
 own_pairs : (es : List (Key × ChangeRecord)) → T (is_sorted key_cmp es) → ((q : Key) (c : ChangeRecord) → find key_cmp q es ≡ Some c → c.key ≡ q) → by_key (map (λ (e : Key × ChangeRecord). e.1) es) ≡ es
 own_pairs [] s own = refl
 own_pairs (e ∷ es) s own =
     ap (λ (k : Key). (k, e.1) ∷ by_key (map (λ (e : Key × ChangeRecord). e.1) es)) (own e.0 e.1 (find_first e es))
-    ∙ ap (λ l. e ∷ l) (own_pairs es (both _ _ s).1 (λ q c h. own q c (ap (λ b. cond b (Some e.1) (find key_cmp q es)) (found_behind e.0 q c es (both _ _ s).0 h) ∙ h)))
+    ∙ ap (λ l. e ∷ l) (own_pairs es (both _ _ s).1 (λ q c h. own q c (ap (λ b. cond b (Some e.1) (find key_cmp q es)) (found_after e.0 q c es (both _ _ s).0 h) ∙ h)))
 
 module _ (h : Holding) (sound : IsSound h) where
   pub own_entries : by_key (held_changes h) ≡ entries h.changes

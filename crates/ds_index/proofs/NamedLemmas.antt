@@ -15,7 +15,7 @@ use Rattle.ds_entry.proofs.Members.{In, In-from_Contains, Contains-from_In}
 use Rattle.ds_names.specs.Endpoint.{EndpointRecord}
 use Rattle.ds_names.specs.Key.{name_cmp}
 use Rattle.ds_index.specs.declared.named.Named.{Named}
-use Rattle.ds_index.specs.Named.{slot_of, generation_of, holder_cmp, named_cmp, is_label_behind, is_behind_in_slot, begins_behind, holds_endpoint, inserted_label, IsBegin, IsLabelPlace, IsNearLabel}
+use Rattle.ds_index.specs.Named.{slot_of, generation_of, holder_cmp, named_cmp, is_label_after, is_after_in_slot, begins_after, holds_endpoint, inserted_label, IsBegin, IsLabelPlace, IsNearLabel}
 use Rattle.ds_index.specs.Index.{IsAdded, IsReplaced}
 use Rattle.std.proofs.lemmas.Bool.{eqb-true}
 use Rattle.ds_names.proofs.Tests.{opposed, less_is, turned}
@@ -53,27 +53,27 @@ apart_by true same x y e = refl
 apart_by false false x y e = refl
 apart_by false true x y e = absurd (cc)
 
-pub slots_tell : (p q : Named) → (slot_of q.endpoint == slot_of p.endpoint) ≡ false → nat_lt (slot_of q.endpoint) (slot_of p.endpoint) ≡ is_label_behind p q
+pub slots_tell : (p q : Named) → (slot_of q.endpoint == slot_of p.endpoint) ≡ false → nat_lt (slot_of q.endpoint) (slot_of p.endpoint) ≡ is_label_after p q
 slots_tell p q e = apart_by (nat_lt (slot_of q.endpoint) (slot_of p.endpoint)) (slot_of q.endpoint == slot_of p.endpoint) (nat_cmp (generation_of q.endpoint) (generation_of p.endpoint)) (name_cmp q.name p.name) e
 
 -- Where they agree, the generations and names decide.
-pub slots_agree : (p q : Named) → (slot_of q.endpoint == slot_of p.endpoint) ≡ true → is_behind_in_slot p q ≡ is_label_behind p q
+pub slots_agree : (p q : Named) → (slot_of q.endpoint == slot_of p.endpoint) ≡ true → is_after_in_slot p q ≡ is_label_after p q
 slots_agree p q e =
     let tied : nat_cmp (slot_of q.endpoint) (slot_of p.endpoint) ≡ Equal = ap (λ n. nat_cmp (slot_of q.endpoint) n) (sym (eqb-true (slot_of q.endpoint) (slot_of p.endpoint) e)) ∙ tied_itself nat_cmp_total (slot_of q.endpoint) in
     ap (λ o. is_lt (ordering_then (ordering_then o (nat_cmp (generation_of q.endpoint) (generation_of p.endpoint))) (name_cmp q.name p.name))) (sym tied)
 
 -- ---- where a label belongs
 
-behind_down : (p x y : Named) → named_cmp x y ≡ Less → is_label_behind p y ≡ true → is_label_behind p x ≡ true
-behind_down p x y l u = ap is_lt (names_total.trans x y p l (less_is (named_cmp y p) u))
+after_down : (p x y : Named) → named_cmp x y ≡ Less → is_label_after p y ≡ true → is_label_after p x ≡ true
+after_down p x y l u = ap is_lt (names_total.trans x y p l (less_is (named_cmp y p) u))
 
-pub behind_partitioned : (p : Named) (xs : List Named) → IsStrictlySortedBy named_cmp xs → IsPartitionedBy (is_label_behind p) xs
+pub after_partitioned : (p : Named) (xs : List Named) → IsStrictlySortedBy named_cmp xs → IsPartitionedBy (is_label_after p) xs
 unfolding IsStrictlySortedBy
-behind_partitioned p [] s i j d l w h = absurd (omega (arith, w))
-behind_partitioned p (x ∷ xs) s zero zero d l w h = h
-behind_partitioned p (x ∷ xs) s zero (suc j) d l w h = behind_down p x (get_or xs j d) (at (λ y. named_cmp x y ≡ Less) xs j d s.0 (omega (arith, w))) h
-behind_partitioned p (x ∷ xs) s (suc i) zero d l w h = absurd (omega (arith, l))
-behind_partitioned p (x ∷ xs) s (suc i) (suc j) d l w h = behind_partitioned p xs s.1 i j d (omega (arith, l)) (omega (arith, w)) h
+after_partitioned p [] s i j d l w h = absurd (omega (arith, w))
+after_partitioned p (x ∷ xs) s zero zero d l w h = h
+after_partitioned p (x ∷ xs) s zero (suc j) d l w h = after_down p x (get_or xs j d) (at (λ y. named_cmp x y ≡ Less) xs j d s.0 (omega (arith, w))) h
+after_partitioned p (x ∷ xs) s (suc i) zero d l w h = absurd (omega (arith, l))
+after_partitioned p (x ∷ xs) s (suc i) (suc j) d l w h = after_partitioned p xs s.1 i j d (omega (arith, l)) (omega (arith, w)) h
 
 place_within : (p x : Named) (xs : List Named) (i : ℕ) → IsLabelPlace p (x ∷ xs) (suc i) → IsLabelPlace p xs i
 place_within p x xs i h = (λ k d l w. h.0 (suc k) d (omega (arith, l)) (omega (arith, w)), λ k d l w. h.1 (suc k) d (omega (arith, l)) (omega (arith, w)))
@@ -84,9 +84,9 @@ unfolding IsStrictlySortedBy
 place_is b [] i s h p = absurd h
 place_is b (x ∷ xs) zero s (inl e) p = ap (λ y. Some y) (sym e)
 place_is b (x ∷ xs) zero s (inr h) p =
-    opposed (is_label_behind b x) (ap is_lt (from_along (λ y. named_cmp x y ≡ Less) xs b s.0 h)) (p.1 0 x (omega arith) (omega arith))
+    opposed (is_label_after b x) (ap is_lt (from_along (λ y. named_cmp x y ≡ Less) xs b s.0 h)) (p.1 0 x (omega arith) (omega arith))
 place_is b (x ∷ xs) (suc i) s (inl e) p =
-    let before : is_label_behind b x ≡ true = p.0 0 x (omega arith) (omega arith) in
+    let before : is_label_after b x ≡ true = p.0 0 x (omega arith) (omega arith) in
     absurd (not_itself b (subst (λ (y : Named). named_cmp y b ≡ Less) (sym e) (less_is (named_cmp x b) before)))
 place_is b (x ∷ xs) (suc i) s (inr h) p = place_is b xs i s.1 h (place_within b x xs i p)
 
@@ -139,28 +139,28 @@ module _ (test : Named → Bool) (xs : List Named) (parted : IsPartitionedBy tes
 
 -- ---- a label between those beside an index
 -- How the label compares with the one at the index.
-abbrev pub behind_nth : Named → List Named → ℕ → Bool
-behind_nth p xs i = passes_nth (is_label_behind p) xs i
+abbrev pub after_nth : Named → List Named → ℕ → Bool
+after_nth p xs i = passes_nth (is_label_after p) xs i
 
 module _ (p : Named) (xs : List Named) (s : IsStrictlySortedBy named_cmp xs) where
-  behind_all : (i : ℕ) → behind_nth p xs i ≡ true → (k : ℕ) (d : Named) → k ≤ i → is_label_behind p (get_or xs k d) ≡ true
-  behind_all = passes_all (is_label_behind p) xs (behind_partitioned p xs s)
+  after_all : (i : ℕ) → after_nth p xs i ≡ true → (k : ℕ) (d : Named) → k ≤ i → is_label_after p (get_or xs k d) ≡ true
+  after_all = passes_all (is_label_after p) xs (after_partitioned p xs s)
 
-  behind_none : (i : ℕ) → behind_nth p xs i ≡ false → (k : ℕ) (d : Named) → i ≤ k → k < length xs → is_label_behind p (get_or xs k d) ≡ false
-  behind_none = passes_none (is_label_behind p) xs (behind_partitioned p xs s)
+  after_none : (i : ℕ) → after_nth p xs i ≡ false → (k : ℕ) (d : Named) → i ≤ k → k < length xs → is_label_after p (get_or xs k d) ≡ false
+  after_none = passes_none (is_label_after p) xs (after_partitioned p xs s)
 
-  between : (i : ℕ) → ((k : ℕ) (d : Named) → k < i → is_label_behind p (get_or xs k d) ≡ true) → behind_nth p xs (i + 1) ≡ false → IsNearLabel p xs i
-  between i low high = by_test (behind_nth p xs i) refl
+  between : (i : ℕ) → ((k : ℕ) (d : Named) → k < i → is_label_after p (get_or xs k d) ≡ true) → after_nth p xs (i + 1) ≡ false → IsNearLabel p xs i
+  between i low high = by_test (after_nth p xs i) refl
     where
-      by_test : (t : Bool) → behind_nth p xs i ≡ t → IsNearLabel p xs i
-      by_test true e = (i + 1, (λ k d l w. behind_all i e k d (omega (arith, l)), λ k d l w. behind_none (i + 1) high k d (omega (arith, l)) (omega (arith, w))), omega arith, omega arith)
-      by_test false e = (i, (λ k d l w. low k d (omega (arith, l)), λ k d l w. behind_none i e k d (omega (arith, l)) (omega (arith, w))), omega arith, omega arith)
+      by_test : (t : Bool) → after_nth p xs i ≡ t → IsNearLabel p xs i
+      by_test true e = (i + 1, (λ k d l w. after_all i e k d (omega (arith, l)), λ k d l w. after_none (i + 1) high k d (omega (arith, l)) (omega (arith, w))), omega arith, omega arith)
+      by_test false e = (i, (λ k d l w. low k d (omega (arith, l)), λ k d l w. after_none i e k d (omega (arith, l)) (omega (arith, w))), omega arith, omega arith)
 
-  pub near_first : behind_nth p xs 1 ≡ false → IsNearLabel p xs 0
+  pub near_first : after_nth p xs 1 ≡ false → IsNearLabel p xs 0
   near_first high = between 0 (λ k d l. absurd (omega (arith, l))) high
 
-  pub near_next : (i j : ℕ) → j + 1 ≡ i → behind_nth p xs j ≡ true → behind_nth p xs (i + 1) ≡ false → IsNearLabel p xs i
-  near_next i j e low high = between i (λ k d l. behind_all j low k d (omega (arith, l, e))) high
+  pub near_next : (i j : ℕ) → j + 1 ≡ i → after_nth p xs j ≡ true → after_nth p xs (i + 1) ≡ false → IsNearLabel p xs i
+  near_next i j e low high = between i (λ k d l. after_all j low k d (omega (arith, l, e))) high
 
 -- ---- one more label goes to its place
 pub inserted_there : (p : Named) (xs : List Named) (i : ℕ) → i ≤ length xs → IsLabelPlace p xs i → insert xs i p ≡ inserted_label p xs
@@ -192,14 +192,14 @@ below_further x y (d ∷ ds) h a = (names_total.trans x y d h a.0, below_further
 below_inserted : (x c : Named) (xs : List Named) → named_cmp x c ≡ Less → IsBelow x xs → IsBelow x (inserted_label c xs)
 below_inserted x c [] h a = (h, tt)
 below_inserted x c (d ∷ ds) h a =
-    elim (is_label_behind c d) as (λ b. IsBelow x (cond b (d ∷ inserted_label c ds) (c ∷ d ∷ ds))) [ true ↦ (a.0, below_inserted x c ds h a.1) | false ↦ (h, a) ]
+    elim (is_label_after c d) as (λ b. IsBelow x (cond b (d ∷ inserted_label c ds) (c ∷ d ∷ ds))) [ true ↦ (a.0, below_inserted x c ds h a.1) | false ↦ (h, a) ]
 
 pub inserted_sorted : (c : Named) (xs : List Named) → IsStrictlySortedBy named_cmp xs → ((d : Named) → In d xs → named_cmp d c ≡ Equal → ⊥) → IsStrictlySortedBy named_cmp (inserted_label c xs)
 unfolding IsStrictlySortedBy
 inserted_sorted c [] s n = (tt, tt)
-inserted_sorted c (d ∷ ds) s n = by_test (is_label_behind c d) refl (inserted_sorted c ds s.1 (λ e h. n e (inr h)))
+inserted_sorted c (d ∷ ds) s n = by_test (is_label_after c d) refl (inserted_sorted c ds s.1 (λ e h. n e (inr h)))
   where
-    by_test : (b : Bool) → is_label_behind c d ≡ b → IsStrictlySortedBy named_cmp (inserted_label c ds) → IsStrictlySortedBy named_cmp (cond b (d ∷ inserted_label c ds) (c ∷ d ∷ ds))
+    by_test : (b : Bool) → is_label_after c d ≡ b → IsStrictlySortedBy named_cmp (inserted_label c ds) → IsStrictlySortedBy named_cmp (cond b (d ∷ inserted_label c ds) (c ∷ d ∷ ds))
     by_test true e rest = (below_inserted d c ds (less_is (named_cmp d c) e) s.0, rest)
     by_test false e rest =
         let l : named_cmp c d ≡ Less = names_total.antisymm c d ∙ turned (named_cmp d c) e (n d (inl refl)) in
@@ -221,17 +221,17 @@ removed_sorted (d ∷ ds) (suc i) s = (below_removed d ds i s.0, removed_sorted 
 -- ---- what is listed then
 In-inserted : (p : Named) (xs : List Named) → In p (inserted_label p xs)
 In-inserted p [] = inl refl
-In-inserted p (x ∷ xs) = elim (is_label_behind p x) as (λ b. In p (cond b (x ∷ inserted_label p xs) (p ∷ x ∷ xs))) [ true ↦ inr (In-inserted p xs) | false ↦ inl refl ]
+In-inserted p (x ∷ xs) = elim (is_label_after p x) as (λ b. In p (cond b (x ∷ inserted_label p xs) (p ∷ x ∷ xs))) [ true ↦ inr (In-inserted p xs) | false ↦ inl refl ]
 
 In-still : (p q : Named) (xs : List Named) → In q xs → In q (inserted_label p xs)
 In-still p q [] h = absurd h
-In-still p q (x ∷ xs) (inl e) = elim (is_label_behind p x) as (λ b. In q (cond b (x ∷ inserted_label p xs) (p ∷ x ∷ xs))) [ true ↦ inl e | false ↦ inr (inl e) ]
-In-still p q (x ∷ xs) (inr h) = elim (is_label_behind p x) as (λ b. In q (cond b (x ∷ inserted_label p xs) (p ∷ x ∷ xs))) [ true ↦ inr (In-still p q xs h) | false ↦ inr (inr h) ]
+In-still p q (x ∷ xs) (inl e) = elim (is_label_after p x) as (λ b. In q (cond b (x ∷ inserted_label p xs) (p ∷ x ∷ xs))) [ true ↦ inl e | false ↦ inr (inl e) ]
+In-still p q (x ∷ xs) (inr h) = elim (is_label_after p x) as (λ b. In q (cond b (x ∷ inserted_label p xs) (p ∷ x ∷ xs))) [ true ↦ inr (In-still p q xs h) | false ↦ inr (inr h) ]
 
 In-from_inserted : (p q : Named) (xs : List Named) → In q (inserted_label p xs) → (q ≡ p) ⊎ In q xs
 In-from_inserted p q [] (inl e) = inl e
 In-from_inserted p q [] (inr h) = absurd h
-In-from_inserted p q (x ∷ xs) h = by_test (is_label_behind p x) h (In-from_inserted p q xs)
+In-from_inserted p q (x ∷ xs) h = by_test (is_label_after p x) h (In-from_inserted p q xs)
   where
     by_test : (b : Bool) → In q (cond b (x ∷ inserted_label p xs) (p ∷ x ∷ xs)) → (In q (inserted_label p xs) → (q ≡ p) ⊎ In q xs) → (q ≡ p) ⊎ In q (x ∷ xs)
     by_test true (inl e) rest = inr (inl e)
@@ -300,10 +300,10 @@ module _ (xs : List Named) (i : ℕ) (b a : Named) (s : IsStrictlySortedBy named
 
 -- ---- the first of an endpoint
 -- Where an endpoint's labels begin after a label, they begin after all before that one.
-begins_down : (e : EndpointRecord) (x y : Named) → named_cmp x y ≡ Less → begins_behind e y ≡ true → begins_behind e x ≡ true
+begins_down : (e : EndpointRecord) (x y : Named) → named_cmp x y ≡ Less → begins_after e y ≡ true → begins_after e x ≡ true
 begins_down e x y l u = by_order (holder_cmp x.endpoint y.endpoint) refl l
   where
-    by_order : (o : Ordering) → holder_cmp x.endpoint y.endpoint ≡ o → ordering_then o (name_cmp x.name y.name) ≡ Less → begins_behind e x ≡ true
+    by_order : (o : Ordering) → holder_cmp x.endpoint y.endpoint ≡ o → ordering_then o (name_cmp x.name y.name) ≡ Less → begins_after e x ≡ true
     by_order Less q l = ap is_lt (holders_total.trans x.endpoint y.endpoint (Some e) q (less_is (holder_cmp y.endpoint (Some e)) u))
     by_order Equal q l = ap is_lt (holders_total.congr x.endpoint y.endpoint (Some e) q) ∙ u
     by_order Greater q l = absurd (cc)
@@ -330,7 +330,7 @@ of_up e x y l g = by_order (holds_endpoint e y) refl
         let above : holder_cmp y.endpoint x.endpoint ≡ Less = sym (holders_total.congr (Some e) y.endpoint x.endpoint back) ∙ other in
         absurd (not_greater (holder_cmp x.endpoint y.endpoint) (holders_total.antisymm x.endpoint y.endpoint ∙ ap ordering_reverse above) l)
 
-pub begins_partitioned : (e : EndpointRecord) (xs : List Named) → IsStrictlySortedBy named_cmp xs → IsPartitionedBy (begins_behind e) xs
+pub begins_partitioned : (e : EndpointRecord) (xs : List Named) → IsStrictlySortedBy named_cmp xs → IsPartitionedBy (begins_after e) xs
 unfolding IsStrictlySortedBy
 begins_partitioned e [] s i j d l w h = absurd (omega (arith, w))
 begins_partitioned e (x ∷ xs) s zero zero d l w h = h
@@ -339,11 +339,11 @@ begins_partitioned e (x ∷ xs) s (suc i) zero d l w h = absurd (omega (arith, l
 begins_partitioned e (x ∷ xs) s (suc i) (suc j) d l w h = begins_partitioned e xs s.1 i j d (omega (arith, l)) (omega (arith, w)) h
 
 -- the element at the partition point is the first that fails the test
-pub first_behind : (p : Named → Bool) (xs : List Named) (i : ℕ) → IsPartitionPoint (λ y. p y ≡ true) (λ y. p y ≡ false) xs i → slice_get xs i ≡ find (λ y. not (p y)) xs
-first_behind p [] i h = refl
-first_behind p (x ∷ xs) zero h = sym (ap (λ b. cond (not b) (Some x) (find (λ y. not (p y)) xs)) (h.1 0 x (omega arith) (omega arith)))
-first_behind p (x ∷ xs) (suc i) h =
-    first_behind p xs i (λ k d l w. h.0 (suc k) d (omega (arith, l)) (omega (arith, w)), λ k d l w. h.1 (suc k) d (omega (arith, l)) (omega (arith, w)))
+pub first_after : (p : Named → Bool) (xs : List Named) (i : ℕ) → IsPartitionPoint (λ y. p y ≡ true) (λ y. p y ≡ false) xs i → slice_get xs i ≡ find (λ y. not (p y)) xs
+first_after p [] i h = refl
+first_after p (x ∷ xs) zero h = sym (ap (λ b. cond (not b) (Some x) (find (λ y. not (p y)) xs)) (h.1 0 x (omega arith) (omega arith)))
+first_after p (x ∷ xs) (suc i) h =
+    first_after p xs i (λ k d l w. h.0 (suc k) d (omega (arith, l)) (omega (arith, w)), λ k d l w. h.1 (suc k) d (omega (arith, l)) (omega (arith, w)))
     ∙ sym (ap (λ b. cond (not b) (Some x) (find (λ y. not (p y)) xs)) (h.0 0 x (omega arith) (omega arith)))
 
 none_of : (e : EndpointRecord) (x : Named) (xs : List Named) → IsBelow x xs → holder_cmp x.endpoint (Some e) ≡ Greater → find (holds_endpoint e) xs ≡ None
@@ -355,18 +355,18 @@ if_of e None = None
 if_of e (Some p) = cond (holds_endpoint e p) (Some p) None
 
 -- The first label after which the endpoint's labels don't begin is the first of them, or there is none.
-pub first_found : (e : EndpointRecord) (xs : List Named) → IsStrictlySortedBy named_cmp xs → if_of e (find (λ (p : Named). not (begins_behind e p)) xs) ≡ find (holds_endpoint e) xs
+pub first_found : (e : EndpointRecord) (xs : List Named) → IsStrictlySortedBy named_cmp xs → if_of e (find (λ (p : Named). not (begins_after e p)) xs) ≡ find (holds_endpoint e) xs
 unfolding IsStrictlySortedBy
 first_found e [] s = refl
 first_found e (x ∷ xs) s = by_order (holder_cmp x.endpoint (Some e)) refl (first_found e xs s.1)
   where
-    by_order : (o : Ordering) → holder_cmp x.endpoint (Some e) ≡ o → if_of e (find (λ (p : Named). not (begins_behind e p)) xs) ≡ find (holds_endpoint e) xs →
-        if_of e (find (λ (p : Named). not (begins_behind e p)) (x ∷ xs)) ≡ find (holds_endpoint e) (x ∷ xs)
-    by_order Less q rest = ap (λ o. if_of e (cond (not (is_lt o)) (Some x) (find (λ (p : Named). not (begins_behind e p)) xs))) q ∙ rest ∙ sym (ap (λ o. cond (is_eq o) (Some x) (find (holds_endpoint e) xs)) q)
-    by_order Equal q rest = ap (λ o. if_of e (cond (not (is_lt o)) (Some x) (find (λ (p : Named). not (begins_behind e p)) xs))) q ∙ ap (λ o. cond (is_eq o) (Some x) None) q ∙
+    by_order : (o : Ordering) → holder_cmp x.endpoint (Some e) ≡ o → if_of e (find (λ (p : Named). not (begins_after e p)) xs) ≡ find (holds_endpoint e) xs →
+        if_of e (find (λ (p : Named). not (begins_after e p)) (x ∷ xs)) ≡ find (holds_endpoint e) (x ∷ xs)
+    by_order Less q rest = ap (λ o. if_of e (cond (not (is_lt o)) (Some x) (find (λ (p : Named). not (begins_after e p)) xs))) q ∙ rest ∙ sym (ap (λ o. cond (is_eq o) (Some x) (find (holds_endpoint e) xs)) q)
+    by_order Equal q rest = ap (λ o. if_of e (cond (not (is_lt o)) (Some x) (find (λ (p : Named). not (begins_after e p)) xs))) q ∙ ap (λ o. cond (is_eq o) (Some x) None) q ∙
         sym (ap (λ o. cond (is_eq o) (Some x) (find (holds_endpoint e) xs)) q)
     by_order Greater q rest =
-        ap (λ o. if_of e (cond (not (is_lt o)) (Some x) (find (λ (p : Named). not (begins_behind e p)) xs))) q ∙ ap (λ o. cond (is_eq o) (Some x) None) q
+        ap (λ o. if_of e (cond (not (is_lt o)) (Some x) (find (λ (p : Named). not (begins_after e p)) xs))) q ∙ ap (λ o. cond (is_eq o) (Some x) None) q
         ∙ sym (ap (λ o. cond (is_eq o) (Some x) (find (holds_endpoint e) xs)) q ∙ none_of e x xs s.0 q)
 
 -- A label that has the endpoint isn't before its labels; a label before such a one that doesn't have it is.
@@ -375,22 +375,22 @@ of_is_not_before Less q = absurd (cc)
 of_is_not_before Equal q = refl
 of_is_not_before Greater q = absurd (cc)
 
-before_of : (e : EndpointRecord) (x y : Named) → named_cmp x y ≡ Less → holds_endpoint e y ≡ true → holds_endpoint e x ≡ false → begins_behind e x ≡ true
+before_of : (e : EndpointRecord) (x y : Named) → named_cmp x y ≡ Less → holds_endpoint e y ≡ true → holds_endpoint e x ≡ false → begins_after e x ≡ true
 before_of e x y l of other = by_order (holder_cmp x.endpoint (Some e)) refl
   where
-    by_order : (o : Ordering) → holder_cmp x.endpoint (Some e) ≡ o → begins_behind e x ≡ true
+    by_order : (o : Ordering) → holder_cmp x.endpoint (Some e) ≡ o → begins_after e x ≡ true
     by_order Less q = ap is_lt q
     by_order Equal q = opposed (holds_endpoint e x) (ap is_eq q) other
     by_order Greater q = opposed (holds_endpoint e y) of (of_up e x y l q)
 
 -- The label where an endpoint's labels begin is the first of them, if it is one of them.
 pub first_by_begin : (e : EndpointRecord) (xs : List Named) (i : ℕ) (o : Option Named) → IsStrictlySortedBy named_cmp xs → IsBegin e xs i → o ≡ slice_get xs i → if_of e o ≡ find (holds_endpoint e) xs
-first_by_begin e xs i o s begin is = ap (if_of e) (is ∙ first_behind (begins_behind e) xs i begin) ∙ first_found e xs s
+first_by_begin e xs i o s begin is = ap (if_of e) (is ∙ first_after (begins_after e) xs i begin) ∙ first_found e xs s
 
 -- A label that has the endpoint, with none before it, or one that doesn't have it.
 module _ (e : EndpointRecord) (xs : List Named) (s : IsStrictlySortedBy named_cmp xs) (p : Named) (of : holds_endpoint e p ≡ true) where
-  not_before : (i : ℕ) → slice_get xs i ≡ Some p → passes_nth (begins_behind e) xs i ≡ false
-  not_before i here = ap (λ o. option_map_or (begins_behind e) o false) here ∙ of_is_not_before (holder_cmp p.endpoint (Some e)) of
+  not_before : (i : ℕ) → slice_get xs i ≡ Some p → passes_nth (begins_after e) xs i ≡ false
+  not_before i here = ap (λ o. option_map_or (begins_after e) o false) here ∙ of_is_not_before (holder_cmp p.endpoint (Some e)) of
 
   is_first : (i : ℕ) → slice_get xs i ≡ Some p → IsBegin e xs i → find (holds_endpoint e) xs ≡ Some p
   is_first i here begin = sym (first_by_begin e xs i (Some p) s begin (sym here)) ∙ ap (λ b. cond b (Some p) None) of
@@ -398,16 +398,16 @@ module _ (e : EndpointRecord) (xs : List Named) (s : IsStrictlySortedBy named_cm
   pub first_at_front : (i : ℕ) → i ≡ 0 → slice_get xs i ≡ Some p → find (holds_endpoint e) xs ≡ Some p
   first_at_front i none here =
       let front : slice_get xs 0 ≡ Some p = ap (slice_get xs) (sym none) ∙ here in
-      is_first 0 front (point_first (begins_behind e) xs (begins_partitioned e xs s) (not_before 0 front))
+      is_first 0 front (point_first (begins_after e) xs (begins_partitioned e xs s) (not_before 0 front))
 
-  pub first_behind_other : (i j : ℕ) → j + 1 ≡ i → slice_get xs i ≡ Some p → passes_nth (holds_endpoint e) xs j ≡ false → find (holds_endpoint e) xs ≡ Some p
-  first_behind_other i j next here other =
+  pub first_after_other : (i j : ℕ) → j + 1 ≡ i → slice_get xs i ≡ Some p → passes_nth (holds_endpoint e) xs j ≡ false → find (holds_endpoint e) xs ≡ Some p
+  first_after_other i j next here other =
       let within : i < length xs = slice_get_within xs i p here in
       let there : slice_get xs j ≡ Some (get_or xs j p) = slice_get-get_or xs j p (omega (arith, within, next)) in
       let not_of : holds_endpoint e (get_or xs j p) ≡ false = sym (ap (λ o. option_map_or (holds_endpoint e) o false) there) ∙ other in
       let less : named_cmp (get_or xs j p) p ≡ Less = subst (λ (y : Named). named_cmp (get_or xs j p) y ≡ Less) (get_or_from_slice_get xs i p p here) (Less-from_sorted named_cmp xs j i p s (omega (arith, next)) within) in
-      let low : passes_nth (begins_behind e) xs j ≡ true = ap (λ o. option_map_or (begins_behind e) o false) there ∙ before_of e (get_or xs j p) p less of not_of in
-      is_first i here (point_next (begins_behind e) xs (begins_partitioned e xs s) i j next low (not_before i here))
+      let low : passes_nth (begins_after e) xs j ≡ true = ap (λ o. option_map_or (begins_after e) o false) there ∙ before_of e (get_or xs j p) p less of not_of in
+      is_first i here (point_next (begins_after e) xs (begins_partitioned e xs s) i j next low (not_before i here))
 
 pub sorted_nil : IsStrictlySortedBy named_cmp []
 unfolding IsStrictlySortedBy

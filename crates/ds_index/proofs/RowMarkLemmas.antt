@@ -12,7 +12,7 @@ use Rattle.std.specs.FinMap as finite
 use Rattle.std.specs.FinMap.Entries.{by_order, find-put}
 use lib.Dec.{T}
 use Rattle.ds_held.specs.Kept.{IsPlaceOf, put_at}
-use Rattle.ds_held.proofs.PlaceLemmas.{later, rest_place, rest_gap, before_gap, behind_gap, at_place, tied_place}
+use Rattle.ds_held.proofs.PlaceLemmas.{later, rest_place, rest_gap, before_gap, after_gap, at_place, tied_place}
 use Rattle.ds_index.specs.Beside.{marked_rows}
 use Rattle.ds_names.proofs.Tests.{both}
 
@@ -88,7 +88,7 @@ module _ {K V X : Type 0} (R : K → K → Ordering) (total : IsTotalOrder R) (e
         ap (λ l. ((row x).0, n) ∷ l) (marked_put xs ns c m (Ok i) (both _ _ s).1 (omega (arith, e)) (rest_place R total exact row x xs (row c).0 i p))
         ∙ sym (ap (λ r. by_order r (((row c).0, m) ∷ ((row x).0, n) ∷ marked xs ns) (((row x).0, m) ∷ marked xs ns) (((row x).0, n) ∷ put R (row c).0 m (marked xs ns))) (later R total exact row x xs (row c).0 i s p))
     marked_put (x ∷ xs) (n ∷ ns) c m (Err zero) s e p =
-        sym (ap (λ r. by_order r (((row c).0, m) ∷ ((row x).0, n) ∷ marked xs ns) (((row x).0, m) ∷ marked xs ns) (((row x).0, n) ∷ put R (row c).0 m (marked xs ns))) (behind_gap R total exact row x xs (row c).0 p))
+        sym (ap (λ r. by_order r (((row c).0, m) ∷ ((row x).0, n) ∷ marked xs ns) (((row x).0, m) ∷ marked xs ns) (((row x).0, n) ∷ put R (row c).0 m (marked xs ns))) (after_gap R total exact row x xs (row c).0 p))
     marked_put (x ∷ xs) (n ∷ ns) c m (Err (suc i)) s e p =
         ap (λ l. ((row x).0, n) ∷ l) (marked_put xs ns c m (Err i) (both _ _ s).1 (omega (arith, e)) (rest_gap R total exact row x xs (row c).0 i p))
         ∙ sym (ap (λ r. by_order r (((row c).0, m) ∷ ((row x).0, n) ∷ marked xs ns) (((row x).0, m) ∷ marked xs ns) (((row x).0, n) ∷ put R (row c).0 m (marked xs ns))) (before_gap R total exact row x xs (row c).0 i p))

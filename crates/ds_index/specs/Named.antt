@@ -30,16 +30,16 @@ abbrev pub named_at : Option EndpointRecord → List ℕ → Named
 named_at endpoint name = record { endpoint = endpoint; name = name }
 
 -- Whether the first label comes after the second.
-abbrev pub is_label_behind : Named → Named → Bool
-is_label_behind p q = is_lt (named_cmp q p)
+abbrev pub is_label_after : Named → Named → Bool
+is_label_after p q = is_lt (named_cmp q p)
 
 -- Whether the first label comes after the second of the same slot: by generation, then by name.
-abbrev pub is_behind_in_slot : Named → Named → Bool
-is_behind_in_slot p q = is_lt (ordering_then (nat_cmp (generation_of q.endpoint) (generation_of p.endpoint)) (name_cmp q.name p.name))
+abbrev pub is_after_in_slot : Named → Named → Bool
+is_after_in_slot p q = is_lt (ordering_then (nat_cmp (generation_of q.endpoint) (generation_of p.endpoint)) (name_cmp q.name p.name))
 
 -- Whether the labels of the endpoint begin after this one.
-abbrev pub begins_behind : EndpointRecord → Named → Bool
-begins_behind e p = is_lt (holder_cmp p.endpoint (Some e))
+abbrev pub begins_after : EndpointRecord → Named → Bool
+begins_after e p = is_lt (holder_cmp p.endpoint (Some e))
 
 -- Whether the label has the endpoint.
 abbrev pub holds_endpoint : EndpointRecord → Named → Bool
@@ -48,11 +48,11 @@ holds_endpoint e p = is_eq (holder_cmp p.endpoint (Some e))
 -- The index where the endpoint's labels begin in the list: they come after each label before it, and after none from
 -- there on.
 abbrev pub IsBegin : EndpointRecord → List Named → ℕ → Type 0
-IsBegin e names place = IsPartitionPoint (λ q. begins_behind e q ≡ true) (λ q. begins_behind e q ≡ false) names place
+IsBegin e names place = IsPartitionPoint (λ q. begins_after e q ≡ true) (λ q. begins_after e q ≡ false) names place
 
 -- The label's index in the list: it comes after each label before the index, and after none from there on.
 abbrev pub IsLabelPlace : Named → List Named → ℕ → Type 0
-IsLabelPlace p names place = IsPartitionPoint (λ q. is_label_behind p q ≡ true) (λ q. is_label_behind p q ≡ false) names place
+IsLabelPlace p names place = IsPartitionPoint (λ q. is_label_after p q ≡ true) (λ q. is_label_after p q ≡ false) names place
 
 -- Whether the label may replace the one at the index: its place is there or one further.
 abbrev pub IsNearLabel : Named → List Named → ℕ → Type 0
@@ -61,4 +61,4 @@ IsNearLabel p names index = (place : ℕ) × IsLabelPlace p names place × (inde
 -- The labels with one more, inserted after all that come before it.
 abbrev pub inserted_label : Named → List Named → List Named
 inserted_label p [] = p ∷ []
-inserted_label p (q ∷ qs) = cond (is_label_behind p q) (q ∷ inserted_label p qs) (p ∷ q ∷ qs)
+inserted_label p (q ∷ qs) = cond (is_label_after p q) (q ∷ inserted_label p qs) (p ∷ q ∷ qs)

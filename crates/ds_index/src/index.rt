@@ -6,12 +6,12 @@ ghost use Rattle.std.specs.Option.{option_copied, option_map, option_map_or};
 ghost use Rattle.std.specs.List.{find};
 ghost use Rattle.std.specs.List.Sorted.{IsStrictlySortedBy};
 ghost use Rattle.ds_index.specs.declared.named.Named.{Named};
-ghost use Rattle.ds_index.specs.Named.{named_cmp, holds_endpoint, is_label_behind, inserted_label};
+ghost use Rattle.ds_index.specs.Named.{named_cmp, holds_endpoint, is_label_after, inserted_label};
 ghost use Rattle.ds_index.specs.Named.{IsBegin, IsLabelPlace, IsNearLabel};
 ghost use Rattle.ds_index.specs.Index.{IsAdded, IsMovedLabel, IsReplaced};
 
 use crate::begins::Begins;
-use crate::named::{Named, begins_behind, is_behind, is_of};
+use crate::named::{Named, begins_after, is_after, is_of};
 use ds_names::{Endpoint, Name, NoRoom};
 use std::alloc::Global;
 use std::marker::Model;
@@ -73,7 +73,7 @@ fn begin_of(names: &[Named], endpoint: Endpoint) -> usize
     requires { IsStrictlySortedBy named_cmp names.now }
     ensures { IsBegin endpoint names.now result }
 {
-    names.partition_point(|named| begins_behind(endpoint, named))
+    names.partition_point(|named| begins_after(endpoint, named))
 }
 
 // Searches for the endpoint's first label.
@@ -106,11 +106,11 @@ fn first_of<'a>(names: &'a [Named], guess: usize, endpoint: Endpoint) -> Option<
 }
 
 // Whether the label comes after the one at the index.
-fn is_behind_nth(names: &[Named], index: usize, named: &Named) -> bool
-    ensures { result ≡ option_map_or (is_label_behind named.now) (slice_get names.now index) false }
+fn is_after_nth(names: &[Named], index: usize, named: &Named) -> bool
+    ensures { result ≡ option_map_or (is_label_after named.now) (slice_get names.now index) false }
 {
     match nth(names, index) {
-        Some(other) => is_behind(named, other),
+        Some(other) => is_after(named, other),
         None => false,
     }
 }
@@ -121,10 +121,10 @@ fn is_place(names: &[Named], place: usize, named: &Named) -> bool
     requires { IsStrictlySortedBy named_cmp names.now }
     ensures { result ≡ true → (place ≤ length names.now) × IsLabelPlace named.now names.now place }
 {
-    if place > 0 && !is_behind_nth(names, place - 1, named) {
+    if place > 0 && !is_after_nth(names, place - 1, named) {
         return false;
     }
-    !is_behind_nth(names, place, named)
+    !is_after_nth(names, place, named)
 }
 
 // Returns how many labels come before this one.
@@ -136,7 +136,7 @@ fn place_of(names: &[Named], guess: usize, named: &Named) -> usize
     if is_place(names, guess, named) {
         return guess;
     }
-    names.partition_point(|other| is_behind(named, other))
+    names.partition_point(|other| is_after(named, other))
 }
 
 // Inserts a label, for which there is capacity, and returns its index.
@@ -157,10 +157,10 @@ fn stays(names: &[Named], index: usize, named: &Named) -> bool
     requires within { index < length names.now }
     ensures { result ≡ true → IsNearLabel named.now names.now index }
 {
-    if index > 0 && !is_behind_nth(names, index - 1, named) {
+    if index > 0 && !is_after_nth(names, index - 1, named) {
         return false;
     }
-    !is_behind_nth(names, index + 1, named)
+    !is_after_nth(names, index + 1, named)
 }
 
 // Replaces one label with another, and puts it at its place. It allocates nothing, and returns the range of indices

@@ -2,8 +2,8 @@
 
 ghost use Rattle.std.specs.Prelude.{◌≡◌, ◌≢◌, true, false};
 ghost use Rattle.ds_names.specs.declared.kind.Kind.{Kind};
-ghost use Rattle.ds_index.specs.Named.{slot_of, generation_of, holder_cmp, is_label_behind};
-ghost use Rattle.ds_index.specs.Named.{is_behind_in_slot, begins_behind, holds_endpoint};
+ghost use Rattle.ds_index.specs.Named.{slot_of, generation_of, holder_cmp, is_label_after};
+ghost use Rattle.ds_index.specs.Named.{is_after_in_slot, begins_after, holds_endpoint};
 ghost use Rattle.ds_index.specs.Indexed.{endpoint_left};
 
 use ds_entry::{Body, Change, Value};
@@ -49,8 +49,8 @@ fn compare_endpoints(a: &Option<Endpoint>, b: &Option<Endpoint>) -> Ordering
 }
 
 // Whether the label comes after the other one of the same slot: by generation, then by name.
-fn is_behind_in_slot(named: &Named, other: &Named) -> bool
-    ensures { result ≡ is_behind_in_slot named.now other.now }
+fn is_after_in_slot(named: &Named, other: &Named) -> bool
+    ensures { result ≡ is_after_in_slot named.now other.now }
 {
     match generation_of(&other.endpoint).cmp(&generation_of(&named.endpoint)) {
         Ordering::Less => true,
@@ -61,20 +61,20 @@ fn is_behind_in_slot(named: &Named, other: &Named) -> bool
 
 /// Whether the label comes after the other one. Most labels have slots of their own, so comparing the slots suffices.
 #[tactic(auto, using(crate::proofs::NamedLemmas::slots_tell, crate::proofs::NamedLemmas::slots_agree))]
-pub(crate) fn is_behind(named: &Named, other: &Named) -> bool
-    ensures { result ≡ is_label_behind named.now other.now }
+pub(crate) fn is_after(named: &Named, other: &Named) -> bool
+    ensures { result ≡ is_label_after named.now other.now }
 {
     let slot = slot_of(&named.endpoint);
     let other_slot = slot_of(&other.endpoint);
     if other_slot != slot {
         return other_slot < slot;
     }
-    is_behind_in_slot(named, other)
+    is_after_in_slot(named, other)
 }
 
 /// Whether the labels of the endpoint begin after this one.
-pub(crate) fn begins_behind(endpoint: Endpoint, named: &Named) -> bool
-    ensures { result ≡ begins_behind endpoint named.now }
+pub(crate) fn begins_after(endpoint: Endpoint, named: &Named) -> bool
+    ensures { result ≡ begins_after endpoint named.now }
 {
     matches!(
         compare_endpoints(&named.endpoint, &Some(endpoint)),

@@ -91,15 +91,15 @@ after_partitioned low (x ∷ xs) s (suc i) zero d l w h = absurd (omega (arith, 
 after_partitioned low (x ∷ xs) s (suc i) (suc j) d l w h = after_partitioned low xs s.1 i j d (omega (arith, l)) (omega (arith, w)) h
 
 -- After those that fail a test comes the first that passes it.
-pub first_behind : (p : ChangeRecord → Bool) (xs : List ChangeRecord) (i : ℕ) → IsPartitionPoint (λ y. not (p y) ≡ true) (λ y. not (p y) ≡ false) xs i → slice_get xs i ≡ find p xs
-first_behind p [] i h = refl
-first_behind p (x ∷ xs) zero h = by_test (p x) refl
+pub first_after : (p : ChangeRecord → Bool) (xs : List ChangeRecord) (i : ℕ) → IsPartitionPoint (λ y. not (p y) ≡ true) (λ y. not (p y) ≡ false) xs i → slice_get xs i ≡ find p xs
+first_after p [] i h = refl
+first_after p (x ∷ xs) zero h = by_test (p x) refl
   where
     by_test : (b : Bool) → p x ≡ b → Some x ≡ find p (x ∷ xs)
     by_test true e = sym (ap (λ b. cond b (Some x) (find p xs)) e)
     by_test false e = opposed (not (p x)) (ap not e) (h.1 0 x (omega arith) (omega arith))
-first_behind p (x ∷ xs) (suc i) h =
-    first_behind p xs i (λ k d l w. h.0 (suc k) d (omega (arith, l)) (omega (arith, w)), λ k d l w. h.1 (suc k) d (omega (arith, l)) (omega (arith, w)))
+first_after p (x ∷ xs) (suc i) h =
+    first_after p xs i (λ k d l w. h.0 (suc k) d (omega (arith, l)) (omega (arith, w)), λ k d l w. h.1 (suc k) d (omega (arith, l)) (omega (arith, w)))
     ∙ sym (ap (λ b. cond b (Some x) (find p xs)) (not_true (p x) (h.0 0 x (omega arith) (omega arith))))
   where
     not_true : (b : Bool) → not b ≡ true → b ≡ false

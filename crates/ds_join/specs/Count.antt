@@ -24,5 +24,5 @@ pub record CanCountOne (n : Count) : Type 0 where
   pub done : n.done + 1 < 2 ^ 64
 
 -- The error of a join that stopped after the counted items with this fault.
-abbrev pub stop_behind : Count → JoinFault → Stop
-stop_behind n fault = record { done = n.done; fault = fault }
+abbrev pub stop_after : Count → JoinFault → Stop
+stop_after n fault = record { done = n.done; fault = fault }

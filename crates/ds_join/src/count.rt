@@ -1,6 +1,6 @@
 //! Counts of items by their outcome.
 ghost use Rattle.std.specs.Prelude.{◌≡◌};
-ghost use Rattle.ds_join.specs.Count.{counted, none_counted, stop_behind, CanCountOne};
+ghost use Rattle.ds_join.specs.Count.{counted, none_counted, stop_after, CanCountOne};
 
 use crate::merge::{JoinFault, Merge, Stop};
 
@@ -45,7 +45,7 @@ impl Count {
 
     /// Returns the error of a join that stopped at the next item with this fault.
     pub fn stop(&self, fault: JoinFault) -> Stop
-        ensures { result ≡ stop_behind self.now fault }
+        ensures { result ≡ stop_after self.now fault }
     {
         Stop {
             done: self.done,

@@ -174,10 +174,10 @@ endpoint_put key owner version e kind has is gen =
 
 -- ---- the end of a put's line
 
-abbrev pub behind_value : Key → List ℕ → Version → Value → List Part
-behind_value key owner version v = up_to_value key owner version ++ value_part v ∷ []
+abbrev pub after_value : Key → List ℕ → Version → Value → List Part
+after_value key owner version v = up_to_value key owner version ++ value_part v ∷ []
 
-end_comes : (key : Key) (owner : List ℕ) (version : Version) (v : Value) → IsChange (change_of key owner version (Put v)) → Comes (behind_value key owner version v) Byte
+end_comes : (key : Key) (owner : List ℕ) (version : Version) (v : Value) → IsChange (change_of key owner version (Put v)) → Comes (after_value key owner version v) Byte
 end_comes key owner version v is_put c more is eq =
     let k = put_known key owner version c (value_part v ∷ more) is_put.epoch is_put.seq is eq in
     subst (Begun Byte) (ap (drop 1) k.2) (refl, refl)
@@ -188,14 +188,14 @@ pub put_end_missing : (key : Key) (owner : List ℕ) (version : Version) (v : Va
     → ((rest : List ℕ) → r ≢ 10 ∷ rest) → ReadsChange (up_to_value key owner version) bytes (Err stop)
 put_end_missing key owner version v bytes r stop is_put begins at none =
     read_on (up_to_value key owner version) (value_part v) bytes r (Err stop) (value_text v is_put.body) (value_comes key owner version v is_put) begins
-    (missing (behind_value key owner version v) Byte r stop (change_of key owner version (Put v)) (newline ∷ []) is_put refl (end_comes key owner version v is_put) at
+    (missing (after_value key owner version v) Byte r stop (change_of key owner version (Put v)) (newline ∷ []) is_put refl (end_comes key owner version v is_put) at
     (λ c more after is eq h.
     let k = put_known key owner version c (value_part v ∷ more) is_put.epoch is_put.seq is eq in
     let first = subst (λ (x : List Part). Stand 1 x r after) (sym (ap (drop 1) k.2)) h in
     none first.0 first.1.parts))
 
 put_completes : (key : Key) (owner : List ℕ) (version : Version) (v : Value) (r rest : List ℕ) → IsChange (change_of key owner version (Put v)) → r ≡ 10 ∷ rest →
-    Completes (behind_value key owner version v) (change_of key owner version (Put v)) r rest
+    Completes (after_value key owner version v) (change_of key owner version (Put v)) r rest
 put_completes key owner version v r rest is_put end = record { change = is_put; further = newline ∷ []; split = refl; text = end }
 
 -- The value is read, and the line ends after it.

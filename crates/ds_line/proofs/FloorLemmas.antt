@@ -39,8 +39,8 @@ last_stands (suc k) [] bytes after h = absurd h
 last_stands (suc k) (p ∷ parts) bytes after h = let m = last_stands k parts h.0 after h.2 in (m.0, (h.0, h.1, m.1), m.2)
 
 -- After the first parts of a floor, no floor's next part is there.
-breaks_behind : (k : ℕ) (f : Floor) (bytes r : List ℕ) → k < 6 → IsFloor f → Stand k (floor_parts f) bytes r → ((g : Floor) (after : List ℕ) → IsFloor g → ¬ Stand 1 (drop k (floor_parts g)) r after) → Breaks a_floor bytes r
-breaks_behind k f bytes r lt is front none =
+breaks_after : (k : ℕ) (f : Floor) (bytes r : List ℕ) → k < 6 → IsFloor f → Stand k (floor_parts f) bytes r → ((g : Floor) (after : List ℕ) → IsFloor g → ¬ Stand 1 (drop k (floor_parts g)) r after) → Breaks a_floor bytes r
+breaks_after k f bytes r lt is front none =
     record { count = k; thing = f; can = is; front = front; most = most; none = λ g after is_g h. let n = fewer (suc k) 6 (floor_parts g) bytes after (omega (arith, lt)) h in most g n.0 is_g n.1 }
   where
     most : (g : Floor) (after : List ℕ) → IsFloor g → ¬ Stand (suc k) (floor_parts g) bytes after
@@ -58,7 +58,7 @@ with_owner n name = record { owner = name; generation = omega arith }
 
 pub mark_missing : (bytes : List ℕ) (stop : PartFault) → stop ≡ BadPart (length bytes) → ((rest : List ℕ) → bytes ≢ 33 ∷ rest) → ReadsFloor bytes (Err stop)
 mark_missing bytes stop at none =
-    reads_stop bytes bytes stop at (breaks_behind 0 (floor_of rs_name 0) bytes bytes (omega arith) (with_owner rs_name rs_is_name) refl (λ g after is h. none h.0 h.1.parts))
+    reads_stop bytes bytes stop at (breaks_after 0 (floor_of rs_name 0) bytes bytes (omega arith) (with_owner rs_name rs_is_name) refl (λ g after is h. none h.0 h.1.parts))
 
 -- The parts up to the owner.
 up_to_owner : (f : Floor) (bytes r s : List ℕ) → bytes ≡ 33 ∷ r → r ≡ 32 ∷ s → Stand 2 (floor_parts f) bytes s
@@ -66,11 +66,11 @@ up_to_owner f bytes r s mark gap = (r, byte_begins 33 bytes r mark, (s, byte_beg
 
 pub owner_space_missing : (bytes r : List ℕ) (stop : PartFault) → stop ≡ BadPart (length r) → bytes ≡ 33 ∷ r → ((rest : List ℕ) → r ≢ 32 ∷ rest) → ReadsFloor bytes (Err stop)
 owner_space_missing bytes r stop at mark none =
-    reads_stop bytes r stop at (breaks_behind 1 (floor_of rs_name 0) bytes r (omega arith) (with_owner rs_name rs_is_name) (r, byte_begins 33 bytes r mark, refl) (λ g after is h. none h.0 h.1.parts))
+    reads_stop bytes r stop at (breaks_after 1 (floor_of rs_name 0) bytes r (omega arith) (with_owner rs_name rs_is_name) (r, byte_begins 33 bytes r mark, refl) (λ g after is h. none h.0 h.1.parts))
 
 pub owner_missing : (bytes r s : List ℕ) (stop : PartFault) → stop ≡ BadPart (length s) → bytes ≡ 33 ∷ r → r ≡ 32 ∷ s → ((name rest : List ℕ) → IsName name → ¬ Begins is_name_byte s name rest) → ReadsFloor bytes (Err stop)
 owner_missing bytes r s stop at mark gap none =
-    reads_stop bytes s stop at (breaks_behind 2 (floor_of rs_name 0) bytes s (omega arith) (with_owner rs_name rs_is_name) (up_to_owner (floor_of rs_name 0) bytes r s mark gap) (λ g after is h. none g.owner h.0 is.owner h.1))
+    reads_stop bytes s stop at (breaks_after 2 (floor_of rs_name 0) bytes s (omega arith) (with_owner rs_name rs_is_name) (up_to_owner (floor_of rs_name 0) bytes r s mark gap) (λ g after is h. none g.owner h.0 is.owner h.1))
 
 -- The parts up to the generation.
 up_to_space : (f : Floor) (bytes r s t : List ℕ) → bytes ≡ 33 ∷ r → r ≡ 32 ∷ s → Begins is_name_byte s f.owner t → Stand 3 (floor_parts f) bytes t
@@ -81,12 +81,12 @@ up_to_generation f bytes r s t u mark gap name space_is = (r, byte_begins 33 byt
 
 pub generation_space_missing : (n bytes r s t : List ℕ) (stop : PartFault) → stop ≡ BadPart (length t) → bytes ≡ 33 ∷ r → r ≡ 32 ∷ s → IsName n → Begins is_name_byte s n t → ((rest : List ℕ) → t ≢ 32 ∷ rest) → ReadsFloor bytes (Err stop)
 generation_space_missing n bytes r s t stop at mark gap is name none =
-    reads_stop bytes t stop at (breaks_behind 3 (floor_of n 0) bytes t (omega arith) (with_owner n is) (up_to_space (floor_of n 0) bytes r s t mark gap name) (λ g after is_g h. none h.0 h.1.parts))
+    reads_stop bytes t stop at (breaks_after 3 (floor_of n 0) bytes t (omega arith) (with_owner n is) (up_to_space (floor_of n 0) bytes r s t mark gap name) (λ g after is_g h. none h.0 h.1.parts))
 
 pub generation_missing : (n bytes r s t u : List ℕ) (stop : PartFault) → stop ≡ BadPart (length u) → bytes ≡ 33 ∷ r → r ≡ 32 ∷ s → IsName n → Begins is_name_byte s n t → t ≡ 32 ∷ u
     → ((number : ℕ) (rest : List ℕ) → number ≤ 2097151 → ¬ Begins is_ascii_digit u (decimal number) rest) → ReadsFloor bytes (Err stop)
 generation_missing n bytes r s t u stop at mark gap is name space_is none =
-    reads_stop bytes u stop at (breaks_behind 4 (floor_of n 0) bytes u (omega arith) (with_owner n is) (up_to_generation (floor_of n 0) bytes r s t u mark gap name space_is) (λ g after is_g h. none g.generation h.0 is_g.generation h.1))
+    reads_stop bytes u stop at (breaks_after 4 (floor_of n 0) bytes u (omega arith) (with_owner n is) (up_to_generation (floor_of n 0) bytes r s t u mark gap name space_is) (λ g after is_g h. none g.generation h.0 is_g.generation h.1))
 
 -- The parts up to the newline.
 up_to_newline : (f : Floor) (bytes r s t u v : List ℕ) → bytes ≡ 33 ∷ r → r ≡ 32 ∷ s → Begins is_name_byte s f.owner t → t ≡ 32 ∷ u → Begins is_ascii_digit u (decimal f.generation) v → Stand 5 (floor_parts f) bytes v
@@ -97,7 +97,7 @@ pub newline_missing : (n : List ℕ) (g : ℕ) (bytes r s t u v : List ℕ) (sto
     → g ≤ 2097151 → Begins is_ascii_digit u (decimal g) v → ((rest : List ℕ) → v ≢ 10 ∷ rest) → ReadsFloor bytes (Err stop)
 newline_missing n g bytes r s t u v stop at mark gap is name space_is most number none =
     reads_stop bytes v stop at
-    (breaks_behind 5 (floor_of n g) bytes v (omega arith) (record { owner = is; generation = most }) (up_to_newline (floor_of n g) bytes r s t u v mark gap name space_is number) (λ h after is_h st. none st.0 st.1.parts))
+    (breaks_after 5 (floor_of n g) bytes v (omega arith) (record { owner = is; generation = most }) (up_to_newline (floor_of n g) bytes r s t u v mark gap name space_is number) (λ h after is_h st. none st.0 st.1.parts))
 
 pub floor_whole : (n : List ℕ) (g : ℕ) (bytes r s t u v w : List ℕ) → bytes ≡ 33 ∷ r → r ≡ 32 ∷ s → IsName n → Begins is_name_byte s n t → t ≡ 32 ∷ u
     → g ≤ 2097151 → Begins is_ascii_digit u (decimal g) v → v ≡ 10 ∷ w → ReadsFloor bytes (Ok (floor_of n g, length w))

@@ -55,15 +55,15 @@ pub paired_first : (bytes block : List ℕ) → length block ≡ 1024 → IsPair
 unfolding encode_with
 paired_first bytes block whole = record { parts = refl; each = λ i. omega arith; whole = whole }
 
-pub paired_more : (bytes block rest behind : List ℕ) (n b : ℕ) → IsPaired bytes block rest n → n < 1024 → rest ≡ encode_lower (b ∷ []) ++ behind → b < 256 → IsPaired bytes (set block n b) behind (n + 1)
-paired_more bytes block rest behind n b begun lt is fits =
+pub paired_more : (bytes block rest past : List ℕ) (n b : ℕ) → IsPaired bytes block rest n → n < 1024 → rest ≡ encode_lower (b ∷ []) ++ past → b < 256 → IsPaired bytes (set block n b) past (n + 1)
+paired_more bytes block rest past n b begun lt is fits =
     let more = block_more block n b (omega (arith, begun.whole)) in
     let one : encode_lower (take n block ++ b ∷ []) ≡ encode_lower (take n block) ++ encode_lower (b ∷ []) = encode_append (take n block) (b ∷ []) in
     record {
       parts = begun.parts ∙ ap (λ (t : List ℕ). encode_lower (take n block) ++ t) is
-          ∙ sym (append_assoc (encode_lower (take n block)) (encode_lower (b ∷ [])) behind)
-          ∙ ap (λ (t : List ℕ). t ++ behind) (sym one)
-          ∙ ap (λ (t : List ℕ). encode_lower t ++ behind) (sym more);
+          ∙ sym (append_assoc (encode_lower (take n block)) (encode_lower (b ∷ [])) past)
+          ∙ ap (λ (t : List ℕ). t ++ past) (sym one)
+          ∙ ap (λ (t : List ℕ). encode_lower t ++ past) (sym more);
       each = subst IsBytes (sym more) (bytes_last (take n block) b begun.each fits);
       whole = length-set block n b ∙ begun.whole;
     }

@@ -27,7 +27,7 @@ use Rattle.ds_line.specs.declared.fault.LineFault.TheVariants.{BadLine, NoRoom}
 use Rattle.ds_line.proofs.OpeningLemmas.{text_at}
 use Rattle.ds_line.proofs.LineLemmas.{AllStand, byte_stands, name_stands, part_stands, line_stands}
 use Rattle.ds_line.proofs.ApartLemmas.{same_parts, change_texts, changes_alike, apart}
-use Rattle.ds_line.proofs.NewlineLemmas.{ends_behind, ends_behind_byte, ends_behind_space, newline_ends, unbroken_name, unbroken_decimal, line_ends}
+use Rattle.ds_line.proofs.NewlineLemmas.{ends_then, ends_after_byte, ends_after_space, newline_ends, unbroken_name, unbroken_decimal, line_ends}
 use Rattle.ds_line.proofs.PlaceLemmas.{alike_agree, same_rest, LeavesOne, one_place_by}
 use Rattle.ds_line.proofs.FloorLemmas.{floor_texts, floors_alike, floors_rest}
 
@@ -170,8 +170,8 @@ item_ends (Changed c) is = line_ends c is
 item_ends (Floored f) is =
     let from_generation : List Part = part Number (decimal f.generation) ∷ newline ∷ [] in
     let from_owner : List Part = part Name f.owner ∷ space ∷ from_generation in
-    ends_behind_byte 33 (space ∷ from_owner) (λ same. omega (arith, same))
-    (ends_behind_space from_owner
-    (ends_behind (part Name f.owner) (space ∷ from_generation) (unbroken_name f.owner is.owner.allowed)
-    (ends_behind_space from_generation
-    (ends_behind (part Number (decimal f.generation)) (newline ∷ []) (unbroken_decimal f.generation (omega (arith, is.generation))) newline_ends))))
+    ends_after_byte 33 (space ∷ from_owner) (λ same. omega (arith, same))
+    (ends_after_space from_owner
+    (ends_then (part Name f.owner) (space ∷ from_generation) (unbroken_name f.owner is.owner.allowed)
+    (ends_after_space from_generation
+    (ends_then (part Number (decimal f.generation)) (newline ∷ []) (unbroken_decimal f.generation (omega (arith, is.generation))) newline_ends))))

@@ -29,9 +29,9 @@ pub value_missing : (kind : Kind) (bytes : List ℕ) → ((value : Value) (rest 
 value_missing kind bytes none = part_missing (last_value kind) value_part (λ _. newline ∷ []) (some_value kind) bytes (λ _. refl) (some_value_of kind) none
 
 -- After two values of the kind at one front, the rest is the same.
-behind_one : (kind : Kind) (v w : Value) (bytes r s : List ℕ) → IsValueOf kind v → IsValueOf kind w → Begins (run_of (value_part v).class) bytes (value_part v).text r →
+after_one : (kind : Kind) (v w : Value) (bytes r s : List ℕ) → IsValueOf kind v → IsValueOf kind w → Begins (run_of (value_part v).class) bytes (value_part v).text r →
     Begins (run_of (value_part w).class) bytes (value_part w).text s → s ≡ r
-behind_one kind v w bytes r s is_v is_w begins_v begins_w =
+after_one kind v w bytes r s is_v is_w begins_v begins_w =
     let class : (value_part w).class ≡ (value_part v).class = class_one w v (is_w.of ∙ sym is_v.of) in
     (part_one (value_part v).class bytes (value_part w).text (value_part v).text s r (subst (λ (c : Class). IsText c (value_part w).text) class (value_text w is_w.valid)) (value_text v is_v.valid)
     (subst (λ (c : Class). Begins (run_of c) bytes (value_part w).text s) class begins_w) begins_v).1
@@ -44,8 +44,8 @@ end_missing kind v bytes r is begins none =
       thing = v;
       can = is;
       front = (r, begins, refl);
-      most = λ w after can h. none h.2.0 (sym (behind_one kind v w bytes r h.0 is can begins h.1) ∙ h.2.1.parts);
-      none = λ w after can h. none h.2.0 (sym (behind_one kind v w bytes r h.0 is can begins h.1) ∙ h.2.1.parts);
+      most = λ w after can h. none h.2.0 (sym (after_one kind v w bytes r h.0 is can begins h.1) ∙ h.2.1.parts);
+      none = λ w after can h. none h.2.0 (sym (after_one kind v w bytes r h.0 is can begins h.1) ∙ h.2.1.parts);
     }
 
 -- both are read

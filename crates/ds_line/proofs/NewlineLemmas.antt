@@ -74,29 +74,29 @@ unbroken_value (values.Mem b) is = unbroken_run is_hex_byte refl (encode_lower b
 
 -- ---- part by part
 
-pub ends_behind : (p : Part) (parts : List Part) → Unbroken p.text → EndsLine (texts parts) → EndsLine (texts (p ∷ parts))
-ends_behind p parts unbroken e =
+pub ends_then : (p : Part) (parts : List Part) → Unbroken p.text → EndsLine (texts parts) → EndsLine (texts (p ∷ parts))
+ends_then p parts unbroken e =
     record {
       front = p.text ++ e.front;
       parts = ap (λ (x : List ℕ). p.text ++ x) e.parts ∙ sym (append_assoc p.text e.front (10 ∷ []));
       none = All-append (λ (b : ℕ). b ≢ 10) p.text e.front unbroken e.none;
     }
 
-pub ends_behind_byte : (b : ℕ) (parts : List Part) → b ≢ 10 → EndsLine (texts parts) → EndsLine (texts (byte b ∷ parts))
-ends_behind_byte b parts other e = ends_behind (byte b) parts (All-cons (λ (x : ℕ). x ≢ 10) b [] other (All-nil (λ (x : ℕ). x ≢ 10))) e
+pub ends_after_byte : (b : ℕ) (parts : List Part) → b ≢ 10 → EndsLine (texts parts) → EndsLine (texts (byte b ∷ parts))
+ends_after_byte b parts other e = ends_then (byte b) parts (All-cons (λ (x : ℕ). x ≢ 10) b [] other (All-nil (λ (x : ℕ). x ≢ 10))) e
 
-pub ends_behind_space : (parts : List Part) → EndsLine (texts parts) → EndsLine (texts (space ∷ parts))
-ends_behind_space parts e = ends_behind_byte 32 parts (λ same. omega (arith, same)) e
+pub ends_after_space : (parts : List Part) → EndsLine (texts parts) → EndsLine (texts (space ∷ parts))
+ends_after_space parts e = ends_after_byte 32 parts (λ same. omega (arith, same)) e
 
 pub newline_ends : EndsLine (texts (newline ∷ []))
 newline_ends = record { front = []; parts = refl; none = All-nil (λ (x : ℕ). x ≢ 10) }
 
 body_ends : (b : Body) → IsBody b → EndsLine (texts (body_parts b))
 body_ends (Put v) is =
-    ends_behind_byte 61 (space ∷ value_part v ∷ newline ∷ []) (λ same. omega (arith, same))
-    (ends_behind_space (value_part v ∷ newline ∷ [])
-    (ends_behind (value_part v) (newline ∷ []) (unbroken_value v is) newline_ends))
-body_ends Gone is = ends_behind_byte 45 (newline ∷ []) (λ same. omega (arith, same)) newline_ends
+    ends_after_byte 61 (space ∷ value_part v ∷ newline ∷ []) (λ same. omega (arith, same))
+    (ends_after_space (value_part v ∷ newline ∷ [])
+    (ends_then (value_part v) (newline ∷ []) (unbroken_value v is) newline_ends))
+body_ends Gone is = ends_after_byte 45 (newline ∷ []) (λ same. omega (arith, same)) newline_ends
 
 pub line_ends : (c : ChangeRecord) → IsChange c → EndsLine (spelling c)
 line_ends c is =
@@ -104,13 +104,13 @@ line_ends c is =
     let from_epoch : List Part = part Number (decimal c.version.epoch) ∷ byte 46 ∷ from_seq in
     let from_owner : List Part = part Name c.owner ∷ space ∷ from_epoch in
     let from_kind : List Part = part Word (kind_word c.key.kind) ∷ space ∷ from_owner in
-    ends_behind (part Name c.key.name) (space ∷ from_kind) (unbroken_name c.key.name is.name.allowed)
-    (ends_behind_space from_kind
-    (ends_behind (part Word (kind_word c.key.kind)) (space ∷ from_owner) (unbroken_run is_ascii_alphanumeric refl (kind_word c.key.kind) (word_is_word c.key.kind))
-    (ends_behind_space from_owner
-    (ends_behind (part Name c.owner) (space ∷ from_epoch) (unbroken_name c.owner is.owner.allowed)
-    (ends_behind_space from_epoch
-    (ends_behind (part Number (decimal c.version.epoch)) (byte 46 ∷ from_seq) (unbroken_decimal c.version.epoch (omega (arith, is.epoch)))
-    (ends_behind_byte 46 from_seq (λ same. omega (arith, same))
-    (ends_behind (part Number (decimal c.version.seq)) (space ∷ body_parts c.body) (unbroken_decimal c.version.seq (omega (arith, is.seq)))
-    (ends_behind_space (body_parts c.body) (body_ends c.body is.body))))))))))
+    ends_then (part Name c.key.name) (space ∷ from_kind) (unbroken_name c.key.name is.name.allowed)
+    (ends_after_space from_kind
+    (ends_then (part Word (kind_word c.key.kind)) (space ∷ from_owner) (unbroken_run is_ascii_alphanumeric refl (kind_word c.key.kind) (word_is_word c.key.kind))
+    (ends_after_space from_owner
+    (ends_then (part Name c.owner) (space ∷ from_epoch) (unbroken_name c.owner is.owner.allowed)
+    (ends_after_space from_epoch
+    (ends_then (part Number (decimal c.version.epoch)) (byte 46 ∷ from_seq) (unbroken_decimal c.version.epoch (omega (arith, is.epoch)))
+    (ends_after_byte 46 from_seq (λ same. omega (arith, same))
+    (ends_then (part Number (decimal c.version.seq)) (space ∷ body_parts c.body) (unbroken_decimal c.version.seq (omega (arith, is.seq)))
+    (ends_after_space (body_parts c.body) (body_ends c.body is.body))))))))))

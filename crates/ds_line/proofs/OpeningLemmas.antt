@@ -78,19 +78,19 @@ tombstone n = change_of (record { name = n; kind = U32 }) rs_name (version_of 0 
 tombstone_is : (n : List ℕ) → IsName n → IsChange (tombstone n)
 tombstone_is n name = record { name = name; owner = rs_is_name; epoch = omega arith; seq = omega arith; body = tt; kind = tt; rule = tt }
 
-abbrev pub behind_name_part : List ℕ → List Part
-behind_name_part n = part Name n ∷ []
+abbrev pub after_name_part : List ℕ → List Part
+after_name_part n = part Name n ∷ []
 
-abbrev pub behind_name_space : List ℕ → List Part
-behind_name_space n = part Name n ∷ space ∷ []
+abbrev pub after_name_space : List ℕ → List Part
+after_name_space n = part Name n ∷ space ∷ []
 
 name_comes : Comes [] Name
 name_comes c more is eq = subst (Begun Name) eq (refl, is.name.allowed)
 
-name_space_comes : (n : List ℕ) → Comes (behind_name_part n) Byte
+name_space_comes : (n : List ℕ) → Comes (after_name_part n) Byte
 name_space_comes n c more is eq = subst (Begun Byte) (ap (drop 1) eq) (refl, refl)
 
-kind_comes : (n : List ℕ) → Comes (behind_name_space n) Word
+kind_comes : (n : List ℕ) → Comes (after_name_space n) Word
 kind_comes n c more is eq = subst (Begun Word) (ap (drop 2) eq) (refl, word_is_word c.key.kind)
 
 pub name_missing : (bytes : List ℕ) (stop : PartFault) → stop ≡ BadPart (length bytes) → ((name rest : List ℕ) → IsName name → ¬ Begins is_name_byte bytes name rest) → ReadsChange [] bytes (Err stop)
@@ -98,22 +98,22 @@ name_missing bytes stop at none =
     missing [] Name bytes stop (tombstone rs_name) (change_parts (tombstone rs_name)) (tombstone_is rs_name rs_is_name) refl name_comes at
     (λ c more after is eq h. let first = subst (λ (x : List Part). Stand 1 x bytes after) (sym eq) h in none c.key.name first.0 is.name first.1)
 
-pub name_space_missing : (n bytes : List ℕ) (stop : PartFault) → IsName n → stop ≡ BadPart (length bytes) → ((rest : List ℕ) → bytes ≢ 32 ∷ rest) → ReadsChange (behind_name_part n) bytes (Err stop)
+pub name_space_missing : (n bytes : List ℕ) (stop : PartFault) → IsName n → stop ≡ BadPart (length bytes) → ((rest : List ℕ) → bytes ≢ 32 ∷ rest) → ReadsChange (after_name_part n) bytes (Err stop)
 name_space_missing n bytes stop name at none =
-    missing (behind_name_part n) Byte bytes stop (tombstone n) (drop 1 (change_parts (tombstone n))) (tombstone_is n name) refl (name_space_comes n) at
+    missing (after_name_part n) Byte bytes stop (tombstone n) (drop 1 (change_parts (tombstone n))) (tombstone_is n name) refl (name_space_comes n) at
     (λ c more after is eq h. let first = subst (λ (x : List Part). Stand 1 x bytes after) (sym (ap (drop 1) eq)) h in none first.0 first.1.parts)
 
 pub kind_missing : (n bytes : List ℕ) (stop : PartFault) → IsName n → stop ≡ BadPart (length bytes) →
-    ((kind : Kind) (rest : List ℕ) → ¬ Begins is_ascii_alphanumeric bytes (kind_word kind) rest) → ReadsChange (behind_name_space n) bytes (Err stop)
+    ((kind : Kind) (rest : List ℕ) → ¬ Begins is_ascii_alphanumeric bytes (kind_word kind) rest) → ReadsChange (after_name_space n) bytes (Err stop)
 kind_missing n bytes stop name at none =
-    missing (behind_name_space n) Word bytes stop (tombstone n) (drop 2 (change_parts (tombstone n))) (tombstone_is n name) refl (kind_comes n) at
+    missing (after_name_space n) Word bytes stop (tombstone n) (drop 2 (change_parts (tombstone n))) (tombstone_is n name) refl (kind_comes n) at
     (λ c more after is eq h. let first = subst (λ (x : List Part). Stand 1 x bytes after) (sym (ap (drop 2) eq)) h in none c.key.kind first.0 first.1)
 
 -- the word is read, but no change has this name and kind
 pub kind_refused : (key : Key) (bytes r : List ℕ) (stop : PartFault) → IsName key.name → stop ≡ BadPart (length bytes) → Begins is_ascii_alphanumeric bytes (kind_word key.kind) r →
-    ¬ HasOwner key → ReadsChange (behind_name_space key.name) bytes (Err stop)
+    ¬ HasOwner key → ReadsChange (after_name_space key.name) bytes (Err stop)
 kind_refused key bytes r stop name at begins none =
-    missing (behind_name_space key.name) Word bytes stop (tombstone key.name) (drop 2 (change_parts (tombstone key.name))) (tombstone_is key.name name) refl (kind_comes key.name) at
+    missing (after_name_space key.name) Word bytes stop (tombstone key.name) (drop 2 (change_parts (tombstone key.name))) (tombstone_is key.name name) refl (kind_comes key.name) at
     (λ c more after is eq h.
     let first = subst (λ (x : List Part). Stand 1 x bytes after) (sym (ap (drop 2) eq)) h in
     let word = (part_one Word bytes (kind_word c.key.kind) (kind_word key.kind) first.0 r (word_is_word c.key.kind) (word_is_word key.kind) first.1 begins).0 in
@@ -123,23 +123,23 @@ pub key_read : (key : Key) (bytes r1 r2 r3 : List ℕ) (result : Result (ChangeR
     → ReadsChange (up_to_kind key) r3 result → ReadsChange [] bytes result
 key_read key bytes r1 r2 r3 result name b1 b2 b3 k =
     read_on [] (part Name key.name) bytes r1 result name.allowed name_comes b1
-    (read_on (behind_name_part key.name) space r1 r2 result refl (name_space_comes key.name) (byte_begins 32 r1 r2 b2)
-    (read_on (behind_name_space key.name) (part Word (kind_word key.kind)) r2 r3 result (word_is_word key.kind) (kind_comes key.name) b3 k))
+    (read_on (after_name_part key.name) space r1 r2 result refl (name_space_comes key.name) (byte_begins 32 r1 r2 b2)
+    (read_on (after_name_space key.name) (part Word (kind_word key.kind)) r2 r3 result (word_is_word key.kind) (kind_comes key.name) b3 k))
 
-pub name_then : (n bytes r1 : List ℕ) (result : Result (ChangeRecord × ℕ) PartFault) → IsName n → Begins is_name_byte bytes n r1 → ReadsChange (behind_name_part n) r1 result → ReadsChange [] bytes result
+pub name_then : (n bytes r1 : List ℕ) (result : Result (ChangeRecord × ℕ) PartFault) → IsName n → Begins is_name_byte bytes n r1 → ReadsChange (after_name_part n) r1 result → ReadsChange [] bytes result
 name_then n bytes r1 result name b1 k = read_on [] (part Name n) bytes r1 result name.allowed name_comes b1 k
 
-pub name_space_then : (n bytes r1 r2 : List ℕ) (result : Result (ChangeRecord × ℕ) PartFault) → IsName n → Begins is_name_byte bytes n r1 → r1 ≡ 32 ∷ r2 → ReadsChange (behind_name_space n) r2 result → ReadsChange [] bytes result
+pub name_space_then : (n bytes r1 r2 : List ℕ) (result : Result (ChangeRecord × ℕ) PartFault) → IsName n → Begins is_name_byte bytes n r1 → r1 ≡ 32 ∷ r2 → ReadsChange (after_name_space n) r2 result → ReadsChange [] bytes result
 name_space_then n bytes r1 r2 result name b1 b2 k =
-    name_then n bytes r1 result name b1 (read_on (behind_name_part n) space r1 r2 result refl (name_space_comes n) (byte_begins 32 r1 r2 b2) k)
+    name_then n bytes r1 result name b1 (read_on (after_name_part n) space r1 r2 result refl (name_space_comes n) (byte_begins 32 r1 r2 b2) k)
 
 -- ---- the owner
 
 abbrev pub up_to_owner : Key → List Part
 up_to_owner key = up_to_kind key ++ space ∷ []
 
-abbrev pub behind_owner : Key → List ℕ → List Part
-behind_owner key owner = up_to_kind key ++ space ∷ part Name owner ∷ []
+abbrev pub after_owner : Key → List ℕ → List Part
+after_owner key owner = up_to_kind key ++ space ∷ part Name owner ∷ []
 
 owner_space_comes : (key : Key) → Comes (up_to_kind key) Byte
 owner_space_comes key c more is eq = subst (Begun Byte) (ap (drop 3) eq) (refl, refl)
@@ -147,7 +147,7 @@ owner_space_comes key c more is eq = subst (Begun Byte) (ap (drop 3) eq) (refl, 
 owner_comes : (key : Key) → Comes (up_to_owner key) Name
 owner_comes key c more is eq = subst (Begun Name) (ap (drop 4) eq) (refl, is.owner.allowed)
 
-epoch_space_comes : (key : Key) (owner : List ℕ) → Comes (behind_owner key owner) Byte
+epoch_space_comes : (key : Key) (owner : List ℕ) → Comes (after_owner key owner) Byte
 epoch_space_comes key owner c more is eq = subst (Begun Byte) (ap (drop 5) eq) (refl, refl)
 
 -- a change with the key
@@ -179,38 +179,38 @@ owner_refused key owner bytes r stop has at name begins none =
     none (subst (HasVersion key) same (subst (λ (k : Key). HasVersion k c.owner) (key_known key c (space ∷ more) eq) (c.version, (c.body, is)))))
 
 pub owner_then : (key : Key) (owner bytes r : List ℕ) (result : Result (ChangeRecord × ℕ) PartFault) → IsName owner → Begins is_name_byte bytes owner r →
-    ReadsChange (behind_owner key owner) r result → ReadsChange (up_to_owner key) bytes result
+    ReadsChange (after_owner key owner) r result → ReadsChange (up_to_owner key) bytes result
 owner_then key owner bytes r result name begins k = read_on (up_to_owner key) (part Name owner) bytes r result name.allowed (owner_comes key) begins k
 
-pub epoch_space_missing : (key : Key) (owner bytes : List ℕ) (stop : PartFault) → HasVersion key owner → stop ≡ BadPart (length bytes) → ((rest : List ℕ) → bytes ≢ 32 ∷ rest) → ReadsChange (behind_owner key owner) bytes (Err stop)
+pub epoch_space_missing : (key : Key) (owner bytes : List ℕ) (stop : PartFault) → HasVersion key owner → stop ≡ BadPart (length bytes) → ((rest : List ℕ) → bytes ≢ 32 ∷ rest) → ReadsChange (after_owner key owner) bytes (Err stop)
 epoch_space_missing key owner bytes stop has at none =
-    missing (behind_owner key owner) Byte bytes stop (change_of key owner has.0 has.1.0) (drop 5 (change_parts (change_of key owner has.0 has.1.0))) has.1.1 refl (epoch_space_comes key owner) at
+    missing (after_owner key owner) Byte bytes stop (change_of key owner has.0 has.1.0) (drop 5 (change_parts (change_of key owner has.0 has.1.0))) has.1.1 refl (epoch_space_comes key owner) at
     (λ c more after is eq h. let first = subst (λ (x : List Part). Stand 1 x bytes after) (sym (ap (drop 5) eq)) h in none first.0 first.1.parts)
 
-pub epoch_space_then : (key : Key) (owner bytes r : List ℕ) (result : Result (ChangeRecord × ℕ) PartFault) → bytes ≡ 32 ∷ r → ReadsChange (up_to_epoch key owner) r result → ReadsChange (behind_owner key owner) bytes result
-epoch_space_then key owner bytes r result is k = read_on (behind_owner key owner) space bytes r result refl (epoch_space_comes key owner) (byte_begins 32 bytes r is) k
+pub epoch_space_then : (key : Key) (owner bytes r : List ℕ) (result : Result (ChangeRecord × ℕ) PartFault) → bytes ≡ 32 ∷ r → ReadsChange (up_to_epoch key owner) r result → ReadsChange (after_owner key owner) bytes result
+epoch_space_then key owner bytes r result is k = read_on (after_owner key owner) space bytes r result refl (epoch_space_comes key owner) (byte_begins 32 bytes r is) k
 
 -- ---- the version
 
-abbrev pub behind_epoch : Key → List ℕ → ℕ → List Part
-behind_epoch key owner epoch = up_to_epoch key owner ++ part Number (decimal epoch) ∷ []
+abbrev pub after_epoch : Key → List ℕ → ℕ → List Part
+after_epoch key owner epoch = up_to_epoch key owner ++ part Number (decimal epoch) ∷ []
 
 abbrev pub up_to_seq : Key → List ℕ → ℕ → List Part
 up_to_seq key owner epoch = up_to_epoch key owner ++ part Number (decimal epoch) ∷ byte 46 ∷ []
 
-abbrev pub behind_seq : Key → List ℕ → Version → List Part
-behind_seq key owner version = up_to_epoch key owner ++ part Number (decimal version.epoch) ∷ byte 46 ∷ part Number (decimal version.seq) ∷ []
+abbrev pub after_seq : Key → List ℕ → Version → List Part
+after_seq key owner version = up_to_epoch key owner ++ part Number (decimal version.epoch) ∷ byte 46 ∷ part Number (decimal version.seq) ∷ []
 
 epoch_comes : (key : Key) (owner : List ℕ) → Comes (up_to_epoch key owner) Number
 epoch_comes key owner c more is eq = subst (Begun Number) (ap (drop 6) eq) (refl, (c.version.epoch, omega (arith, is.epoch), refl))
 
-dot_comes : (key : Key) (owner : List ℕ) (epoch : ℕ) → Comes (behind_epoch key owner epoch) Byte
+dot_comes : (key : Key) (owner : List ℕ) (epoch : ℕ) → Comes (after_epoch key owner epoch) Byte
 dot_comes key owner epoch c more is eq = subst (Begun Byte) (ap (drop 7) eq) (refl, refl)
 
 seq_comes : (key : Key) (owner : List ℕ) (epoch : ℕ) → Comes (up_to_seq key owner epoch) Number
 seq_comes key owner epoch c more is eq = subst (Begun Number) (ap (drop 8) eq) (refl, (c.version.seq, omega (arith, is.seq), refl))
 
-mark_space_comes : (key : Key) (owner : List ℕ) (version : Version) → Comes (behind_seq key owner version) Byte
+mark_space_comes : (key : Key) (owner : List ℕ) (version : Version) → Comes (after_seq key owner version) Byte
 mark_space_comes key owner version c more is eq = subst (Begun Byte) (ap (drop 9) eq) (refl, refl)
 
 pub epoch_missing : (key : Key) (owner bytes : List ℕ) (stop : PartFault) → HasVersion key owner → stop ≡ BadPart (length bytes) →
@@ -234,18 +234,18 @@ epoch_refused key owner bytes r epoch stop has at most begins none =
     none (subst (λ (k : Key). HasSeq k owner epoch) known.0 of_owner))
 
 pub epoch_then : (key : Key) (owner bytes r : List ℕ) (epoch : ℕ) (result : Result (ChangeRecord × ℕ) PartFault) → epoch ≤ 2097151 → Begins is_ascii_digit bytes (decimal epoch) r →
-    ReadsChange (behind_epoch key owner epoch) r result → ReadsChange (up_to_epoch key owner) bytes result
+    ReadsChange (after_epoch key owner epoch) r result → ReadsChange (up_to_epoch key owner) bytes result
 epoch_then key owner bytes r epoch result most begins k =
     read_on (up_to_epoch key owner) (part Number (decimal epoch)) bytes r result (epoch, omega arith, refl) (epoch_comes key owner) begins k
 
 pub dot_missing : (key : Key) (owner bytes : List ℕ) (epoch : ℕ) (stop : PartFault) → HasSeq key owner epoch → stop ≡ BadPart (length bytes) →
-    ((rest : List ℕ) → bytes ≢ 46 ∷ rest) → ReadsChange (behind_epoch key owner epoch) bytes (Err stop)
+    ((rest : List ℕ) → bytes ≢ 46 ∷ rest) → ReadsChange (after_epoch key owner epoch) bytes (Err stop)
 dot_missing key owner bytes epoch stop has at none =
-    missing (behind_epoch key owner epoch) Byte bytes stop (change_of key owner (version_of epoch has.0) has.1.0) (drop 7 (change_parts (change_of key owner (version_of epoch has.0) has.1.0))) has.1.1 refl (dot_comes key owner epoch) at
+    missing (after_epoch key owner epoch) Byte bytes stop (change_of key owner (version_of epoch has.0) has.1.0) (drop 7 (change_parts (change_of key owner (version_of epoch has.0) has.1.0))) has.1.1 refl (dot_comes key owner epoch) at
     (λ c more after is eq h. let first = subst (λ (x : List Part). Stand 1 x bytes after) (sym (ap (drop 7) eq)) h in none first.0 first.1.parts)
 
-pub dot_then : (key : Key) (owner bytes r : List ℕ) (epoch : ℕ) (result : Result (ChangeRecord × ℕ) PartFault) → bytes ≡ 46 ∷ r → ReadsChange (up_to_seq key owner epoch) r result → ReadsChange (behind_epoch key owner epoch) bytes result
-dot_then key owner bytes r epoch result is k = read_on (behind_epoch key owner epoch) (byte 46) bytes r result refl (dot_comes key owner epoch) (byte_begins 46 bytes r is) k
+pub dot_then : (key : Key) (owner bytes r : List ℕ) (epoch : ℕ) (result : Result (ChangeRecord × ℕ) PartFault) → bytes ≡ 46 ∷ r → ReadsChange (up_to_seq key owner epoch) r result → ReadsChange (after_epoch key owner epoch) bytes result
+dot_then key owner bytes r epoch result is k = read_on (after_epoch key owner epoch) (byte 46) bytes r result refl (dot_comes key owner epoch) (byte_begins 46 bytes r is) k
 
 pub seq_missing : (key : Key) (owner bytes : List ℕ) (epoch : ℕ) (stop : PartFault) → HasSeq key owner epoch → stop ≡ BadPart (length bytes) →
     ((n : ℕ) (rest : List ℕ) → n ≤ 4294967295 → ¬ Begins is_ascii_digit bytes (decimal n) rest) → ReadsChange (up_to_seq key owner epoch) bytes (Err stop)
@@ -283,19 +283,19 @@ seq_refused key owner bytes r version stop has at fits begins none =
     none (known_body key owner version c known.0 known.1 (version_is c.version version epoch seq) is))
 
 pub seq_then : (key : Key) (owner bytes r : List ℕ) (version : Version) (result : Result (ChangeRecord × ℕ) PartFault) → version.seq < 2 ^ 32 →
-    Begins is_ascii_digit bytes (decimal version.seq) r → ReadsChange (behind_seq key owner version) r result → ReadsChange (up_to_seq key owner version.epoch) bytes result
+    Begins is_ascii_digit bytes (decimal version.seq) r → ReadsChange (after_seq key owner version) r result → ReadsChange (up_to_seq key owner version.epoch) bytes result
 seq_then key owner bytes r version result fits begins k =
     read_on (up_to_seq key owner version.epoch) (part Number (decimal version.seq)) bytes r result (version.seq, omega arith, refl) (seq_comes key owner version.epoch) begins k
 
 pub mark_space_missing : (key : Key) (owner bytes : List ℕ) (version : Version) (stop : PartFault) → HasBody key owner version → stop ≡ BadPart (length bytes) →
-    ((rest : List ℕ) → bytes ≢ 32 ∷ rest) → ReadsChange (behind_seq key owner version) bytes (Err stop)
+    ((rest : List ℕ) → bytes ≢ 32 ∷ rest) → ReadsChange (after_seq key owner version) bytes (Err stop)
 mark_space_missing key owner bytes version stop has at none =
-    missing (behind_seq key owner version) Byte bytes stop (change_of key owner version has.0) (drop 9 (change_parts (change_of key owner version has.0))) has.1 refl (mark_space_comes key owner version) at
+    missing (after_seq key owner version) Byte bytes stop (change_of key owner version has.0) (drop 9 (change_parts (change_of key owner version has.0))) has.1 refl (mark_space_comes key owner version) at
     (λ c more after is eq h. let first = subst (λ (x : List Part). Stand 1 x bytes after) (sym (ap (drop 9) eq)) h in none first.0 first.1.parts)
 
 pub mark_space_then : (key : Key) (owner bytes r : List ℕ) (version : Version) (result : Result (ChangeRecord × ℕ) PartFault) → bytes ≡ 32 ∷ r →
-    ReadsChange (up_to_mark key owner version) r result → ReadsChange (behind_seq key owner version) bytes result
-mark_space_then key owner bytes r version result is k = read_on (behind_seq key owner version) space bytes r result refl (mark_space_comes key owner version) (byte_begins 32 bytes r is) k
+    ReadsChange (up_to_mark key owner version) r result → ReadsChange (after_seq key owner version) bytes result
+mark_space_then key owner bytes r version result is k = read_on (after_seq key owner version) space bytes r result refl (mark_space_comes key owner version) (byte_begins 32 bytes r is) k
 
 -- The parts up to the mark determine all but the body.
 pub version_known : (key : Key) (owner : List ℕ) (version : Version) (c : ChangeRecord) (more : List Part) → version.epoch ≤ 2097151 → version.seq < 2 ^ 32 → IsChange c → change_parts c ≡ up_to_mark key owner version ++ more

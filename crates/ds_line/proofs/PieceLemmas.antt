@@ -51,8 +51,8 @@ stand_texts (x ∷ xs) bytes rest h = h.1.parts ∙ ap (λ (t : List ℕ). x.tex
 -- ---- pieces
 
 -- A piece, and after it another, which may depend on the first.
-abbrev pub behind : (p : Piece) → (p.Of → Piece) → Piece
-behind p q = record {
+abbrev pub past : (p : Piece) → (p.Of → Piece) → Piece
+past p q = record {
   Of = (a : p.Of) × (q a).Of;
   Can = λ x. p.Can x.0 × (q x.0).Can x.1;
   parts = λ x. p.parts x.0 ++ (q x.0).parts x.1;
@@ -85,7 +85,7 @@ breaks_below p bytes rest s =
     ]
 
 -- What can be read ends within the first of two pieces.
-pub first_breaks : (p : Piece) (q : p.Of → Piece) (n : ℕ) (bytes rest : List ℕ) → Fixed p n → Goes p q → Breaks p bytes rest → Breaks (behind p q) bytes rest
+pub first_breaks : (p : Piece) (q : p.Of → Piece) (n : ℕ) (bytes rest : List ℕ) → Fixed p n → Goes p q → Breaks p bytes rest → Breaks (past p q) bytes rest
 first_breaks p q n bytes rest fixed goes s =
     let next = goes s.thing s.can in
     record {
@@ -110,7 +110,7 @@ second_stands p q n k m a bytes r after fixed one found x can eq h =
     (same.0, subst (λ (b : List ℕ). Stand k ((q x.0).parts x.1) b after) same.1 two.2)
 
 -- What can be read ends within the second piece, after a first one that is there.
-pub then_breaks : (p : Piece) (q : p.Of → Piece) (n : ℕ) (a : p.Of) (bytes r rest : List ℕ) → Fixed p n → One p → Found p a bytes r → Breaks (q a) r rest → Breaks (behind p q) bytes rest
+pub then_breaks : (p : Piece) (q : p.Of → Piece) (n : ℕ) (a : p.Of) (bytes r rest : List ℕ) → Fixed p n → One p → Found p a bytes r → Breaks (q a) r rest → Breaks (past p q) bytes rest
 then_breaks p q n a bytes r rest fixed one found s =
     record {
       count = length (p.parts a) + s.count;
@@ -126,7 +126,7 @@ then_breaks p q n a bytes r rest fixed one found s =
     }
 
 -- Both pieces are there.
-pub both_found : (p : Piece) (q : p.Of → Piece) (a : p.Of) (b : (q a).Of) (bytes r rest : List ℕ) → Found p a bytes r → Found (q a) b r rest → Found (behind p q) (a, b) bytes rest
+pub both_found : (p : Piece) (q : p.Of → Piece) (a : p.Of) (b : (q a).Of) (bytes r rest : List ℕ) → Found p a bytes r → Found (q a) b r rest → Found (past p q) (a, b) bytes rest
 both_found p q a b bytes r rest first second =
     record {
       can = (first.can, second.can);
@@ -135,11 +135,11 @@ both_found p q a b bytes r rest first second =
 
 -- ---- what readers say, of one piece and of two
 
-pub first_stops : (p : Piece) (q : p.Of → Piece) (n : ℕ) (stop : PartFault) (bytes : List ℕ) → Fixed p n → Goes p q → (stop ≢ NoRoom) → StopsIn p stop bytes → StopsIn (behind p q) stop bytes
+pub first_stops : (p : Piece) (q : p.Of → Piece) (n : ℕ) (stop : PartFault) (bytes : List ℕ) → Fixed p n → Goes p q → (stop ≢ NoRoom) → StopsIn p stop bytes → StopsIn (past p q) stop bytes
 first_stops p q n (BadPart left) bytes fixed goes room s = (s.0, first_breaks p q n bytes s.0 fixed goes s.1, s.2)
 first_stops p q n NoRoom bytes fixed goes room s = absurd (room refl)
 
-pub then_stops : (p : Piece) (q : p.Of → Piece) (n : ℕ) (stop : PartFault) (a : p.Of) (bytes r : List ℕ) → Fixed p n → One p → Found p a bytes r → StopsIn (q a) stop r → StopsIn (behind p q) stop bytes
+pub then_stops : (p : Piece) (q : p.Of → Piece) (n : ℕ) (stop : PartFault) (a : p.Of) (bytes r : List ℕ) → Fixed p n → One p → Found p a bytes r → StopsIn (q a) stop r → StopsIn (past p q) stop bytes
 then_stops p q n (BadPart left) a bytes r fixed one found s = (s.0, then_breaks p q n a bytes r s.0 fixed one found s.1, s.2)
 then_stops p q n NoRoom a bytes r fixed one found s = ((a, s.0), s.1, both_found p q a s.0 bytes r s.1 found s.2)
 
@@ -192,8 +192,8 @@ after_byte b p = record { Of = p.Of; Can = p.Can; parts = λ a. byte b ∷ p.par
 pub byte_missing : (b : ℕ) (p : Piece) (a : p.Of) (bytes : List ℕ) → p.Can a → ((rest : List ℕ) → bytes ≢ b ∷ rest) → Breaks (after_byte b p) bytes bytes
 byte_missing b p a bytes can none = part_missing (after_byte b p) (λ x. byte b) p.parts a bytes (λ x. refl) can (λ x rest is begins. none rest begins.parts)
 
-byte_behind : (b : ℕ) (bytes r s : List ℕ) → bytes ≡ b ∷ r → Begins (run_of (byte b).class) bytes (b ∷ []) s → s ≡ r
-byte_behind b bytes r s is begins = ap (drop 1) (sym begins.parts ∙ is)
+byte_after : (b : ℕ) (bytes r s : List ℕ) → bytes ≡ b ∷ r → Begins (run_of (byte b).class) bytes (b ∷ []) s → s ≡ r
+byte_after b bytes r s is begins = ap (drop 1) (sym begins.parts ∙ is)
 
 pub byte_breaks : (b : ℕ) (p : Piece) (bytes r rest : List ℕ) → bytes ≡ b ∷ r → Breaks p r rest → Breaks (after_byte b p) bytes rest
 byte_breaks b p bytes r rest is s =
@@ -202,8 +202,8 @@ byte_breaks b p bytes r rest is s =
       thing = s.thing;
       can = s.can;
       front = (r, byte_begins b bytes r is, s.front);
-      most = λ x after can h. s.most x after can (subst (λ (t : List ℕ). Stand (suc s.count) (p.parts x) t after) (byte_behind b bytes r h.0 is h.1) h.2);
-      none = λ x after can h. s.none x after can (subst (λ (t : List ℕ). Stand (length (p.parts x)) (p.parts x) t after) (byte_behind b bytes r h.0 is h.1) h.2);
+      most = λ x after can h. s.most x after can (subst (λ (t : List ℕ). Stand (suc s.count) (p.parts x) t after) (byte_after b bytes r h.0 is h.1) h.2);
+      none = λ x after can h. s.none x after can (subst (λ (t : List ℕ). Stand (length (p.parts x)) (p.parts x) t after) (byte_after b bytes r h.0 is h.1) h.2);
     }
 
 pub byte_found : (b : ℕ) (p : Piece) (a : p.Of) (bytes r rest : List ℕ) → bytes ≡ b ∷ r → Found p a r rest → Found (after_byte b p) a bytes rest

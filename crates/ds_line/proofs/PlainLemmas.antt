@@ -23,11 +23,11 @@ plain_text (b ∷ text) all =
     ap (λ (t : List ℕ). t ++ escaped text) (plain_byte b (b == 34 || b == 92) refl parts.0) ∙ ap (λ (t : List ℕ). b ∷ t) (plain_text text parts.1)
 
 -- One byte, the run after it, and the rest.
-pub run_written : (text : List ℕ) (b : ℕ) (behind plain more : List ℕ) → text ≡ b ∷ behind → plain ≡ take (prefix_len is_plain behind) behind → more ≡ drop (prefix_len is_plain behind) behind
+pub run_written : (text : List ℕ) (b : ℕ) (past plain more : List ℕ) → text ≡ b ∷ past → plain ≡ take (prefix_len is_plain past) past → more ≡ drop (prefix_len is_plain past) past
     → escaped text ≡ (escaped_byte b ++ plain) ++ escaped more
-run_written text b behind plain more is is_plain_run is_more =
-    let front : escaped plain ≡ plain = plain_text plain (ap (list_all is_plain) is_plain_run ∙ (run_parts is_plain behind).0) in
-    let whole : behind ≡ plain ++ more = sym (ap (λ (t : List ℕ). t ++ more) is_plain_run ∙ ap (λ (t : List ℕ). take (prefix_len is_plain behind) behind ++ t) is_more ∙ take-append-drop (prefix_len is_plain behind) behind) in
+run_written text b past plain more is is_plain_run is_more =
+    let front : escaped plain ≡ plain = plain_text plain (ap (list_all is_plain) is_plain_run ∙ (run_parts is_plain past).0) in
+    let whole : past ≡ plain ++ more = sym (ap (λ (t : List ℕ). t ++ more) is_plain_run ∙ ap (λ (t : List ℕ). take (prefix_len is_plain past) past ++ t) is_more ∙ take-append-drop (prefix_len is_plain past) past) in
     ap escaped is
     ∙ ap (λ (t : List ℕ). escaped_byte b ++ escaped t) whole
     ∙ ap (λ (t : List ℕ). escaped_byte b ++ t) (flat_map-append escaped_byte plain more)

@@ -11,7 +11,7 @@ use Rattle.ds_line.specs.Reading.{ReadsChange, ReadsInto}
 use Rattle.ds_line.specs.declared.part_fault.PartFault.{PartFault}
 use Rattle.ds_line.specs.declared.part_fault.PartFault.TheVariants.{BadPart, NoRoom}
 use Rattle.ds_line.proofs.PartLemmas.{IsText}
-use Rattle.ds_line.proofs.StepLemmas.{Opens, stops_here, stops_behind_part, completes_behind_part}
+use Rattle.ds_line.proofs.StepLemmas.{Opens, stops_here, stops_after_part, completes_after_part}
 
 -- there is a first part, and it is of the class
 abbrev pub Begun : Class → List Part → Type 0
@@ -44,11 +44,11 @@ missing known class bytes stop c further is split comes at misses =
 -- the next part is read
 pub read_on : (known : List Part) (p : Part) (bytes r : List ℕ) (result : Result (ChangeRecord × ℕ) PartFault) → IsText p.class p.text → Comes known p.class → Begins (run_of p.class) bytes p.text r
     → ReadsChange (known ++ p ∷ []) r result → ReadsChange known bytes result
-read_on known p bytes r (Ok x) text comes begins k = (k.0, completes_behind_part known p x.0 bytes r k.0 begins.parts k.1, k.2)
+read_on known p bytes r (Ok x) text comes begins k = (k.0, completes_after_part known p x.0 bytes r k.0 begins.parts k.1, k.2)
 read_on known p bytes r (Err (BadPart left)) text comes begins k =
-    (k.0, stops_behind_part IsChange change_parts known p bytes r k.0 text (λ m more is eq. begun_opens p.class more (comes m more is eq)) (λ m more is eq. begun_some p.class more (comes m more is eq)) begins k.1, k.2)
+    (k.0, stops_after_part IsChange change_parts known p bytes r k.0 text (λ m more is eq. begun_opens p.class more (comes m more is eq)) (λ m more is eq. begun_some p.class more (comes m more is eq)) begins k.1, k.2)
 read_on known p bytes r (Err NoRoom) text comes begins k =
-    record { put = k.put; rest = k.rest; completes = completes_behind_part known p k.put bytes r k.rest begins.parts k.completes; value = k.value }
+    record { put = k.put; rest = k.rest; completes = completes_after_part known p k.put bytes r k.rest begins.parts k.completes; value = k.value }
 
 -- `read_on`, for a reader that stores the change.
 pub into_on : (known more : List Part) (bytes r : List ℕ) (result : Result ℕ PartFault) (placed : Option Item) → ((given : Result (ChangeRecord × ℕ) PartFault) → ReadsChange more r given → ReadsChange known bytes given)

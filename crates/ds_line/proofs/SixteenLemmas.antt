@@ -130,9 +130,9 @@ bytes_both : (xs ys : List ℕ) → IsBytes xs → IsBytes ys → IsBytes (xs ++
 bytes_both [] ys h k = k
 bytes_both (x ∷ xs) ys h k = bytes_more x (xs ++ ys) (h 0) (bytes_both xs ys (λ i. h (suc i)) k)
 
-pub paired_sixteen : (bytes block rest behind sixteen : List ℕ) (n : ℕ) → IsPaired bytes block rest n → n + length sixteen ≤ 1024 → rest ≡ encode_lower sixteen ++ behind → IsBytes sixteen
-    → IsPaired bytes (take n block ++ (sixteen ++ drop (n + length sixteen) block)) behind (n + length sixteen)
-paired_sixteen bytes block rest behind sixteen n begun le is fits =
+pub paired_sixteen : (bytes block rest past sixteen : List ℕ) (n : ℕ) → IsPaired bytes block rest n → n + length sixteen ≤ 1024 → rest ≡ encode_lower sixteen ++ past → IsBytes sixteen
+    → IsPaired bytes (take n block ++ (sixteen ++ drop (n + length sixteen) block)) past (n + length sixteen)
+paired_sixteen bytes block rest past sixteen n begun le is fits =
     let k : ℕ = n + length sixteen in
     let front : List ℕ = take n block in
     let len : length front ≡ n = length-take-le n block (omega (arith, le, begun.whole)) in
@@ -142,9 +142,9 @@ paired_sixteen bytes block rest behind sixteen n begun le is fits =
     ap (λ (t : List ℕ). take k t) joined ∙ ap (λ (m : ℕ). take m ((front ++ sixteen) ++ drop k block)) (sym both) ∙ take-append_seam (front ++ sixteen) (drop k block) in
     record {
       parts = begun.parts ∙ ap (λ (t : List ℕ). encode_lower front ++ t) is
-          ∙ sym (append_assoc (encode_lower front) (encode_lower sixteen) behind)
-          ∙ ap (λ (t : List ℕ). t ++ behind) (sym (encode_append front sixteen))
-          ∙ ap (λ (t : List ℕ). encode_lower t ++ behind) (sym more);
+          ∙ sym (append_assoc (encode_lower front) (encode_lower sixteen) past)
+          ∙ ap (λ (t : List ℕ). t ++ past) (sym (encode_append front sixteen))
+          ∙ ap (λ (t : List ℕ). encode_lower t ++ past) (sym more);
       each = subst IsBytes (sym more) (bytes_both front sixteen begun.each fits);
       whole = ap length joined ∙ length-append (front ++ sixteen) (drop k block) ∙ omega (arith, both, length-drop k block, begun.whole, le);
     }

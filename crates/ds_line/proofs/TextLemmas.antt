@@ -28,16 +28,16 @@ pub record IsOpen (bytes block rest : List ℕ) (n : ℕ) : Type 0 where
 pub open_first : (bytes block rest : List ℕ) → bytes ≡ 34 ∷ rest → length block ≡ 256 → IsOpen bytes block rest 0
 open_first bytes block rest is whole = record { parts = is; printable = refl; whole = whole }
 
-pub open_more : (bytes block rest behind : List ℕ) (n b : ℕ) → IsOpen bytes block rest n → n < 256 → rest ≡ escaped_byte b ++ behind → is_text_byte b ≡ true → IsOpen bytes (set block n b) behind (n + 1)
-open_more bytes block rest behind n b begun lt is printable =
+pub open_more : (bytes block rest past : List ℕ) (n b : ℕ) → IsOpen bytes block rest n → n < 256 → rest ≡ escaped_byte b ++ past → is_text_byte b ≡ true → IsOpen bytes (set block n b) past (n + 1)
+open_more bytes block rest past n b begun lt is printable =
     let more = block_more block n b (omega (arith, begun.whole)) in
     let one : escaped (take n block ++ b ∷ []) ≡ escaped (take n block) ++ escaped_byte b = flat_map-append escaped_byte (take n block) (b ∷ []) ∙ ap (λ (t : List ℕ). escaped (take n block) ++ t) (append-nil (escaped_byte b)) in
     let both : list_all is_text_byte (take n block ++ b ∷ []) ≡ true = list_all-append is_text_byte (take n block) (b ∷ []) ∙ rw (begun.printable, printable) refl in
     record {
       parts = begun.parts ∙ ap (λ (t : List ℕ). 34 ∷ (escaped (take n block) ++ t)) is
-          ∙ ap (λ (t : List ℕ). 34 ∷ t) (sym (append_assoc (escaped (take n block)) (escaped_byte b) behind))
-          ∙ ap (λ (t : List ℕ). 34 ∷ (t ++ behind)) (sym one)
-          ∙ ap (λ (t : List ℕ). 34 ∷ (escaped t ++ behind)) (sym more);
+          ∙ ap (λ (t : List ℕ). 34 ∷ t) (sym (append_assoc (escaped (take n block)) (escaped_byte b) past))
+          ∙ ap (λ (t : List ℕ). 34 ∷ (t ++ past)) (sym one)
+          ∙ ap (λ (t : List ℕ). 34 ∷ (escaped t ++ past)) (sym more);
       printable = ap (list_all is_text_byte) more ∙ both;
       whole = length-set block n b ∙ begun.whole;
     }
@@ -48,9 +48,9 @@ quote_ends : (rest : List ℕ) → Begins (run_of Quoted) rest [] rest
 quote_ends [] = record { parts = refl; ends = tt }
 quote_ends (b ∷ rest) = record { parts = refl; ends = refl }
 
-pub open_closes : (bytes block rest behind : List ℕ) (n : ℕ) → IsOpen bytes block rest n → rest ≡ 34 ∷ behind → Begins (run_of Quoted) bytes (quoted (take n block)) behind
-open_closes bytes block rest behind n begun is =
-    record { parts = begun.parts ∙ ap (λ (t : List ℕ). 34 ∷ (escaped (take n block) ++ t)) is ∙ sym (unquoted (take n block) behind); ends = (quote_ends behind).ends }
+pub open_closes : (bytes block rest past : List ℕ) (n : ℕ) → IsOpen bytes block rest n → rest ≡ 34 ∷ past → Begins (run_of Quoted) bytes (quoted (take n block)) past
+open_closes bytes block rest past n begun is =
+    record { parts = begun.parts ∙ ap (λ (t : List ℕ). 34 ∷ (escaped (take n block) ++ t)) is ∙ sym (unquoted (take n block) past); ends = (quote_ends past).ends }
 
 pub open_text : (bytes block rest : List ℕ) (n : ℕ) → IsOpen bytes block rest n → n ≤ 256 → IsText (take n block)
 open_text bytes block rest n begun le = record { limit = omega (arith, length-take-le n block (omega (arith, begun.whole))); printable = begun.printable }

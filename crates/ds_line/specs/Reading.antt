@@ -55,7 +55,7 @@ HasOwner key = (owner : List ℕ) × HasVersion key owner
 
 -- Like `StopsAt`, for the members that begin with the known parts. The bytes are those of their further parts, and no
 -- member has all of these at the front.
-pub record StopsBehind {T : Type 0} (IsMember : T → Type 0) (parts : T → List Part) (known : List Part) (bytes rest : List ℕ) : Type 0 where
+pub record StopsAfter {T : Type 0} (IsMember : T → Type 0) (parts : T → List Part) (known : List Part) (bytes rest : List ℕ) : Type 0 where
   pub count : ℕ
   pub member : T
   pub is : IsMember member
@@ -65,9 +65,9 @@ pub record StopsBehind {T : Type 0} (IsMember : T → Type 0) (parts : T → Lis
   pub most : (m : T) (more : List Part) (after : List ℕ) → IsMember m → parts m ≡ known ++ more → ¬ Stand (suc count) more bytes after
   pub none : (m : T) (more : List Part) (after : List ℕ) → IsMember m → parts m ≡ known ++ more → ¬ Stand (length more) more bytes after
 
--- Like `StopsBehind`, for changes.
+-- Like `StopsAfter`, for changes.
 abbrev pub ChangeStops : List Part → List ℕ → List ℕ → Type 0
-ChangeStops known bytes rest = StopsBehind IsChange change_parts known bytes rest
+ChangeStops known bytes rest = StopsAfter IsChange change_parts known bytes rest
 
 -- Whether the bytes are the further parts of the change, after the known ones, and then the rest.
 pub record Completes (known : List Part) (c : ChangeRecord) (bytes rest : List ℕ) : Type 0 where

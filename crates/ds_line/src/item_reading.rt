@@ -10,7 +10,7 @@ ghost use Rattle.ds_line.specs.ItemSpelling.{item_spelling};
 use crate::expected::Expected;
 use crate::fault::LineFault;
 use crate::part_fault::{PartFault, stop_at};
-use crate::parts::{behind_name, name_at};
+use crate::parts::{after_name, name_at};
 use crate::reading::change_into;
 use ds_entry::{Floor, Item};
 use ds_names::limits::LAST_GENERATION;
@@ -50,7 +50,7 @@ pub fn read_item_into(
 ) -> Result<usize, LineFault>
     ensures { ReadsItemLine bytes.now result slot.new }
 {
-    let Some(_behind) = read_byte(bytes, b'!') else {
+    let Some(_after) = read_byte(bytes, b'!') else {
         return change_into(alloc, bytes, expected, slot);
     };
     floor_into(bytes, expected, slot)
@@ -63,7 +63,7 @@ fn floor_into(
     expected: &mut Expected,
     slot: &mut Option<Item>,
 ) -> Result<usize, LineFault>
-    requires { (behind : List ℕ) × (bytes.now ≡ 33 ∷ behind) }
+    requires { (after : List ℕ) × (bytes.now ≡ 33 ∷ after) }
     ensures { ReadsItemLine bytes.now result slot.new }
 {
     let (floor, left) = match floor_at(bytes, expected) {
@@ -95,7 +95,7 @@ fn floor_at(bytes: &[u8], expected: &mut Expected) -> Result<(Floor, usize), Par
     let Some(owner) = name_at(at) else {
         return Err(stop_at(at));
     };
-    let rest = behind_name(at, &owner);
+    let rest = after_name(at, &owner);
     *expected = Expected::Space;
     let Some(at) = read_byte(rest, b' ') else {
         return Err(stop_at(rest));

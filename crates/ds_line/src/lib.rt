@@ -34,6 +34,6 @@ pub use last_value::last_value_at;
 pub use laws::{changes_have_one_line, faults_have_one_place, lines_are_apart, newlines_end_lines};
 pub use numbers::append_numbers;
 pub use part_fault::{PartFault, stop_at};
-pub use parts::{behind_name, endpoint_at, kind_at, name_at, word_at};
+pub use parts::{after_name, endpoint_at, kind_at, name_at, word_at};
 pub use reading::read_change;
 pub use writing::{append, append_all, append_change, append_value, write_change};

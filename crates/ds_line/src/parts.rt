@@ -23,7 +23,7 @@ pub fn name_at(bytes: &[u8]) -> Option<Name>
 }
 
 /// Returns the bytes after a name at the front.
-pub fn behind_name<'a>(bytes: &'a [u8], name: &Name) -> &'a [u8]
+pub fn after_name<'a>(bytes: &'a [u8], name: &Name) -> &'a [u8]
     requires { length name.now ≤ length bytes.now }
     ensures { result.now ≡ drop (length name.now) bytes.now }
 {

@@ -45,14 +45,14 @@ pub fn quoted_at<'a>(bytes: &'a [u8], block: &mut [u8; 256]) -> Option<(usize, &
     };
     let mut rest = text;
     for len in 0..256usize {
-        if let Some(behind) = read_byte(rest, b'"') {
-            return Some((len, behind));
+        if let Some(after) = read_byte(rest, b'"') {
+            return Some((len, after));
         }
-        let Some((byte, behind)) = text_byte_at(rest) else {
+        let Some((byte, after)) = text_byte_at(rest) else {
             return None;
         };
         block[len] = byte;
-        rest = behind;
+        rest = after;
     }
     let Some(rest) = read_byte(rest, b'"') else {
         return None;
@@ -70,11 +70,11 @@ fn sixteens_at<'a>(bytes: &'a [u8], block: &mut [u8; 1024]) -> (usize, &'a [u8])
     let mut rest = bytes;
     let mut sixteen = [0u8; 16];
     for group in 0..64usize {
-        let Some(behind) = sixteen_at(rest, &mut sixteen) else {
+        let Some(after) = sixteen_at(rest, &mut sixteen) else {
             return (16 * group, rest);
         };
         put(block, 16 * group, &sixteen);
-        rest = behind;
+        rest = after;
     }
     (1024, rest)
 }
@@ -87,10 +87,10 @@ pub fn hex_at<'a>(bytes: &'a [u8], block: &mut [u8; 1024]) -> Option<(usize, &'a
     ensures valid { IfSome result (λ r. IsBlob (take r.0 block.new)) }
     ensures none { IfNone result ((blob rest : List ℕ) → IsBlob blob → ¬ Begins (run_of Hex) bytes.now (encode_lower blob) rest) }
 {
-    let (read, behind) = sixteens_at(bytes, block);
-    let mut rest = behind;
+    let (read, after) = sixteens_at(bytes, block);
+    let mut rest = after;
     for len in read..1024 {
-        let Some((byte, behind)) = pair_at(rest) else {
+        let Some((byte, after)) = pair_at(rest) else {
             return if ends_digits(rest) {
                 Some((len, rest))
             } else {
@@ -98,7 +98,7 @@ pub fn hex_at<'a>(bytes: &'a [u8], block: &mut [u8; 1024]) -> Option<(usize, &'a
             };
         };
         block[len] = byte;
-        rest = behind;
+        rest = after;
     }
     if ends_digits(rest) {
         Some((1024, rest))

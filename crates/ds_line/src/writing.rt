@@ -167,10 +167,10 @@ fn append_escaped(buffer: &mut Vec<u8>, text: &[u8]) -> Result<(), NoRoom>
 {
     let start = buffer.len();
     let mut rest = text;
-    while let Some((first, behind)) = rest.split_first() {
+    while let Some((first, after)) = rest.split_first() {
         let with_backslash = [b'\\', *first];
         let spelled = &with_backslash[spelled_from(*first)..];
-        let (plain, more) = behind.split_at(plain_len(behind));
+        let (plain, more) = after.split_at(plain_len(after));
         match append_all(buffer, &[spelled, plain]) {
             Ok(()) => rest = more,
             Err(fault) => {

@@ -12,7 +12,7 @@ use Rattle.ds_join.specs.ItemTop.{IsPartOf}
 use Rattle.ds_feed.specs.declared.cursor.Cursor.{Cursor}
 use Rattle.ds_feed.specs.Feed.{Feed, from}
 use Rattle.ds_feed.specs.Since.{prefix, piece, since_of}
-use Rattle.ds_feed.specs.Page.{page_of, still_to_come, floors_of, changes_of, is_behind_key, is_floor}
+use Rattle.ds_feed.specs.Page.{page_of, still_to_come, floors_of, changes_of, is_after_key, is_floor}
 use Rattle.ds_names.specs.Limits.{most_items}
 use Rattle.ds_machine.specs.Scope.{is_kept}
 use Rattle.ds_machine.specs.Subscription.{Subscription, is_unseen}
@@ -103,7 +103,7 @@ module _ (s : State) (r : IsReached s) where
   page_gives : (test : Item → Bool) (after : Option Key) (max : ℕ) → IsPartOf (page_of test after max (held s) (cursor s)).items (held s)
   page_gives test after max i h =
       let come : List Item = still_to_come test after (held s) in
-      let still : IsPartOf come (held s) = λ j k. (Contains-from_filter test (held s) j (Contains-from_filter (is_behind_key after) (filter test (held s)) j k).0).0 in
+      let still : IsPartOf come (held s) = λ j k. (Contains-from_filter test (held s) j (Contains-from_filter (is_after_key after) (filter test (held s)) j k).0).0 in
       elim (Contains-append_cases (floors_of come) (take max (changes_of come)) i h) [
         | inl k ↦ still i (Contains-from_filter is_floor come i k).0
         | inr k ↦ still i (Contains-from_filter _ come i (Contains-from_take max (changes_of come) i k)).0

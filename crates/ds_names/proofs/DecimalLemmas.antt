@@ -125,12 +125,12 @@ none_there bytes ds n rest is lt h =
 -- Leading digits that are a decimal are the one at the front.
 pub there : (bytes ds : List ℕ) (n : ℕ) (rest : List ℕ) → ds ≡ take (prefix_len is_ascii_digit bytes) bytes → rest ≡ drop (prefix_len is_ascii_digit bytes) bytes
     → 0 < length ds → (get_or ds 0 0 ≡ 48 → length ds ≡ 1) → digits_value 10 ds < 2 ^ 64 → n ≡ digits_value 10 ds → Begins is_ascii_digit bytes (decimal n) rest
-there bytes ds n rest is behind some lead lt value =
+there bytes ds n rest is past some lead lt value =
     let parts = run_parts is_ascii_digit bytes in
     let digits : list_all is_ascii_digit ds ≡ true = rw is parts.0 in
     let same : decimal n ≡ ds = ap decimal value ∙ is_decimal ds digits some lead lt in
-    let whole : bytes ≡ ds ++ rest = rw (is, behind) (sym (take-append-drop (prefix_len is_ascii_digit bytes) bytes)) in
-    record { parts = whole ∙ ap (λ (t : List ℕ). t ++ rest) (sym same); ends = rw behind parts.1 }
+    let whole : bytes ≡ ds ++ rest = rw (is, past) (sym (take-append-drop (prefix_len is_ascii_digit bytes) bytes)) in
+    record { parts = whole ∙ ap (λ (t : List ℕ). t ++ rest) (sym same); ends = rw past parts.1 }
 
 -- Two decimals at the front are equal.
 pub decimal_one : (bytes : List ℕ) (m n : ℕ) (r s : List ℕ) → m < 2 ^ 64 → n < 2 ^ 64 → Begins is_ascii_digit bytes (decimal m) r → Begins is_ascii_digit bytes (decimal n) s → (m ≡ n) × (r ≡ s)
@@ -151,8 +151,8 @@ endpoint_one bytes a b r s va vb ha hb =
     let pa = endpoint_parts bytes a r ha in
     let pb = endpoint_parts bytes b s hb in
     let first = decimal_one bytes a.generation b.generation (47 ∷ (decimal a.slot ++ r)) (47 ∷ (decimal b.slot ++ s)) (omega (arith, va.generation)) (omega (arith, vb.generation)) pa.0 pb.0 in
-    let behind : decimal a.slot ++ r ≡ decimal b.slot ++ s = ap (drop 1) first.1 in
-    let second = decimal_one (decimal b.slot ++ s) a.slot b.slot r s (omega (arith, va.slot)) (omega (arith, vb.slot)) (record { parts = sym behind; ends = ha.ends }) pb.1 in
+    let past : decimal a.slot ++ r ≡ decimal b.slot ++ s = ap (drop 1) first.1 in
+    let second = decimal_one (decimal b.slot ++ s) a.slot b.slot r s (omega (arith, va.slot)) (omega (arith, vb.slot)) (record { parts = sym past; ends = ha.ends }) pb.1 in
     (ap (λ (p : ℕ × ℕ). record { generation = p.0; slot = p.1 }) (let e : (a.generation, a.slot) ≡ (b.generation, b.slot) = rw (first.0, second.0) refl in e), second.1)
 
 -- Two endpoints with one text are equal.

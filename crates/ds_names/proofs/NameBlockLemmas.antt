@@ -29,9 +29,9 @@ run_kept bytes block len run some most is =
     let good : list_all is_name_byte (take len bytes) ≡ true = rw run (run_parts is_name_byte bytes).0 in
     let name : IsName (take len bytes) = record { some = rw within some; limit = rw within most; allowed = good } in
     let front : take len block ≡ take len bytes = ap (take len) is ∙ take_at (take len bytes) (replicate (64 - len) 0) len within in
-    let behind : drop len block ≡ replicate (64 - len) 0 = ap (drop len) is ∙ drop_at (take len bytes) (replicate (64 - len) 0) len within in
+    let past : drop len block ≡ replicate (64 - len) 0 = ap (drop len) is ∙ drop_at (take len bytes) (replicate (64 - len) 0) len within in
     let long : length block ≡ 64 = ap length is ∙ length-append (take len bytes) (replicate (64 - len) 0) ∙ ap (λ (n : ℕ). length (take len bytes) + n) (length-replicate (64 - len) 0) ∙ omega (arith, within, most) in
-    (front, name, record { whole = long; fits = most; name = rw front name; zeros = behind })
+    (front, name, record { whole = long; fits = most; name = rw front name; zeros = past })
 
 -- The bytes begin with their leading run.
 pub run_begins : (bytes name : List ℕ) → name ≡ take (prefix_len is_name_byte bytes) bytes → Begins is_name_byte bytes name (drop (length name) bytes)

@@ -128,14 +128,14 @@ word_more xs ys n lt len_x len_y small_x small_y =
     let left_x : length (drop (8 * n) xs) ≡ 64 - 8 * n = length-drop (8 * n) xs ∙ omega (arith, len_x) in
     let left_y : length (drop (8 * n) ys) ≡ 64 - 8 * n = length-drop (8 * n) ys ∙ omega (arith, len_y) in
     let next : 8 * (n + 1) ≡ 8 * n + 8 = omega arith in
-    let behind : (zs : List ℕ) → drop (8 * (n + 1)) zs ≡ drop 8 (drop (8 * n) zs) = λ zs. ap (λ (k : ℕ). drop k zs) next ∙ sym (drop-drop 8 (8 * n) zs) in
+    let past : (zs : List ℕ) → drop (8 * (n + 1)) zs ≡ drop 8 (drop (8 * n) zs) = λ zs. ap (λ (k : ℕ). drop k zs) next ∙ sym (drop-drop 8 (8 * n) zs) in
     let spell_x = eight_spell (take 8 (drop (8 * n) xs)) (length-take-le 8 (drop (8 * n) xs) (omega (arith, left_x, lt))) in
     let spell_y = eight_spell (take 8 (drop (8 * n) ys)) (length-take-le 8 (drop (8 * n) ys) (omega (arith, left_y, lt))) in
     eight_more (drop (8 * n) xs) (drop (8 * n) ys) (omega (arith, left_x, lt)) (left_x ∙ sym left_y) (small_take 8 _ (small_drop (8 * n) xs small_x)) (small_take 8 _ (small_drop (8 * n) ys small_y))
     ∙ ap (λ (x : ℕ). ordering_then (nat_cmp x (spelled 0 (take 8 (drop (8 * n) ys)))) (slice_cmp nat_cmp (drop 8 (drop (8 * n) xs)) (drop 8 (drop (8 * n) ys)))) (sym spell_x)
     ∙ ap (λ (y : ℕ). ordering_then (nat_cmp (from_be_bytes w64 (take 8 (drop (8 * n) xs))) y) (slice_cmp nat_cmp (drop 8 (drop (8 * n) xs)) (drop 8 (drop (8 * n) ys)))) (sym spell_y)
-    ∙ ap (λ (r : List ℕ). ordering_then (nat_cmp (from_be_bytes w64 (take 8 (drop (8 * n) xs))) (from_be_bytes w64 (take 8 (drop (8 * n) ys)))) (slice_cmp nat_cmp r (drop 8 (drop (8 * n) ys)))) (sym (behind xs))
-    ∙ ap (λ (s : List ℕ). ordering_then (nat_cmp (from_be_bytes w64 (take 8 (drop (8 * n) xs))) (from_be_bytes w64 (take 8 (drop (8 * n) ys)))) (slice_cmp nat_cmp (drop (8 * (n + 1)) xs) s)) (sym (behind ys))
+    ∙ ap (λ (r : List ℕ). ordering_then (nat_cmp (from_be_bytes w64 (take 8 (drop (8 * n) xs))) (from_be_bytes w64 (take 8 (drop (8 * n) ys)))) (slice_cmp nat_cmp r (drop 8 (drop (8 * n) ys)))) (sym (past xs))
+    ∙ ap (λ (s : List ℕ). ordering_then (nat_cmp (from_be_bytes w64 (take 8 (drop (8 * n) xs))) (from_be_bytes w64 (take 8 (drop (8 * n) ys)))) (slice_cmp nat_cmp (drop (8 * (n + 1)) xs) s)) (sym (past ys))
 
 -- ---- zeros after names
 

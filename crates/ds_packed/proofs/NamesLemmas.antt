@@ -27,8 +27,8 @@ module _ (change : ChangeRecord) (old new : List ℕ) (n o : ℕ) (n_is : n ≡ 
       }
 
   -- The owner's name comes after the key's.
-  pub behind : new ≡ (old ++ name) ++ change.owner → AddsNames change (record { name = n; owner_from = n; owner = o }) old new
-  behind e =
+  pub past : new ≡ (old ++ name) ++ change.owner → AddsNames change (record { name = n; owner_from = n; owner = o }) old new
+  past e =
       let more : n ≤ n + o = omega arith in
       let all : length (name ++ change.owner) ≡ n + o = length-append name change.owner ∙ omega (arith, n_is, o_is) in
       record {

@@ -37,8 +37,8 @@ first_rows (suc n) names [] h = tt
 first_rows (suc n) names (r ∷ rs) h = (h.0, h.1, first_rows n (drop (row_length r) names) rs h.2)
 
 -- The rows after the first.
-rows_behind : (names : List ℕ) (r : Row) (rs : List Row) → AreRows names (r ∷ rs) → AreRows (drop (row_length r) names) rs
-rows_behind names r rs h = record {
+rows_after : (names : List ℕ) (r : Row) (rs : List Row) → AreRows names (r ∷ rs) → AreRows (drop (row_length r) names) rs
+rows_after names r rs h = record {
   there = h.there.2;
   whole = omega (arith, h.whole, h.there.0, length-drop (row_length r) names, sum_by-cons row_length r rs);
 }
@@ -78,7 +78,7 @@ rows_push names (r0 ∷ rs) r i new fit a is =
     let e = ap (λ ns. row_item ns r0) a.added ∙ row_item_front names a.names r0 fit.there.0 in
     let f = ap (drop (row_length r0)) a.added ∙ drop-append-le (row_length r0) names a.names fit.there.0 in
     let b : AddsRow i r (drop (row_length r0) names) (drop (row_length r0) new) = record { names = a.names; added = f; length_is = a.length_is; item_is = a.item_is } in
-    let p = rows_push (drop (row_length r0) names) rs r i (drop (row_length r0) new) (rows_behind names r0 rs fit) b is in
+    let p = rows_push (drop (row_length r0) names) rs r i (drop (row_length r0) new) (rows_after names r0 rs fit) b is in
     let l : length new ≡ length names + length a.names = ap length a.added ∙ length-append names a.names in
     record {
       items = ap (λ j. j ∷ unpacked (drop (row_length r0) new) (rs ++ r ∷ [])) e ∙ ap (λ js. row_item names r0 ∷ js) p.items;

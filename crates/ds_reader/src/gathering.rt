@@ -11,7 +11,7 @@ use ds_pattern::Query;
 use std::alloc::Global;
 
 // Moves on to the key of a change.
-fn go_behind_item(key: &mut Option<Key>, item: &Item)
+fn go_past_item(key: &mut Option<Key>, item: &Item)
     ensures { key.new ≡ last_key key.old (item.now ∷ []) }
 {
     match item {
@@ -21,12 +21,12 @@ fn go_behind_item(key: &mut Option<Key>, item: &Item)
 }
 
 /// Moves on to the key of the last change among the items, if there is one.
-pub fn go_behind(key: &mut Option<Key>, items: &Items)
+pub fn go_past(key: &mut Option<Key>, items: &Items)
     ensures { key.new ≡ last_key key.old items.now }
 {
     for index in 0..items.len() {
         if let Some(item) = items.get(index) {
-            go_behind_item(key, item);
+            go_past_item(key, item);
         }
     }
 }

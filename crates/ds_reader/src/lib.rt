@@ -18,7 +18,7 @@ mod reading;
 pub use asks::Asks;
 pub use checks::read_by_checks;
 pub use fault::ReadFault;
-pub use gathering::go_behind;
+pub use gathering::go_past;
 pub use others::{Among, Others};
 pub use pages::read_by_pages;
 pub use reading::Reading;

@@ -10,7 +10,7 @@ ghost use Rattle.ds_reader.specs.ReadWhole.{AreRead, IsReadWhole};
 use crate::asking::{page, since};
 use crate::asks::Asks;
 use crate::fault::ReadFault;
-use crate::gathering::{go_behind, scope_of};
+use crate::gathering::{go_past, scope_of};
 use crate::known::laws;
 use crate::reading::Reading;
 use ds_entry::Items;
@@ -80,7 +80,7 @@ pub fn read_by_pages<A: Asks>(
             catch_up(alloc, asked, reading, first, &mut items)?;
             return Ok(items);
         }
-        go_behind(&mut after, &given.items);
+        go_past(&mut after, &given.items);
         from = Some(first);
     }
     Err(ReadFault::Unfinished)

@@ -13,7 +13,7 @@ use Rattle.ds_feed.specs.declared.reading.Snapshot.{Snapshot as Snap}
 use Rattle.ds_feed.specs.declared.reading.Page.{Page as Leaf}
 use Rattle.ds_feed.specs.Feed.{from}
 use Rattle.ds_feed.specs.Since.{prefix, piece, since_of}
-use Rattle.ds_feed.specs.Page.{is_floor, is_behind_key, still_to_come, floors_of, changes_of, snapshot_of, page_of}
+use Rattle.ds_feed.specs.Page.{is_floor, is_after_key, still_to_come, floors_of, changes_of, snapshot_of, page_of}
 use Rattle.ds_machine.specs.Scope.{is_kept}
 use Rattle.ds_machine.specs.Subscription.{Subscription, is_unseen}
 use Rattle.ds_machine.specs.State.{State, held, cursor, unseen, subscription_at}
@@ -108,7 +108,7 @@ module _ (s : State) (r : IsReached s) where
       held_accepted x (Contains-from_filter (is_kept scope) (held s) x (subst (λ (l : List Item). Contains l x) (sym same) h)).0
 
   still_part : (test : Item → Bool) (after : Option Key) → IsPartOf (still_to_come test after (held s)) (held s)
-  still_part test after x h = (Contains-from_filter test (held s) x (Contains-from_filter (is_behind_key after) (filter test (held s)) x h).0).0
+  still_part test after x h = (Contains-from_filter test (held s) x (Contains-from_filter (is_after_key after) (filter test (held s)) x h).0).0
 
   page_part : (scope : Scope) (after : Option Key) (max : ℕ) (items : List Item) → items_given (paging s scope after max).0 ≡ Some items → IsPartOf items s.feed.accepted
   page_part scope after max items e x h =

@@ -53,10 +53,10 @@ record IsReached (f : Feed) (p : ℕ) : Type 0 where
 reached : (f : Feed) (at : Cursor) → fault_at f at ≡ None → IsReached f at.position
 reached f at e = by_tests (at.incarnation == f.incarnation) (nat_lt (position f) at.position) (nat_lt (at.position + min f.ring (length f.accepted)) (position f)) refl refl e
   where
-    by_tests : (same ahead behind : Bool) → nat_lt (position f) at.position ≡ ahead → nat_lt (at.position + min f.ring (length f.accepted)) (position f) ≡ behind →
-        cond (not same) (Some OldCursor) (cond ahead (Some Ahead) (cond behind (Some Behind) None)) ≡ None → IsReached f at.position
-    by_tests false ahead behind a b e = cc
-    by_tests true true behind a b e = cc
+    by_tests : (same ahead past : Bool) → nat_lt (position f) at.position ≡ ahead → nat_lt (at.position + min f.ring (length f.accepted)) (position f) ≡ past →
+        cond (not same) (Some OldCursor) (cond ahead (Some Ahead) (cond past (Some Behind) None)) ≡ None → IsReached f at.position
+    by_tests false ahead past a b e = cc
+    by_tests true true past a b e = cc
     by_tests true false true a b e = cc
     by_tests true false false a b e =
         let high : at.position ≤ position f = ltb-false (position f) at.position a in

@@ -144,10 +144,10 @@ reached_at : (f : Feed) (scope : Scope) (at : Cursor) (max : ℕ) → first_refu
 reached_at f scope at max e =
     let old = missing (against_since f scope at max) (by_command ++ by_room) refusals.OldCursor e (11, omega arith, refl) in
     let ahead = missing (against_since f scope at max) (by_command ++ by_room) refusals.Ahead e (12, omega arith, refl) in
-    let behind = missing (against_since f scope at max) (by_command ++ by_room) refusals.Behind e (13, omega arith, refl) in
+    let past = missing (against_since f scope at max) (by_command ++ by_room) refusals.Behind e (13, omega arith, refl) in
     ap (λ (b : Bool). cond b (Some faults.OldCursor) (cond (nat_lt (position f) at.position) (Some faults.Ahead) (cond (nat_lt (at.position + min f.ring (length f.accepted)) (position f)) (Some faults.Behind) None))) old
     ∙ (ap (λ (b : Bool). cond b (Some faults.Ahead) (cond (nat_lt (at.position + min f.ring (length f.accepted)) (position f)) (Some faults.Behind) None)) ahead
-    ∙ ap (λ (b : Bool). cond b (Some faults.Behind) None) behind)
+    ∙ ap (λ (b : Bool). cond b (Some faults.Behind) None) past)
 
 nothing_stands : (s : State) (o : Option Refusal) (reply : Reply) (items : List Item) → items_given (option_map_or {U = Reply × State} (λ f. (Refused f, s)) o (reply, s)).0 ≡ Some items → o ≡ None
 nothing_stands s None reply items e = refl
@@ -183,29 +183,29 @@ since_extends account w late side scope query at max k events items h keep whole
     )
 
 -- ---- pages
-page_turn : (account : Account) (side : Side) (scope : Scope) (behind : Option Key) (max : ℕ) → PageTurn
-page_turn account side scope behind max = record {
+page_turn : (account : Account) (side : Side) (scope : Scope) (past : Option Key) (max : ℕ) → PageTurn
+page_turn account side scope past max = record {
   feed = feed_of account side;
   known = (store_of account side).known;
   held = held (store_of account side).state;
   max = max;
-  page = page_of (is_kept scope) behind max (held (store_of account side).state) (cursor (store_of account side).state);
+  page = page_of (is_kept scope) past max (held (store_of account side).state) (cursor (store_of account side).state);
 }
 
 pub page_is_turn : PageIsTurn
 unfolding page_turn
-page_is_turn account w late side scope behind max k events h =
+page_is_turn account w late side scope past max k events h =
     let a = store_of account side in
     let own = own_fits account w side h.fits in
-    let g = gave account w late side (Page scope behind max) k events h in
-    let left = still_to_come (is_kept scope) behind (held a.state) in
-    let same = given_unless a.state own.reached (first_refusal (against_page scope max)) (Paged (page_of (is_kept scope) behind max (held a.state) (cursor a.state)))
+    let g = gave account w late side (Page scope past max) k events h in
+    let left = still_to_come (is_kept scope) past (held a.state) in
+    let same = given_unless a.state own.reached (first_refusal (against_page scope max)) (Paged (page_of (is_kept scope) past max (held a.state) (cursor a.state)))
     (floors_of left ++ take max (changes_of left)) g.items refl g.given_is in (
-      page_turn account side scope behind max,
+      page_turn account side scope past max,
       refl,
       refl,
-      record { front = front account w late side (Page scope behind max) k events h; knows = own.accepted; top = held_is_top a.state own.reached; given = refl },
-      subst (λ (l : List Item). IsMessage (account_after account side (Page scope behind max) k events) k (given a.known l)) (sym same) g.message,
+      record { front = front account w late side (Page scope past max) k events h; knows = own.accepted; top = held_is_top a.state own.reached; given = refl },
+      subst (λ (l : List Item). IsMessage (account_after account side (Page scope past max) k events) k (given a.known l)) (sym same) g.message,
     )
 
 -- ---- checks

@@ -24,7 +24,7 @@ use Rattle.ds_entry.proofs.ItemLemmas.{covers-refl, covers-trans, covers-query}
 use Rattle.ds_feed.specs.declared.cursor.Cursor.{Cursor}
 use Rattle.ds_feed.specs.declared.reading.Page.{Page}
 use Rattle.ds_feed.specs.Feed.{Feed, position}
-use Rattle.ds_feed.specs.Page.{is_floor, is_behind_key, still_to_come, floors_of, changes_of}
+use Rattle.ds_feed.specs.Page.{is_floor, is_after_key, still_to_come, floors_of, changes_of}
 use Rattle.ds_replica.specs.Sent.{given, stood_for}
 use Rattle.ds_replica.specs.Front.{IsFront}
 use Rattle.ds_replica.specs.Whole.{before}
@@ -38,23 +38,23 @@ use Rattle.ds_replica.proofs.JournalLemmas.{front_is, front_part, journal_covers
 -- ---- after a key
 
 -- What comes after the first n changes of an ordered list comes after the last key of these.
-drop_behind : (after : Option Key) (xs : List Item) (n : ℕ) (d : ChangeRecord) → IsStrictlySortedBy item_cmp xs → ((i : Item) → In i xs → is_behind_key after i ≡ true) →
-    In (Changed d) (drop n xs) → is_behind_key (last_key after (take n xs)) (Changed d) ≡ true
+drop_after : (after : Option Key) (xs : List Item) (n : ℕ) (d : ChangeRecord) → IsStrictlySortedBy item_cmp xs → ((i : Item) → In i xs → is_after_key after i ≡ true) →
+    In (Changed d) (drop n xs) → is_after_key (last_key after (take n xs)) (Changed d) ≡ true
 unfolding IsStrictlySortedBy
-drop_behind after [] zero d s f h = absurd h
-drop_behind after [] (suc n) d s f h = absurd h
-drop_behind after (x ∷ xs) zero d s f h = f (Changed d) h
-drop_behind after (Changed x ∷ xs) (suc n) d s f h = drop_behind (Some x.key) xs n d s.1 (λ i k. below xs i s.0 k) h
+drop_after after [] zero d s f h = absurd h
+drop_after after [] (suc n) d s f h = absurd h
+drop_after after (x ∷ xs) zero d s f h = f (Changed d) h
+drop_after after (Changed x ∷ xs) (suc n) d s f h = drop_after (Some x.key) xs n d s.1 (λ i k. below xs i s.0 k) h
   where
-    here : (i : Item) → item_cmp (Changed x) i ≡ Less → is_behind_key (Some x.key) i ≡ true
+    here : (i : Item) → item_cmp (Changed x) i ≡ Less → is_after_key (Some x.key) i ≡ true
     here (Changed c) e = ap is_lt e
     here (Floored g) e = cc
 
-    below : (ys : List Item) (i : Item) → AllByRecursion (λ y. item_cmp (Changed x) y ≡ Less) ys → In i ys → is_behind_key (Some x.key) i ≡ true
+    below : (ys : List Item) (i : Item) → AllByRecursion (λ y. item_cmp (Changed x) y ≡ Less) ys → In i ys → is_after_key (Some x.key) i ≡ true
     below [] i a k = absurd k
     below (y ∷ ys) i a (inl e) = here i (subst (λ (z : Item). item_cmp (Changed x) z ≡ Less) (sym e) a.0)
     below (y ∷ ys) i a (inr k) = below ys i a.1 k
-drop_behind after (Floored x ∷ xs) (suc n) d s f h = drop_behind after xs n d s.1 (λ i k. f i (inr k)) h
+drop_after after (Floored x ∷ xs) (suc n) d s f h = drop_after after xs n d s.1 (λ i k. f i (inr k)) h
 
 -- Floors have no key.
 floors_give_none : (after : Option Key) (xs ys : List Item) → last_key after (floors_of xs ++ ys) ≡ last_key after ys
@@ -63,9 +63,9 @@ floors_give_none after (Changed c ∷ xs) ys = floors_give_none after xs ys
 floors_give_none after (Floored f ∷ xs) ys = floors_give_none after xs ys
 
 -- The other change of the key is after the same keys.
-same_behind : (after : Option Key) (c d : ChangeRecord) → d.key ≡ c.key → is_behind_key after (Changed c) ≡ true → is_behind_key after (Changed d) ≡ true
-same_behind None c d e h = refl
-same_behind (Some a) c d e h = subst (λ (k : Key). is_lt (key_cmp a k) ≡ true) (sym e) h
+same_after : (after : Option Key) (c d : ChangeRecord) → d.key ≡ c.key → is_after_key after (Changed c) ≡ true → is_after_key after (Changed d) ≡ true
+same_after None c d e h = refl
+same_after (Some a) c d e h = subst (λ (k : Key). is_lt (key_cmp a k) ≡ true) (sym e) h
 
 -- ---- one page
 
@@ -93,42 +93,42 @@ module _ (f : Feed) (scope : Key → Bool) (after : Option Key) (t : PageTurn) (
   in_order : IsStrictlySortedBy item_cmp changes
   in_order =
       IsStrictlySortedBy-filter item_cmp (λ i. not (is_floor i)) rest
-      (IsStrictlySortedBy-filter item_cmp (is_behind_key after) (filter (passes scope) t.held) (IsStrictlySortedBy-filter item_cmp (passes scope) t.held s.top.in_order))
+      (IsStrictlySortedBy-filter item_cmp (is_after_key after) (filter (passes scope) t.held) (IsStrictlySortedBy-filter item_cmp (passes scope) t.held s.top.in_order))
 
-  all_behind : (i : Item) → In i changes → is_behind_key after i ≡ true
-  all_behind i h =
+  all_after : (i : Item) → In i changes → is_after_key after i ≡ true
+  all_after i h =
       let k = Contains-from_filter (λ (j : Item). not (is_floor j)) rest i (Contains-from_In i changes h) in
-      (Contains-from_filter (is_behind_key after) (filter (passes scope) t.held) i k.0).1
+      (Contains-from_filter (is_after_key after) (filter (passes scope) t.held) i k.0).1
 
-  to_come : (i : Item) → Contains t.held i → passes scope i ≡ true → is_behind_key after i ≡ true → Contains rest i
-  to_come i h p b = Contains-filter (is_behind_key after) (filter (passes scope) t.held) i (Contains-filter (passes scope) t.held i h p) b
+  to_come : (i : Item) → Contains t.held i → passes scope i ≡ true → is_after_key after i ≡ true → Contains rest i
+  to_come i h p b = Contains-filter (is_after_key after) (filter (passes scope) t.held) i (Contains-filter (passes scope) t.held i h p) b
 
   taken : (i : Item) → Contains (take t.max changes) i → Contains t.page.items i
   taken i h = subst (λ (l : List Item). Contains l i) (sym items_are) (Contains-append_right (floors_of rest) (take t.max changes) i h)
 
   -- A held change is on the page, or after its last key if more pages follow.
-  pub on_page : (d : ChangeRecord) → Contains t.held (Changed d) → passes scope (Changed d) ≡ true → is_behind_key after (Changed d) ≡ true →
-      Contains t.page.items (Changed d) ⊎ ((t.page.last ≡ false) × (is_behind_key (last_key after t.page.items) (Changed d) ≡ true))
+  pub on_page : (d : ChangeRecord) → Contains t.held (Changed d) → passes scope (Changed d) ≡ true → is_after_key after (Changed d) ≡ true →
+      Contains t.page.items (Changed d) ⊎ ((t.page.last ≡ false) × (is_after_key (last_key after t.page.items) (Changed d) ≡ true))
   on_page d h p b =
       by_place (Contains-append_cases (take t.max changes) (drop t.max changes) (Changed d)
       (subst (λ (l : List Item). Contains l (Changed d)) (sym (take-append-drop t.max changes)) (Contains-filter (λ (j : Item). not (is_floor j)) rest (Changed d) (to_come (Changed d) h p b) refl)))
     where
-      behind : Contains (drop t.max changes) (Changed d) → is_behind_key (last_key after t.page.items) (Changed d) ≡ true
-      behind k =
+      past : Contains (drop t.max changes) (Changed d) → is_after_key (last_key after t.page.items) (Changed d) ≡ true
+      past k =
           let key : last_key after t.page.items ≡ last_key after (take t.max changes) = ap (last_key after) items_are ∙ floors_give_none after rest (take t.max changes) in
-          ap (λ (o : Option Key). is_behind_key o (Changed d)) key ∙ drop_behind after changes t.max d in_order all_behind (In-from_Contains (Changed d) (drop t.max changes) k)
+          ap (λ (o : Option Key). is_after_key o (Changed d)) key ∙ drop_after after changes t.max d in_order all_after (In-from_Contains (Changed d) (drop t.max changes) k)
 
-      at_end : (b : Bool) → t.page.last ≡ b → Contains (drop t.max changes) (Changed d) → Contains t.page.items (Changed d) ⊎ ((t.page.last ≡ false) × (is_behind_key (last_key after t.page.items) (Changed d) ≡ true))
-      at_end false e k = inr (e, behind k)
+      at_end : (b : Bool) → t.page.last ≡ b → Contains (drop t.max changes) (Changed d) → Contains t.page.items (Changed d) ⊎ ((t.page.last ≡ false) × (is_after_key (last_key after t.page.items) (Changed d) ≡ true))
+      at_end false e k = inr (e, past k)
       at_end true e k =
           let few : length changes ≤ t.max = leb-true (length changes) t.max (sym last_is ∙ e) in
           inl (taken (Changed d) (subst (λ (l : List Item). Contains l (Changed d)) (sym (take_all t.max changes few)) (Contains-from_drop t.max changes (Changed d) k)))
 
-      by_place : Contains (take t.max changes) (Changed d) ⊎ Contains (drop t.max changes) (Changed d) → Contains t.page.items (Changed d) ⊎ ((t.page.last ≡ false) × (is_behind_key (last_key after t.page.items) (Changed d) ≡ true))
+      by_place : Contains (take t.max changes) (Changed d) ⊎ Contains (drop t.max changes) (Changed d) → Contains t.page.items (Changed d) ⊎ ((t.page.last ≡ false) × (is_after_key (last_key after t.page.items) (Changed d) ≡ true))
       by_place (inl k) = inl (taken (Changed d) k)
       by_place (inr k) = at_end t.page.last refl k
 
-  floor_to_come : (g : Floor) → is_behind_key after (Floored g) ≡ true → Contains t.held (Floored g) → Contains t.page.items (Floored g)
+  floor_to_come : (g : Floor) → is_after_key after (Floored g) ≡ true → Contains t.held (Floored g) → Contains t.page.items (Floored g)
   floor_to_come g b h =
       subst (λ (l : List Item). Contains l (Floored g)) (sym items_are)
       (Contains-append_left (floors_of rest) (take t.max changes) (Floored g) (Contains-filter is_floor rest (Floored g) (to_come (Floored g) h refl b) refl))
@@ -169,7 +169,7 @@ module _ (f : Feed) (scope : Key → Bool) where
 
   -- The pages after a key stand for each change after it that took effect before them, unless a floor covers it by then.
   pages_stand : (after : Option Key) (p : ℕ) (at : Cursor) (ts : List PageTurn) → ArePages f scope after p ts → (b : Feed) (c : ChangeRecord) → IsFront b f → position b ≤ p → Contains b.accepted (Changed c) →
-      passes scope (Changed c) ≡ true → is_behind_key after (Changed c) ≡ true → Contains (stood_for (page_items ts)) (Changed c) ⊎ IsFloored f (last_cursor at ts).position (Changed c)
+      passes scope (Changed c) ≡ true → is_after_key after (Changed c) ≡ true → Contains (stood_for (page_items ts)) (Changed c) ⊎ IsFloored f (last_cursor at ts).position (Changed c)
   pages_stand after p at [] w b c front early h q r = absurd w
   pages_stand after p at (t ∷ ts) w b c front early h q r =
       let d = w.0.top.greatest (Changed c) accepted in
@@ -191,27 +191,27 @@ module _ (f : Feed) (scope : Key → Bool) where
       next true e n v = cc
       next false e n v = subst (λ (b : Bool). MatchBool b (ts ≡ []) (ArePages f scope (last_key after t.page.items) t.page.cursor.position ts)) e v
 
-      on_or_behind : (d : ChangeRecord) → covers (Changed d) (Changed c) ≡ true →
-          Contains t.page.items (Changed d) ⊎ ((t.page.last ≡ false) × (is_behind_key (last_key after t.page.items) (Changed d) ≡ true)) →
-          (ArePages f scope (last_key after t.page.items) t.page.cursor.position ts → is_behind_key (last_key after t.page.items) (Changed c) ≡ true →
+      on_or_after : (d : ChangeRecord) → covers (Changed d) (Changed c) ≡ true →
+          Contains t.page.items (Changed d) ⊎ ((t.page.last ≡ false) × (is_after_key (last_key after t.page.items) (Changed d) ≡ true)) →
+          (ArePages f scope (last_key after t.page.items) t.page.cursor.position ts → is_after_key (last_key after t.page.items) (Changed c) ≡ true →
           Contains (stood_for (page_items ts)) (Changed c) ⊎ IsFloored f (last_cursor t.page.cursor ts).position (Changed c)) →
           Contains (stood_for (page_items (t ∷ ts))) (Changed c) ⊎ IsFloored f (last_cursor t.page.cursor ts).position (Changed c)
-      on_or_behind d e (inl k) more = inl (here (Changed d) e k)
-      on_or_behind d e (inr k) more =
-          elim (more (next t.page.last refl k.0 w.2) (same_behind (last_key after t.page.items) d c (covers-key d c e) k.1)) [
+      on_or_after d e (inl k) more = inl (here (Changed d) e k)
+      on_or_after d e (inr k) more =
+          elim (more (next t.page.last refl k.0 w.2) (same_after (last_key after t.page.items) d c (covers-key d c e) k.1)) [
             | inl l ↦ inl (stood_right (given t.known t.page.items) (page_items ts) (Changed c) l)
             | inr l ↦ inr l
           ]
 
       over : (d : Item) → Contains t.held d → covers d (Changed c) ≡ true →
-          (ArePages f scope (last_key after t.page.items) t.page.cursor.position ts → is_behind_key (last_key after t.page.items) (Changed c) ≡ true →
+          (ArePages f scope (last_key after t.page.items) t.page.cursor.position ts → is_after_key (last_key after t.page.items) (Changed c) ≡ true →
           Contains (stood_for (page_items ts)) (Changed c) ⊎ IsFloored f (last_cursor t.page.cursor ts).position (Changed c)) →
           Contains (stood_for (page_items (t ∷ ts))) (Changed c) ⊎ IsFloored f (last_cursor t.page.cursor ts).position (Changed c)
       over (Floored g) k e more =
           let there : Contains (before f t.page.cursor.position) (Floored g) = subst (λ (l : List Item). Contains l (Floored g)) (sym (page_front f scope after t w.0)) (w.0.top.among (Floored g) k) in
           inr (g, before_part f t.page.cursor.position (last_cursor t.page.cursor ts).position (rises t (last_key after t.page.items) ts w.2) (Floored g) there, e)
       over (Changed d) k e more =
-          on_or_behind d e (on_page f scope after t w.0 d k (covers-query scope (Changed d) (Changed c) e q) (same_behind after c d (sym (covers-key d c e)) r)) more
+          on_or_after d e (on_page f scope after t w.0 d k (covers-query scope (Changed d) (Changed c) e q) (same_after after c d (sym (covers-key d c e)) r)) more
 
 -- No page's cursor is past the store's position.
 front_within : (f late : Feed) → IsFront f late → position f ≤ position late

@@ -69,10 +69,10 @@ SinceIsTurn =
 -- A law: so is a page message, for the store's state when the page was read.
 abbrev pub PageIsTurn : Type 0
 PageIsTurn =
-    (account : Account) (w late : World) (side : Side) (scope : Scope) (behind : Option Key) (max k : ℕ) (events : List (Event × Outcome)) →
-    IsAsked account w side (Page scope behind max) k events late →
-    let now = account_after account side (Page scope behind max) k events in
-    (t : PageTurn) × (t.max ≡ max) × (t.feed ≡ feed_of account side) × IsPageTurn (feed_of now side) (keeps scope) behind t ×
+    (account : Account) (w late : World) (side : Side) (scope : Scope) (past : Option Key) (max k : ℕ) (events : List (Event × Outcome)) →
+    IsAsked account w side (Page scope past max) k events late →
+    let now = account_after account side (Page scope past max) k events in
+    (t : PageTurn) × (t.max ≡ max) × (t.feed ≡ feed_of account side) × IsPageTurn (feed_of now side) (keeps scope) past t ×
     IsMessage now k (given t.known t.page.items)
 
 -- A law: items that are whole up to a cursor, with a journal message from that cursor under a scope that has all of the

@@ -41,14 +41,14 @@ offer_line before bytes command read none = refl
 
 -- ---- the first line, and those after it
 
-pub line_behind : (before : ℕ) (bytes : List ℕ) (result : Result ScriptCommand CommandFault) → (before ≡ 0 → ReadsAs IsCommand bytes result) → (before ≢ 0 → ReadsAs IsLater bytes result) → ReadsAs (MayStand before) bytes result
-line_behind zero bytes result first later = first refl
-line_behind (suc before) bytes result first later = later (λ none. omega (arith, none))
+pub line_after : (before : ℕ) (bytes : List ℕ) (result : Result ScriptCommand CommandFault) → (before ≡ 0 → ReadsAs IsCommand bytes result) → (before ≢ 0 → ReadsAs IsLater bytes result) → ReadsAs (MayStand before) bytes result
+line_after zero bytes result first later = first refl
+line_after (suc before) bytes result first later = later (λ none. omega (arith, none))
 
 -- what is read alike as a first and as a later line is read so after any number of lines
-pub read_behind : (before : ℕ) (bytes : List ℕ) (result : Result ScriptCommand CommandFault) → ReadsAs IsCommand bytes result → ReadsAs IsLater bytes result → ReadsAs (MayStand before) bytes result
-read_behind zero bytes result first later = first
-read_behind (suc before) bytes result first later = later
+pub read_after : (before : ℕ) (bytes : List ℕ) (result : Result ScriptCommand CommandFault) → ReadsAs IsCommand bytes result → ReadsAs IsLater bytes result → ReadsAs (MayStand before) bytes result
+read_after zero bytes result first later = first
+read_after (suc before) bytes result first later = later
 
 -- the item that is in the place is the one that is offered
 pub offered_item : (Answers : Result ScriptCommand CommandFault → Type 0) (placed : Option Item) (i : Item) → placed ≡ Some i → OfPlaced CommandFault Answers (Ok tt) placed → Answers (Ok (Offer i))
@@ -60,39 +60,39 @@ short_text : (bytes text : List ℕ) → length bytes ≤ 4097 → bytes ≡ wit
 short_text bytes text short is = omega (arith, short, ap length is, length-append text (10 ∷ []))
 
 -- a command's line is answered as the command is
-pub answered_behind : (before : ℕ) (bytes out : List ℕ) (command : ScriptCommand) (old new : SessionContent) → length bytes ≤ 4097
+pub answered_after : (before : ℕ) (bytes out : List ℕ) (command : ScriptCommand) (old new : SessionContent) → length bytes ≤ 4097
     → ReadsAs (MayStand before) bytes (Ok command) → AnswersOrRefuses command old out new
     → (text : List ℕ) → bytes ≡ with_newline text → AnswersLine before old text out new
-answered_behind before bytes out command old new short read answers text is =
+answered_after before bytes out command old new short read answers text is =
     (command, record { written = read.0; text = sym is ∙ read.1; short = short_text bytes text short is }, answers)
 
 -- if memory runs out, it is refused
-pub refused_behind : (before : ℕ) (bytes : List ℕ) (session : SessionContent) → length bytes ≤ 4097
+pub refused_after : (before : ℕ) (bytes : List ℕ) (session : SessionContent) → length bytes ≤ 4097
     → ReadsAs (MayStand before) bytes (Err NoRoom)
     → (text : List ℕ) → bytes ≡ with_newline text → AnswersLine before session text refused_noroom session
-refused_behind before bytes session short read text is =
+refused_after before bytes session short read text is =
     (read.0, record { written = read.1; text = sym is ∙ read.2; short = short_text bytes text short is }, inl (memory_room read.0 session read.3, (refl, refl)))
 
 -- a line that isn't a command is bad
-pub bad_behind : (before : ℕ) (bad : CommandFault) (bytes text : List ℕ) → length bytes ≤ 4097 → bytes ≡ with_newline text
+pub bad_after : (before : ℕ) (bad : CommandFault) (bytes text : List ℕ) → length bytes ≤ 4097 → bytes ≡ with_newline text
     → ReadsAs (MayStand before) bytes (Err bad) → IsUnendedFault before bad text
-bad_behind before (BadLine place expected) bytes text short is fault =
+bad_after before (BadLine place expected) bytes text short is fault =
     inr (short_text bytes text short is, subst (λ (b : List ℕ). IsFaultAmong (MayStand before) b place) is fault)
-bad_behind before NoRoom bytes text short is fault = tt
+bad_after before NoRoom bytes text short is fault = tt
 
 -- a line of which no command was read is refused if memory ran out
-pub unread_behind : (before : ℕ) (bytes had has : List ℕ) (fault : CommandFault) (session : SessionContent) → length bytes ≤ 4097
+pub unread_after : (before : ℕ) (bytes had has : List ℕ) (fault : CommandFault) (session : SessionContent) → length bytes ≤ 4097
     → ReadsAs (MayStand before) bytes (Err fault) → (fault ≡ NoRoom) × (has ≡ had ++ refused_noroom) → AppendsLine before bytes had has session session
-unread_behind before bytes had has fault session short read answered = (
+unread_after before bytes had has fault session short read answered = (
   refused_noroom,
   answered.1,
-  refused_behind before bytes session short (subst (λ (f : CommandFault). ReadsAs (MayStand before) bytes (Err f)) answered.0 read),
+  refused_after before bytes session short (subst (λ (f : CommandFault). ReadsAs (MayStand before) bytes (Err f)) answered.0 read),
 )
 
 -- or its fault is returned
 pub unread_fault : (before : ℕ) (fault told : CommandFault) (bytes : List ℕ) → length bytes ≤ 4097 → ReadsAs (MayStand before) bytes (Err fault) → told ≡ fault
     → (text : List ℕ) → bytes ≡ with_newline text → IsUnendedFault before told text
-unread_fault before fault told bytes short read same text is = subst (λ (f : CommandFault). IsUnendedFault before f text) (sym same) (bad_behind before fault bytes text short is read)
+unread_fault before fault told bytes short read same text is = subst (λ (f : CommandFault). IsUnendedFault before f text) (sym same) (bad_after before fault bytes text short is read)
 
 -- a session is kept by itself
 pub keeps : (fault : CommandFault) (session : SessionContent) → KeepsSession fault session session
@@ -100,9 +100,9 @@ keeps (BadLine place expected) session = refl
 keeps NoRoom session = tt
 
 -- the line of a command that is an event is answered as the event is, or refused
-pub event_behind : (before : ℕ) (bytes out : List ℕ) (command : ScriptCommand) (old new : SessionContent) → length bytes ≤ 4097
+pub event_after : (before : ℕ) (bytes out : List ℕ) (command : ScriptCommand) (old new : SessionContent) → length bytes ≤ 4097
     → ReadsAs IsCommand bytes (Ok command) → ReadsAs IsLater bytes (Ok command)
     → AnswersAsEvent command old out new ⊎ (AnswerTakesRoom command old × IsLineRefused old out new)
     → (text : List ℕ) → bytes ≡ with_newline text → AnswersLine before old text out new
-event_behind before bytes out command old new short first later answers =
-    answered_behind before bytes out command old new short (read_behind before bytes (Ok command) first later) (event_answers command old out new answers)
+event_after before bytes out command old new short first later answers =
+    answered_after before bytes out command old new short (read_after before bytes (Ok command) first later) (event_answers command old out new answers)

@@ -8,7 +8,7 @@ use Rattle.ds_script.specs.declared.report.BadLines.{BadLines}
 use Rattle.ds_script.specs.declared.report.BadLines.TheVariants.{End, GoOn}
 use Rattle.ds_script.specs.Session.{SessionContent}
 use Rattle.ds_script.specs.Answer.{AnswersLine}
-use Rattle.ds_script.specs.Replay.{IsBadBehind, badline, AnswersLines}
+use Rattle.ds_script.specs.Replay.{IsBadAfter, badline, AnswersLines}
 use Rattle.ds_script.specs.Progress.{Reached, TakesLines, EndsAtBad, TellsBad, LineStops}
 
 -- ---- results
@@ -36,8 +36,8 @@ none_first x y none = omega arith
 one_first : (a b n : ℕ) → a ≡ b + suc n → a ≡ suc b + n
 one_first a b n same = omega arith
 
-sum_behind : (a b c y : ℕ) → a ≡ b + c → a + y ≡ b + (c + y)
-sum_behind a b c y same = omega arith
+sum_after : (a b c y : ℕ) → a ≡ b + c → a + y ≡ b + (c + y)
+sum_after a b c y same = omega arith
 
 sums : (a b c x y : ℕ) → b ≡ a + x → c ≡ b + y → c ≡ a + (x + y)
 sums a b c x y first then = omega arith
@@ -48,15 +48,15 @@ lines_both : (policy q : BadLines) (n k x y : ℕ) (a b c : SessionContent) (ls 
     → q ≡ policy → k ≡ n + length ls → AnswersLines policy n a ls o x b → AnswersLines q k b ms p y c
     → AnswersLines policy n a (ls ++ ms) (o ++ p) (x + y) c
 lines_both policy q n k x y a b c [] ms o p same e u v =
-    let behind : k ≡ n = none_more k n e in
+    let past : k ≡ n = none_more k n e in
     let sum : y ≡ x + y = none_first x y u.1 in
     let v0 : AnswersLines policy k b ms p y c = subst (λ (r : BadLines). AnswersLines r k b ms p y c) same v in
-    let v1 : AnswersLines policy n b ms p y c = subst (λ (j : ℕ). AnswersLines policy j b ms p y c) behind v0 in
+    let v1 : AnswersLines policy n b ms p y c = subst (λ (j : ℕ). AnswersLines policy j b ms p y c) past v0 in
     let v2 : AnswersLines policy n a ms p y c = subst (λ (h : SessionContent). AnswersLines policy n h ms p y c) u.2 v1 in
     let v3 : AnswersLines policy n a ms p (x + y) c = subst (λ (z : ℕ). AnswersLines policy n a ms p z c) sum v2 in
     subst (λ (t : List ℕ). AnswersLines policy n a ms (t ++ p) (x + y) c) (sym u.0) v3
 lines_both policy q n k x y a b c (l ∷ ls) ms o p same e u v =
-    (u.0, u.1, u.2 ++ p, u.3, u.4 + y, u.5, lines_both policy q (suc n) k u.4 y u.0 b c ls ms u.2 p same (one_first k n (length ls) e) u.6 v, ap (λ t. t ++ p) u.7 ∙ append_assoc u.1 u.2 p, sum_behind x u.3 u.4 y u.8)
+    (u.0, u.1, u.2 ++ p, u.3, u.4 + y, u.5, lines_both policy q (suc n) k u.4 y u.0 b c ls ms u.2 p same (one_first k n (length ls) e) u.6 v, ap (λ t. t ++ p) u.7 ∙ append_assoc u.1 u.2 p, sum_after x u.3 u.4 y u.8)
 
 -- ---- how far a replay has come
 
@@ -104,7 +104,7 @@ takes_line had old new out text grown line counted told policy =
 
 -- a bad one is passed over
 pub takes_bad : (had has : Option (List ℕ)) (old new : Reached) (number place : ℕ) (sent text : List ℕ)
-    → old.policy ≡ GoOn → IsBadBehind old.lines text place → number ≡ suc old.lines
+    → old.policy ≡ GoOn → IsBadAfter old.lines text place → number ≡ suc old.lines
     → old.waiting ++ badline number place ≡ sent ++ new.waiting
     → Appends had has sent
     → new.session ≡ old.session → new.lines ≡ old.lines + 1 → new.bad ≡ old.bad + 1 → new.policy ≡ old.policy → TakesLines had has old (text ∷ []) new
@@ -138,8 +138,8 @@ takes_then a b c old mid new ls ms p q =
     }
 
 -- then some of the answers are written
-pub takes_behind : (a b c : Option (List ℕ)) (old mid new : Reached) (ls : List (List ℕ)) → TakesLines a b old ls mid → TakesLines b c mid [] new → TakesLines a c old ls new
-takes_behind a b c old mid new ls p q = subst (λ (ms : List (List ℕ)). TakesLines a c old ms new) (append-nil ls) (takes_then a b c old mid new ls [] p q)
+pub takes_after : (a b c : Option (List ℕ)) (old mid new : Reached) (ls : List (List ℕ)) → TakesLines a b old ls mid → TakesLines b c mid [] new → TakesLines a c old ls new
+takes_after a b c old mid new ls p q = subst (λ (ms : List (List ℕ)). TakesLines a c old ms new) (append-nil ls) (takes_then a b c old mid new ls [] p q)
 
 -- no line is answered, so the count is the same
 pub same_count : (had has : Option (List ℕ)) (old new : Reached) → TakesLines had has old [] new → new.lines ≡ old.lines
@@ -149,17 +149,17 @@ same_count had has old new p = none_more new.lines old.lines p.counted
 
 -- a bad line ends the replay
 pub end_stops : (fault : ReplayFault) (had has : Option (List ℕ)) (old : Reached) (text output : List ℕ) (number place : ℕ)
-    → EndsAtBad fault number place had has old.waiting output → number ≡ suc old.lines → old.policy ≡ End → IsBadBehind old.lines text place
+    → EndsAtBad fault number place had has old.waiting output → number ≡ suc old.lines → old.policy ≡ End → IsBadAfter old.lines text place
     → LineStops fault had has old text output
 end_stops (BadLine n p expected) had has old text output number place e numbered ends bad =
-    (waits old output, takes_written had has old output e.2 e.3, ends, refl, subst (IsBadBehind old.lines text) (sym e.1) bad, e.0 ∙ numbered)
+    (waits old output, takes_written had has old output e.2 e.3, ends, refl, subst (IsBadAfter old.lines text) (sym e.1) bad, e.0 ∙ numbered)
 end_stops ReadFault had has old text output number place e numbered ends bad = absurd e
 end_stops WriteFault had has old text output number place e numbered ends bad = ([], waits old e.1, inl refl, takes_sent had has old e.0 e.1 e.2 e.3)
 end_stops NoRoom had has old text output number place e numbered ends bad = absurd e
 
 -- it isn't passed over
 pub pass_stops : (fault : ReplayFault) (had has : Option (List ℕ)) (old : Reached) (text output : List ℕ) (number place : ℕ)
-    → TellsBad fault number place had has old.waiting output → number ≡ suc old.lines → old.policy ≡ GoOn → IsBadBehind old.lines text place
+    → TellsBad fault number place had has old.waiting output → number ≡ suc old.lines → old.policy ≡ GoOn → IsBadAfter old.lines text place
     → LineStops fault had has old text output
 pass_stops (BadLine n p expected) had has old text output number place e numbered goes bad = absurd e
 pass_stops ReadFault had has old text output number place e numbered goes bad = absurd e
@@ -169,10 +169,10 @@ pass_stops WriteFault had has old text output number place e numbered goes bad =
 pass_stops NoRoom had has old text output number place e numbered goes bad = (waits old output, takes_sent had has old [] output (sym e.1) e.0, refl)
 
 -- answers were written before
-pub line_behind : (fault : ReplayFault) (a b c : Option (List ℕ)) (old mid : Reached) (text output : List ℕ) → TakesLines a b old [] mid → LineStops fault b c mid text output → LineStops fault a c old text output
-line_behind (BadLine number place expected) a b c old mid text output p s =
+pub line_after : (fault : ReplayFault) (a b c : Option (List ℕ)) (old mid : Reached) (text output : List ℕ) → TakesLines a b old [] mid → LineStops fault b c mid text output → LineStops fault a c old text output
+line_after (BadLine number place expected) a b c old mid text output p s =
     let same : mid.lines ≡ old.lines = same_count a b old mid p in
-    (s.0, takes_then a b c old mid s.0 [] [] p s.1, s.2, s.3, subst (λ (n : ℕ). IsBadBehind n text place) same s.4, s.5 ∙ ap suc same)
-line_behind ReadFault a b c old mid text output p s = absurd s
-line_behind WriteFault a b c old mid text output p s = (s.0, s.1, s.2, takes_then a b c old mid s.1 [] s.0 p s.3)
-line_behind NoRoom a b c old mid text output p s = (s.0, takes_then a b c old mid s.0 [] [] p s.1, s.2)
+    (s.0, takes_then a b c old mid s.0 [] [] p s.1, s.2, s.3, subst (λ (n : ℕ). IsBadAfter n text place) same s.4, s.5 ∙ ap suc same)
+line_after ReadFault a b c old mid text output p s = absurd s
+line_after WriteFault a b c old mid text output p s = (s.0, s.1, s.2, takes_then a b c old mid s.1 [] s.0 p s.3)
+line_after NoRoom a b c old mid text output p s = (s.0, takes_then a b c old mid s.0 [] [] p s.1, s.2)

@@ -8,9 +8,9 @@ use Rattle.line_io.specs.Lines.{IsUnbroken, joined, unended, with_newline}
 use Rattle.ds_script.specs.declared.fault.ReplayFault.{ReplayFault}
 use Rattle.ds_script.specs.declared.fault.ReplayFault.TheVariants.{BadLine, ReadFault, WriteFault, NoRoom}
 use Rattle.ds_script.specs.declared.report.BadLines.TheVariants.{End}
-use Rattle.ds_script.specs.Replay.{IsBadBehind}
+use Rattle.ds_script.specs.Replay.{IsBadAfter}
 use Rattle.ds_script.specs.Progress.{Reached, TakesLines, TakesText, EndsAtBad, LineStops, TextStops, LastStops, Turns, TurnStops}
-use Rattle.ds_script.proofs.ProgressLemmas.{waits, takes_sent, takes_written, takes_none, takes_then, takes_behind, same_count}
+use Rattle.ds_script.proofs.ProgressLemmas.{waits, takes_sent, takes_written, takes_none, takes_then, takes_after, same_count}
 
 -- ---- lines of a text
 
@@ -43,7 +43,7 @@ text_more a b c old mid new text rest line more l p split is unbroken one =
 
 -- answers are written, and no line is answered
 pub text_sent : (a b c : Option (List ℕ)) (old mid new : Reached) (text rest : List ℕ) → TakesText a b old text mid rest → TakesLines b c mid [] new → TakesText a c old text new rest
-text_sent a b c old mid new text rest p sent = record { lines = p.lines; split = p.split; unbroken = p.unbroken; takes = takes_behind a b c old mid new p.lines p.takes sent }
+text_sent a b c old mid new text rest p sent = record { lines = p.lines; split = p.split; unbroken = p.unbroken; takes = takes_after a b c old mid new p.lines p.takes sent }
 
 -- the lines of a text, and then those of its rest with what was read after it
 pub texts_then : (a b c : Option (List ℕ)) (old mid new : Reached) (text rest bytes more whole last : List ℕ)
@@ -68,8 +68,8 @@ text_kept {W} contents a b d old mid new text rest last p same held left =
     subst (λ (w : W). TakesText a (contents w) old text new last) (sym held) two
 
 -- the answers that waited are written before
-pub text_behind : (a b c : Option (List ℕ)) (old mid new : Reached) (text rest : List ℕ) → TakesLines a b old [] mid → TakesText b c mid text new rest → TakesText a c old text new rest
-text_behind a b c old mid new text rest p q = record { lines = q.lines; split = q.split; unbroken = q.unbroken; takes = takes_then a b c old mid new [] q.lines p q.takes }
+pub text_after : (a b c : Option (List ℕ)) (old mid new : Reached) (text rest : List ℕ) → TakesLines a b old [] mid → TakesText b c mid text new rest → TakesText a c old text new rest
+text_after a b c old mid new text rest p q = record { lines = q.lines; split = q.split; unbroken = q.unbroken; takes = takes_then a b c old mid new [] q.lines p q.takes }
 
 -- ---- a text whose lines aren't all answered
 
@@ -90,7 +90,7 @@ line_stops (BadLine number place expected) to a b c old mid text rest line more 
           more = 10 ∷ more;
           split = split ∙ ap (λ t. t ++ more) is ∙ append_assoc l (10 ∷ []) more;
           unbroken = unbroken;
-          bad = subst (λ (n : ℕ). IsBadBehind n l place) (sym same) s.4;
+          bad = subst (λ (n : ℕ). IsBadAfter n l place) (sym same) s.4;
           ends = inl (more, refl);
         },
         s.5 ∙ ap suc (sym same),
@@ -110,8 +110,8 @@ pub stops_then : (fault : ReplayFault) (to a b c : Option (List ℕ)) (old mid :
     → TextStops fault to a c old whole output
 stops_then fault to a b c old mid text rest bytes more whole output p left all s = (s.0, s.1, texts_then a b c old mid s.0 text rest bytes more whole s.1 p left all s.2, s.3)
 
-pub stops_behind : (fault : ReplayFault) (to a b c : Option (List ℕ)) (old mid : Reached) (text output : List ℕ) → TakesLines a b old [] mid → TextStops fault to b c mid text output → TextStops fault to a c old text output
-stops_behind fault to a b c old mid text output p s = (s.0, s.1, text_behind a b c old mid s.0 text s.1 p s.2, s.3)
+pub stops_after : (fault : ReplayFault) (to a b c : Option (List ℕ)) (old mid : Reached) (text output : List ℕ) → TakesLines a b old [] mid → TextStops fault to b c mid text output → TextStops fault to a c old text output
+stops_after fault to a b c old mid text output p s = (s.0, s.1, text_after a b c old mid s.0 text s.1 p s.2, s.3)
 
 -- a front of a line is too long
 pub overlong : (fault : ReplayFault) (to had has : Option (List ℕ)) (old : Reached) (front output : List ℕ) (number place : ℕ)
@@ -143,7 +143,7 @@ last_stops (BadLine number place expected) to had has old pending output s one u
       (
         s.2,
         s.3,
-        record { line = pending; more = []; split = sym (append-nil pending); unbroken = unbroken; bad = subst (λ (n : ℕ). IsBadBehind n pending place) (sym same) s.4; ends = inr (inl (refl, end)) },
+        record { line = pending; more = []; split = sym (append-nil pending); unbroken = unbroken; bad = subst (λ (n : ℕ). IsBadAfter n pending place) (sym same) s.4; ends = inr (inl (refl, end)) },
         s.5 ∙ ap suc (sym same),
       ),
     )
@@ -155,12 +155,12 @@ last_stops NoRoom to had has old pending output s one unbroken end = inl (s.0, p
 pub last_unsent : (to a b c : Option (List ℕ)) (old mid : Reached) (pending sent left output : List ℕ) (ls : List (List ℕ))
     → TakesLines a b old ls mid → (ls ≡ []) ⊎ (ls ≡ unended pending) → mid.waiting ≡ sent ++ left → Appends b c sent
     → LastStops WriteFault to a c old pending output
-last_unsent to a b c old mid pending sent left output ls p which split written = inr (refl, (ls, waits mid left, which, takes_behind a b c old mid (waits mid left) ls p (takes_sent b c mid sent left split written)))
+last_unsent to a b c old mid pending sent left output ls p which split written = inr (refl, (ls, waits mid left, which, takes_after a b c old mid (waits mid left) ls p (takes_sent b c mid sent left split written)))
 
-pub last_behind : (fault : ReplayFault) (to a b c : Option (List ℕ)) (old mid : Reached) (pending output : List ℕ) → TakesLines a b old [] mid → LastStops fault to b c mid pending output → LastStops fault to a c old pending output
-last_behind fault to a b c old mid pending output p s =
+pub last_after : (fault : ReplayFault) (to a b c : Option (List ℕ)) (old mid : Reached) (pending output : List ℕ) → TakesLines a b old [] mid → LastStops fault to b c mid pending output → LastStops fault to a c old pending output
+last_after fault to a b c old mid pending output p s =
     elim s [
-      | inl t ↦ inl (stops_behind fault to a b c old mid pending output p t)
+      | inl t ↦ inl (stops_after fault to a b c old mid pending output p t)
       | inr t ↦ inr (t.0, (t.1.0, t.1.1, t.1.2, takes_then a b c old mid t.1.1 [] t.1.0 p t.1.3))
     ]
 
@@ -211,14 +211,14 @@ turn_unsent from had has old pending sent left output split written =
     inl ([], Consumes-nil from, (waits old left, pending ++ [], text_none had has old (waits old left) (pending ++ []) (takes_sent had has old sent left split written), tt))
 
 -- answers were written before a turn
-pub turns_behind : (more : Bool) (from to a b c : Option (List ℕ)) (old mid new : Reached) (pending rest : List ℕ) → TakesLines a b old [] mid → Turns more from to b c mid pending new rest → Turns more from to a c old pending new rest
-turns_behind true from to a b c old mid new pending rest p t = (t.0, t.1, text_behind a b c old mid new (pending ++ t.0) rest p t.2, t.3)
-turns_behind false from to a b c old mid new pending rest p t = (t.0, t.1, takes_then a b c old mid new [] (unended pending) p t.2, t.3)
+pub turns_after : (more : Bool) (from to a b c : Option (List ℕ)) (old mid new : Reached) (pending rest : List ℕ) → TakesLines a b old [] mid → Turns more from to b c mid pending new rest → Turns more from to a c old pending new rest
+turns_after true from to a b c old mid new pending rest p t = (t.0, t.1, text_after a b c old mid new (pending ++ t.0) rest p t.2, t.3)
+turns_after false from to a b c old mid new pending rest p t = (t.0, t.1, takes_then a b c old mid new [] (unended pending) p t.2, t.3)
 
-pub turn_stops_behind : (fault : ReplayFault) (from to a b c : Option (List ℕ)) (old mid : Reached) (pending output : List ℕ)
+pub turn_stops_after : (fault : ReplayFault) (from to a b c : Option (List ℕ)) (old mid : Reached) (pending output : List ℕ)
     → TakesLines a b old [] mid → TurnStops fault from to b c mid pending output → TurnStops fault from to a c old pending output
-turn_stops_behind fault from to a b c old mid pending output p s =
+turn_stops_after fault from to a b c old mid pending output p s =
     elim s [
-      | inl t ↦ inl (t.0, t.1, stops_behind fault to a b c old mid (pending ++ t.0) output p t.2)
-      | inr t ↦ inr (t.0, t.1, last_behind fault to a b c old mid pending output p t.2)
+      | inl t ↦ inl (t.0, t.1, stops_after fault to a b c old mid (pending ++ t.0) output p t.2)
+      | inr t ↦ inr (t.0, t.1, last_after fault to a b c old mid pending output p t.2)
     ]

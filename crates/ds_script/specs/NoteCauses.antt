@@ -4,7 +4,7 @@ use Rattle.ds_script.specs.declared.fault.ReplayFault.{ReplayFault}
 use Rattle.ds_script.specs.declared.fault.ReplayFault.TheVariants.{ReadFault, WriteFault}
 use Rattle.line_io.specs.declared.streams.Source.{Ghosts as Reader}
 use Rattle.line_io.specs.declared.streams.Sink.{Ghosts as Writer}
-use Rattle.line_io.specs.Streams.{CallsLead, IsLastBehind, HasFailedWrite}
+use Rattle.line_io.specs.Streams.{CallsLead, IsLastAfter, HasFailedWrite}
 
 -- Whether one or more reads lead from the first state to the second.
 abbrev pub SomeReadsLead : {R : Type 0} → (reads : R → R → Type 0) → (old new : R) → Type 0
@@ -12,7 +12,7 @@ SomeReadsLead reads old new = (n : ℕ) × CallsLead reads (suc n) old new
 
 -- Whether the reads ended in a fault: only the last one failed, or at least `most` were made and none failed.
 abbrev pub EndsReading : {R : Type 0} → ℕ → (reads fails : R → R → Type 0) → (old new : R) → Type 0
-EndsReading most reads fails old new = (n : ℕ) × (IsLastBehind reads fails n old new ⊎ ((most ≤ n) × CallsLead reads n old new))
+EndsReading most reads fails old new = (n : ℕ) × (IsLastAfter reads fails n old new ⊎ ((most ≤ n) × CallsLead reads n old new))
 
 -- The cause of a fault. ReadFault comes only if a read of this call failed or at least 2^32 were made; WriteFault only
 -- if a write failed.

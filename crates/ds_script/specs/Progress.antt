@@ -12,7 +12,7 @@ use Rattle.ds_script.specs.declared.report.BadLines.{BadLines}
 use Rattle.ds_script.specs.declared.report.BadLines.TheVariants.{End}
 use Rattle.ds_script.specs.Session.{SessionContent}
 use Rattle.line_io.specs.Transfer.{WritesPart}
-use Rattle.ds_script.specs.Replay.{AnswersLines, IsBadBehind, BeginsBadLine, badline, StopsWith}
+use Rattle.ds_script.specs.Replay.{AnswersLines, IsBadAfter, BeginsBadLine, badline, StopsWith}
 
 -- The state of a replay: its session, the answers that wait to be written, the count of lines and of bad ones, and what
 -- it does at bad lines.
@@ -27,7 +27,7 @@ pub record Reached : Type 0 where
 
 -- Why a line after `before` others, without its newline, isn't answered.
 abbrev pub IsUnendedFault : ℕ → CommandFault → List ℕ → Type 0
-IsUnendedFault before (lines.BadLine place expected) text = IsBadBehind before text place
+IsUnendedFault before (lines.BadLine place expected) text = IsBadAfter before text place
 IsUnendedFault before lines.NoRoom text = Unit {0}
 
 -- A bad line leaves the session unchanged.
@@ -88,7 +88,7 @@ TakesNoneOrAll had has old whole =
 -- Whether a line, without its newline, isn't answered, or the writer failed after it.
 abbrev pub LineStops : ReplayFault → (had has : Option (List ℕ)) → Reached → List ℕ → (output : List ℕ) → Type 0
 LineStops (BadLine number place expected) had has old line output =
-    (mid : Reached) × TakesLines had has old [] mid × (mid.policy ≡ End) × (mid.waiting ≡ output) × IsBadBehind old.lines line place ×
+    (mid : Reached) × TakesLines had has old [] mid × (mid.policy ≡ End) × (mid.waiting ≡ output) × IsBadAfter old.lines line place ×
     (number ≡ suc old.lines)
 LineStops ReadFault had has old line output = ⊥
 LineStops WriteFault had has old line output = TakesNoneOrAll had has old (line ∷ [])

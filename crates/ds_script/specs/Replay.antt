@@ -13,8 +13,8 @@ use Rattle.ds_script.specs.Session.{SessionContent, IsOpened}
 use Rattle.ds_script.specs.Answer.{MayStand, AnswersLine}
 
 -- Whether the line, after `before` others, is bad at the place.
-abbrev pub IsBadBehind : ℕ → List ℕ → ℕ → Type 0
-IsBadBehind before line place = IsBadLineAs (MayStand before) line place
+abbrev pub IsBadAfter : ℕ → List ℕ → ℕ → Type 0
+IsBadAfter before line place = IsBadLineAs (MayStand before) line place
 
 -- The answer to a line that isn't a command: its number, from 1, and the place.
 abbrev pub badline : ℕ → ℕ → List ℕ
@@ -24,7 +24,7 @@ badline number place = with_newline (codes "badline " ++ (decimal number ++ 32 �
 -- counted.
 abbrev pub TellsBadLine : BadLines → ℕ → SessionContent → List ℕ → List ℕ → ℕ → SessionContent → Type 0
 TellsBadLine policy before old line out bad new =
-    (policy ≡ GoOn) × (new ≡ old) × (bad ≡ 1) × (place : ℕ) × IsBadBehind before line place × (out ≡ badline (suc before) place)
+    (policy ≡ GoOn) × (new ≡ old) × (bad ≡ 1) × (place : ℕ) × IsBadAfter before line place × (out ≡ badline (suc before) place)
 
 -- The answer to a line after `before` others, a bad one too.
 abbrev pub AnswersOrTells : BadLines → ℕ → SessionContent → List ℕ → List ℕ → ℕ → SessionContent → Type 0
@@ -79,7 +79,7 @@ pub record BeginsBadLine (before : ℕ) (to : Option (List ℕ)) (rest : List �
   pub more : List ℕ
   pub split : rest ≡ line ++ more
   pub unbroken : IsUnbroken line
-  pub bad : IsBadBehind before line place
+  pub bad : IsBadAfter before line place
   pub ends : ((after : List ℕ) × (more ≡ 10 ∷ after)) ⊎ (((more ≡ []) × IsAtEnd to) ⊎ (4096 < length line))
 
 -- Whether all lines before the rest are answered.

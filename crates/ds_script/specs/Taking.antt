@@ -10,7 +10,7 @@ use Rattle.ds_script.specs.declared.report.BadLines.TheVariants.{End, GoOn}
 use Rattle.ds_script.specs.declared.taking.Replay.{Replay}
 use Rattle.ds_script.specs.Session.{IsOpened}
 use Rattle.line_io.specs.Reading.{LinesContent, no_lines}
-use Rattle.ds_script.specs.Replay.{IsBadBehind}
+use Rattle.ds_script.specs.Replay.{IsBadAfter}
 use Rattle.ds_script.specs.Progress.{Reached, TakesLines, TakesText, LineStops, TextStops, LastStops, Turns, TurnStops}
 use Rattle.ds_script.specs.Causes.{HasWriteCause, HasTurnCause}
 
@@ -70,8 +70,8 @@ TakesLine w old new line result =
 abbrev pub TakesBad : {W B T : Type 0} → Writer W → Replay W B → Replay W B → ℕ → Result T ReplayFault → Type 0
 TakesBad w old new place result =
     let before = old.tally.lines in
-    MatchResult result (λ _. (text : List ℕ) → IsBadBehind before text place → Takes w old (text ∷ []) new)
-    (λ fault. IsCaused w new fault × ((text : List ℕ) → IsBadBehind before text place → StopsAtLine w old new text fault))
+    MatchResult result (λ _. (text : List ℕ) → IsBadAfter before text place → Takes w old (text ∷ []) new)
+    (λ fault. IsCaused w new fault × ((text : List ℕ) → IsBadAfter before text place → StopsAtLine w old new text fault))
 
 -- Whether the whole lines of a text are answered, and the rest is the front of a line; or why not.
 abbrev pub TakesWhole : {W B T : Type 0} → Writer W → Replay W B → Replay W B → (text rest : List ℕ) → Result T ReplayFault → Type 0

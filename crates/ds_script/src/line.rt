@@ -11,7 +11,7 @@ use crate::session::Session;
 use ds_line::Expected;
 use ds_names::NoRoom;
 use line_io::LONGEST_LINE;
-use script_commands::{CommandFault, is_offer, is_publish, is_retrieve, read_line_behind};
+use script_commands::{CommandFault, is_offer, is_publish, is_retrieve, read_line_after};
 use std::alloc::Global;
 
 /// Answers one line, given with its newline, after `before` others. `Err`: the line isn't a command, and nothing
@@ -44,7 +44,7 @@ pub(crate) fn answer_line(
     if is_retrieve(line) {
         return fast_retrieve(line, session, output);
     }
-    let command = match read_line_behind(alloc, line, before) {
+    let command = match read_line_after(alloc, line, before) {
         Ok(command) => command,
         Err(fault) => return answer_unread(output, fault),
     };

@@ -201,9 +201,9 @@ neither : (n : ℕ) → either (replicate n false) (replicate n false) ≡ repli
 neither zero = refl
 neither (suc n) = ap (λ l. false ∷ l) (neither n)
 
-either_behind : (f g : Option Subscription → Bool) (subs : List (Option Subscription)) (n : ℕ) → either (map f subs ++ replicate n false) (map g subs ++ replicate n false) ≡ either (map f subs) (map g subs) ++ replicate n false
-either_behind f g [] n = neither n
-either_behind f g (sub ∷ subs) n = ap (λ l. (f sub || g sub) ∷ l) (either_behind f g subs n)
+either_after : (f g : Option Subscription → Bool) (subs : List (Option Subscription)) (n : ℕ) → either (map f subs ++ replicate n false) (map g subs ++ replicate n false) ≡ either (map f subs) (map g subs) ++ replicate n false
+either_after f g [] n = neither n
+either_after f g (sub ∷ subs) n = ap (λ l. (f sub || g sub) ∷ l) (either_after f g subs n)
 
 -- the padded flags of both
 pub padded_either : (xs ys : List Item) (subs : List (Option Subscription)) → either (padded (map (is_owed xs) subs)) (padded (map (is_owed ys) subs)) ≡ padded (map (is_owed (xs ++ ys)) subs)
@@ -211,7 +211,7 @@ padded_either xs ys subs =
     let n : 128 - length (map (is_owed xs) subs) ≡ 128 - length subs = ap (λ m. 128 - m) (length-map subs (is_owed xs)) in
     let m : 128 - length (map (is_owed ys) subs) ≡ 128 - length subs = ap (λ m. 128 - m) (length-map subs (is_owed ys)) in
     let both : 128 - length (map (is_owed (xs ++ ys)) subs) ≡ 128 - length subs = ap (λ m. 128 - m) (length-map subs (is_owed (xs ++ ys))) in
-    ap₂ (λ a b. either (map (is_owed xs) subs ++ replicate a false) (map (is_owed ys) subs ++ replicate b false)) n m ∙ either_behind (is_owed xs) (is_owed ys) subs (128 - length subs)
+    ap₂ (λ a b. either (map (is_owed xs) subs ++ replicate a false) (map (is_owed ys) subs ++ replicate b false)) n m ∙ either_after (is_owed xs) (is_owed ys) subs (128 - length subs)
     ∙ ap₂ (λ l a. l ++ replicate a false) (sym (either_owed xs ys subs)) (sym both)
 
 none_of : (subs : List (Option Subscription)) (n : ℕ) → replicate (length subs + n) false ≡ map (is_owed []) subs ++ replicate n false

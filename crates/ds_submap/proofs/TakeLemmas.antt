@@ -14,7 +14,7 @@ use Rattle.ds_held.specs.Held.{Holding, IsSound}
 use Rattle.ds_held.specs.Join.{ItemAnswer, after_item}
 use Rattle.ds_pattern.specs.declared.query.Query.{Query}
 use Rattle.ds_join.specs.declared.count.Count.{Count}
-use Rattle.ds_join.specs.Count.{counted, none_counted, stop_behind, CanCountOne}
+use Rattle.ds_join.specs.Count.{counted, none_counted, stop_after, CanCountOne}
 use Rattle.ds_join.specs.declared.merge.Stop.{Stop}
 use Rattle.ds_submap.specs.Take.{AreAnswered, AreCounted, IsFloorOrOther, IsItemTaken, IsRefusedOrUnasked, IsTakeStopped, needs_query, is_stale, is_taken}
 use Rattle.ds_pattern.specs.Under.{is_under}
@@ -195,7 +195,7 @@ module _ (q : Query) (old : Holding) (items : List Item) where
           left_is = ap (drop 1) (sym (sym a.left_is ∙ e)) ∙ sym (others_left n.done items) ∙ ap (λ i. drop i items) one_more_done;
         }
 
-    pub left_stops : (new : Holding) (fault : JoinFault) (stop : Stop) → new ≡ mid → IsRefusedOrUnasked q was_asked mid x fault → stop ≡ stop_behind n fault → IsTakeStopped q old items new stop
+    pub left_stops : (new : Holding) (fault : JoinFault) (stop : Stop) → new ≡ mid → IsRefusedOrUnasked q was_asked mid x fault → stop ≡ stop_after n fault → IsTakeStopped q old items new stop
     left_stops new fault stop f refused g = rw g (asking_stops q old items n.done mid n was_asked x new a.asking there fault f refused)
 
     pub left_counts : length items < 2 ^ 64 → CanCountOne n

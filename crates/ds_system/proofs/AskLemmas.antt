@@ -35,15 +35,15 @@ told_proper (ClearMap j) outcome old new told = tt
 told_proper (RestartStore side incarnation) outcome old new told = tt
 
 -- an index past the last element
-behind : (xs : List ChangeRecord) (k : ℕ) → slice_get xs k ≡ None → length xs ≤ k
-behind [] k e = omega arith
-behind (x ∷ xs) zero e = absurd (cc)
-behind (x ∷ xs) (suc k) e = let l : length xs ≤ k = behind xs k e in omega arith
+past : (xs : List ChangeRecord) (k : ℕ) → slice_get xs k ≡ None → length xs ≤ k
+past [] k e = omega arith
+past (x ∷ xs) zero e = absurd (cc)
+past (x ∷ xs) (suc k) e = let l : length xs ≤ k = past xs k e in omega arith
 
 module _ (value : SystemRecord) where
   -- ---- a repeated change
   pub no_change : (k : ℕ) (side : Side) → slice_get value.made k ≡ None → SystemEventLeads (events.Again k side) (Refused refusals.NoMessage) value value
-  no_change k side e s st = (s, no_steps, record { refused = subst (λ (l : List ChangeRecord). length l ≤ k) (sym st.made) (behind value.made k e); steps_are = refl; system_is = refl }, st, refl)
+  no_change k side e s st = (s, no_steps, record { refused = subst (λ (l : List ChangeRecord). length l ≤ k) (sym st.made) (past value.made k e); steps_are = refl; system_is = refl }, st, refl)
 
   pub no_room_again : (k : ℕ) (side : Side) (c : ChangeRecord) → slice_get value.made k ≡ Some c → ¬ IsBodyInPlace c.body → SystemEventLeads (events.Again k side) (Refused refusals.NoRoom) value value
   no_room_again k side c e takes s st = (s, no_steps, record { refused = record { change = c; there = ap (λ (l : List ChangeRecord). slice_get l k) st.made ∙ e; takes = takes }; steps_are = refl; system_is = refl }, st, refl)

@@ -30,7 +30,7 @@ module _ (held : List Item) where
     pub first : List (List Move)
     pub later : List (List Move)
     pub before : Follows held front t first None x
-    pub behind : Follows held back (table_past x l) later fault u
+    pub past : Follows held back (table_past x l) later fault u
 
   one_more : (t : DriverTable) (fault : Option TableFault) (u : DriverTable) (k l : List ℕ) → CutAt (table_past t k) fault u l → CutAt t fault u l
   one_more t fault u k l c = record {
@@ -40,14 +40,14 @@ module _ (held : List Item) where
     first = round_at t k ++ c.first;
     later = c.later;
     before = inl (c.first, refl, c.before);
-    behind = c.behind;
+    past = c.past;
   }
 
   -- the cut at a label that was followed to the end
   pub at_label : (labels : List (List ℕ)) (t : DriverTable) (rounds : List (List Move)) (u : DriverTable) (l : List ℕ) → In l labels → Follows held labels t rounds None u → CutAt t None u l
   at_label [] t rounds u l i f = absurd i
   at_label (k ∷ labels) t rounds u l (inl e) (inl (later, is, rest)) =
-      subst (CutAt t None u) (sym e) (record { front = []; back = labels; x = t; first = []; later = later; before = (refl, refl, refl); behind = rest })
+      subst (CutAt t None u) (sym e) (record { front = []; back = labels; x = t; first = []; later = later; before = (refl, refl, refl); past = rest })
   at_label (k ∷ labels) t rounds u l (inr i) (inl (later, is, rest)) = one_more t None u k l (at_label labels (table_past t k) later u l i rest)
   at_label (k ∷ labels) t rounds u l i (inr stop) = let e = stop.fault_is in cc
 
@@ -63,6 +63,6 @@ module _ (held : List Item) where
   at_move (k ∷ labels) t rounds fault u m i (inr stop) = absurd (subst (λ (z : List (List Move)). In m (moves_of_rounds z)) stop.rounds_are i)
   at_move (k ∷ labels) t rounds fault u m i (inl (later, is, rest)) =
       elim (In-append (moves_of_rounds (round_at t k)) (moves_of_rounds later) m (subst (In m) (ap moves_of_rounds is ∙ flat_map-append (λ (moves : List Move). moves) (round_at t k) later) i)) [
-        | inl here ↦ record { label = k; cut = record { front = []; back = labels; x = t; first = []; later = later; before = (refl, refl, refl); behind = rest }; moved = here }
+        | inl here ↦ record { label = k; cut = record { front = []; back = labels; x = t; first = []; later = later; before = (refl, refl, refl); past = rest }; moved = here }
         | inr there ↦ (let c = at_move labels (table_past t k) later fault u m there rest in record { label = c.label; cut = one_more t fault u k c.label c.cut; moved = c.moved })
       ]

@@ -107,7 +107,7 @@ module _ (held : List Item) (label : List ℕ) (c : ChangeRecord) (there : held_
       cut = at_label held labels t rounds u label i f
 
       behind : Went (table_past held cut.x label) u
-      behind = follow_went cut.back (table_past held cut.x label) cut.later None u cut.behind
+      past = follow_went cut.back (table_past held cut.x label) cut.later None u cut.past
 
       has_then : has_label cut.x.units label ≡ true
       has_then = ap (λ (z : List (ℕ × Driver)). has_label z label) (follows_keep_units held cut.front t cut.x cut.first None cut.before).0 ∙ has

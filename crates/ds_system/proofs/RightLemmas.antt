@@ -115,7 +115,7 @@ rounds_of_map held labels t rounds fault u m came f i = record {
   fresh = by_late (is_late t l b.noted.change) refl;
   goes = λ e g. (goal e g).own;
   above = λ e n g k. (let r = calls_rise t y l (calls_twice t x y front step) n k in subst (λ (z : ℕ). n ≤ z) (some_number r.0 e.generation (sym r.1 ∙ (goal e g).greatest)) r.2);
-  below = λ e g. calls_rise y u l (follow_calls held c.cut.back y c.cut.later fault u c.cut.behind) e.generation (goal e g).greatest;
+  below = λ e g. calls_rise y u l (follow_calls held c.cut.back y c.cut.later fault u c.cut.past) e.generation (goal e g).greatest;
 }
   where
     c : CutBy held t fault u m

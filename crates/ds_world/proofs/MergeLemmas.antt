@@ -70,8 +70,8 @@ none_before : (u : Tally) → both_tallied (ended 0 0 None) u ≡ u
 none_before u = counts_same (omega arith) (omega arith) (omega arith) (or_zero_l u.owed)
 
 -- none after it
-none_behind : (done taken stale owed : ℕ) → added done taken stale owed (ended 0 0 None) ≡ tallied done taken stale owed None
-none_behind done taken stale owed = counts_same (omega arith) (omega arith) (omega arith) (or_zero_r owed)
+none_after : (done taken stale owed : ℕ) → added done taken stale owed (ended 0 0 None) ≡ tallied done taken stale owed None
+none_after done taken stale owed = counts_same (omega arith) (omega arith) (omega arith) (or_zero_r owed)
 
 tallied_between : (done taken stale owed : ℕ) (later u : Tally) → both_tallied (added done taken stale owed later) u ≡ added done taken stale owed (both_tallied later u)
 tallied_between done taken stale owed later u = counts_same (omega arith) (omega arith) (omega arith) (masks_joined owed later.owed u.owed)
@@ -150,7 +150,7 @@ takes_one s mid group reply few counted step =
     }
   where
     by_reply : (r : Reply) → IsCounted (length group) r → OthersFollow r mid (λ k n. GroupsAreMerged mid [] k n) (merge_tally r) mid
-    by_reply (Merged done taken stale owed) c = (ended 0 0 None, (refl, refl), sym (none_behind done taken stale owed))
+    by_reply (Merged done taken stale owed) c = (ended 0 0 None, (refl, refl), sym (none_after done taken stale owed))
     by_reply (MergeStopped done fault owed) c = (refl, refl)
     by_reply (Refused fault) c = (refl, refl)
     by_reply _ c = absurd c
@@ -168,9 +168,9 @@ in_front [] ys k x e = absurd (cc)
 in_front (y ∷ xs) ys zero x e = e
 in_front (y ∷ xs) ys (suc k) x e = in_front xs ys k x e
 
-behind : (xs ys : List Item) (k : ℕ) → slice_get (xs ++ ys) (length xs + k) ≡ slice_get ys k
-behind [] ys k = ap (slice_get ys) (let e : 0 + k ≡ k = omega arith in e)
-behind (x ∷ xs) ys k = ap (slice_get (x ∷ xs ++ ys)) (let e : length (x ∷ xs) + k ≡ suc (length xs + k) = omega arith in e) ∙ behind xs ys k
+past : (xs ys : List Item) (k : ℕ) → slice_get (xs ++ ys) (length xs + k) ≡ slice_get ys k
+past [] ys k = ap (slice_get ys) (let e : 0 + k ≡ k = omega arith in e)
+past (x ∷ xs) ys k = ap (slice_get (x ∷ xs ++ ys)) (let e : length (x ∷ xs) + k ≡ suc (length xs + k) = omega arith in e) ∙ past xs ys k
 
 -- a Merge that runs out of memory leaves what its first items made
 module _ (s t : State) (items : List Item) (done owes : ℕ) where
@@ -214,7 +214,7 @@ front_want xs ys done (Some _) t w = tt
 -- of the others after a group
 later_want : (group rest : List Item) (done : ℕ) (stop : Option Refusal) (t : State) → IsWantLast rest done stop t → IsWantLast (group ++ rest) (length group + done) stop t
 later_want group rest done None t w = tt
-later_want group rest done (Some NoRoom) t w = record { item = w.item; is_next = behind group rest done ∙ w.is_next; lacks = w.lacks }
+later_want group rest done (Some NoRoom) t w = record { item = w.item; is_next = past group rest done ∙ w.is_next; lacks = w.lacks }
 later_want group rest done (Some _) t w = tt
 
 -- ---- what the reply to a Merge counts

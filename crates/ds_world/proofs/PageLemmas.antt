@@ -52,13 +52,13 @@ use Rattle.ds_world.proofs.GivenLemmas.{now_after}
 use Rattle.ds_world.proofs.ReplyLemmas.{WasAsked, asked_for}
 
 -- ---- the last page, and those before it
-none_behind : (b : Bool) (given : List GivenPage) (turns : List PageTurn) → turns ≡ [] → MatchBool b (given ≡ []) ⊥ → MatchBool b (turns ≡ []) ⊥
-none_behind true given turns none w = none
-none_behind false given turns none w = w
+none_after : (b : Bool) (given : List GivenPage) (turns : List PageTurn) → turns ≡ [] → MatchBool b (given ≡ []) ⊥ → MatchBool b (turns ≡ []) ⊥
+none_after true given turns none w = none
+none_after false given turns none w = w
 
-one_behind : (b : Bool) (y : GivenPage) (ys : List GivenPage) (W : Type 0) → MatchBool b ((y ∷ ys) ≡ []) W → (b ≡ false) × W
-one_behind true y ys W e = cc
-one_behind false y ys W w = (refl, w)
+one_after : (b : Bool) (y : GivenPage) (ys : List GivenPage) (W : Type 0) → MatchBool b ((y ∷ ys) ≡ []) W → (b ≡ false) × W
+one_after true y ys W e = cc
+one_after false y ys W w = (refl, w)
 
 module _ (says_snapshot : SnappedSays) (says_page : PagedSays) (says_since : JournaledSays) (account : Account) (old new : WorldRecord) (events : List (Event × Outcome)) (told : AreTold old events new)
     (f : IsFor account old) (side : Side) where
@@ -114,17 +114,17 @@ module _ (says_snapshot : SnappedSays) (says_page : PagedSays) (says_since : Jou
         subst (λ (p : ℕ). IsWhole (feed_of now side) query (sent_in now k) p) (sym snapshot_at)
         (subst (λ (l : List Sent). IsWhole (feed_of now side) query l at) (sym (ap message_items r.1)) r.2)
 
-  module _ (scope : Scope) (behind : Option Key) (x : GivenPage) (g : WasGiven events side (Page scope behind x.max) x.message) (there : slice_get new.messages x.message ≡ Some (Paged x.page)) where
+  module _ (scope : Scope) (past : Option Key) (x : GivenPage) (g : WasGiven events side (Page scope past x.max) x.message) (there : slice_get new.messages x.message ≡ Some (Paged x.page)) where
     abbrev ask_page : Command
-    ask_page = Page scope behind x.max
+    ask_page = Page scope past x.max
 
-    page_is : x.page ≡ page_of (is_kept scope) behind x.max (held (known_then g.before).state) (cursor (known_then g.before).state)
-    page_is = (says_page (known_then g.before).state (was ask_page x.message g).asks.after scope behind x.max x.page (stepped ask_page x.message g (Paged x.page) there)).0
+    page_is : x.page ≡ page_of (is_kept scope) past x.max (held (known_then g.before).state) (cursor (known_then g.before).state)
+    page_is = (says_page (known_then g.before).state (was ask_page x.message g).asks.after scope past x.max x.page (stepped ask_page x.message g (Paged x.page) there)).0
 
-    is_page : IsPageTurn (feed_of now side) (keeps scope) behind (page_turn g.before x)
+    is_page : IsPageTurn (feed_of now side) (keeps scope) past (page_turn g.before x)
     is_page =
         let own = own ask_page x.message g in
-        subst (λ (a : Account). IsPageTurn (feed_of a side) (keeps scope) behind (page_turn g.before x)) (now_is ask_page x.message g)
+        subst (λ (a : Account). IsPageTurn (feed_of a side) (keeps scope) past (page_turn g.before x)) (now_is ask_page x.message g)
         (record {
           front = front (extended_all account g.before) (was ask_page x.message g).mid (was ask_page x.message g).late side ask_page x.message g.since (asked ask_page x.message g);
           knows = own.accepted;
@@ -138,8 +138,8 @@ module _ (says_snapshot : SnappedSays) (says_page : PagedSays) (says_since : Jou
         let own = own ask_page x.message g in
         let w = was ask_page x.message g in
         let gift = gave (extended_all account g.before) w.mid w.late side ask_page x.message g.since (asked ask_page x.message g) in
-        let left = still_to_come (is_kept scope) behind (held a.state) in
-        let same = given_unless a.state own.reached (first_refusal (against_page scope x.max)) (Paged (page_of (is_kept scope) behind x.max (held a.state) (cursor a.state)))
+        let left = still_to_come (is_kept scope) past (held a.state) in
+        let same = given_unless a.state own.reached (first_refusal (against_page scope x.max)) (Paged (page_of (is_kept scope) past x.max (held a.state) (cursor a.state)))
         (floors_of left ++ take x.max (changes_of left)) gift.items refl gift.given_is in
         let here : IsMessage now x.message (given a.known gift.items) = subst (λ (b : Account). IsMessage b x.message (given a.known gift.items)) (now_is ask_page x.message g) gift.message in
         ap message_items here ∙ ap (λ (l : List Item). given a.known l) (sym (ap (λ (p : readings.Page). p.items) page_is ∙ same))
@@ -188,17 +188,17 @@ module _ (says_snapshot : SnappedSays) (says_page : PagedSays) (says_since : Jou
   abbrev since_sents : List GivenSince → List Sent
   since_sents xs = flat_map (λ x. sent_in now x.message) xs
 
-  page_turns : (scope : Scope) (x : GivenPage) (xs : List GivenPage) (behind : Option Key) (p : ℕ) (w : WerePaged events new.messages side scope behind p (x ∷ xs)) →
-      (us : List PageTurn) × ArePages (feed_of now side) (keeps scope) behind p (page_turn w.0.before x ∷ us) × (page_items us ≡ page_sents xs) × ((at : Cursor) → last_cursor at us ≡ last_page at xs)
-  page_turns scope x [] behind p w = ([], (is_page scope behind x w.0 w.1, w.2, none_behind x.page.last [] [] refl w.3), refl, λ at. refl)
-  page_turns scope x (y ∷ ys) behind p w =
-      let n = one_behind x.page.last y ys (WerePaged events new.messages side scope (last_key behind x.page.items) x.page.cursor.position (y ∷ ys)) w.3 in
-      let r = page_turns scope y ys (last_key behind x.page.items) x.page.cursor.position n.1 in
+  page_turns : (scope : Scope) (x : GivenPage) (xs : List GivenPage) (past : Option Key) (p : ℕ) (w : WerePaged events new.messages side scope past p (x ∷ xs)) →
+      (us : List PageTurn) × ArePages (feed_of now side) (keeps scope) past p (page_turn w.0.before x ∷ us) × (page_items us ≡ page_sents xs) × ((at : Cursor) → last_cursor at us ≡ last_page at xs)
+  page_turns scope x [] past p w = ([], (is_page scope past x w.0 w.1, w.2, none_after x.page.last [] [] refl w.3), refl, λ at. refl)
+  page_turns scope x (y ∷ ys) past p w =
+      let n = one_after x.page.last y ys (WerePaged events new.messages side scope (last_key past x.page.items) x.page.cursor.position (y ∷ ys)) w.3 in
+      let r = page_turns scope y ys (last_key past x.page.items) x.page.cursor.position n.1 in
       let us : List PageTurn = page_turn n.1.0.before y ∷ r.0 in
-      let on = subst (λ (b : Bool). MatchBool b (us ≡ []) (ArePages (feed_of now side) (keeps scope) (last_key behind x.page.items) x.page.cursor.position us)) (sym n.0) r.1 in
+      let on = subst (λ (b : Bool). MatchBool b (us ≡ []) (ArePages (feed_of now side) (keeps scope) (last_key past x.page.items) x.page.cursor.position us)) (sym n.0) r.1 in
       let items : given (known_then n.1.0.before).known y.page.items ++ page_items r.0 ≡ sent_in now y.message ++ page_sents ys =
-      ap (λ (l : List Sent). l ++ page_items r.0) (sym (page_sent scope (last_key behind x.page.items) y n.1.0 n.1.1)) ∙ ap (λ (l : List Sent). sent_in now y.message ++ l) r.2 in
-      (us, (is_page scope behind x w.0 w.1, w.2, on), items, λ at. r.3 y.page.cursor)
+      ap (λ (l : List Sent). l ++ page_items r.0) (sym (page_sent scope (last_key past x.page.items) y n.1.0 n.1.1)) ∙ ap (λ (l : List Sent). sent_in now y.message ++ l) r.2 in
+      (us, (is_page scope past x w.0 w.1, w.2, on), items, λ at. r.3 y.page.cursor)
 
   since_turns : (scope : Scope) (xs : List GivenSince) (at : Cursor) → WereJournaled events new.messages side scope at xs →
       (ts : List SinceTurn) × AreSince (feed_of now side) (keeps scope) at ts × (since_items ts ≡ since_sents xs) × (cursor_after at ts ≡ last_since at xs)
@@ -227,13 +227,13 @@ module _ (says_snapshot : SnappedSays) (says_page : PagedSays) (says_since : Jou
   sinces side scope query at x items g there keep whole = since_extends says_snapshot says_page says_since account old new events told f side scope query at x items g there keep whole
 
   pub pages_are : PagesAreTurns account events new.messages
-  pages_are side scope behind x g there = (
+  pages_are side scope past x g there = (
     page_turn says_snapshot says_page says_since account old new events told f side g.before x,
     refl,
     refl,
     refl,
-    is_page says_snapshot says_page says_since account old new events told f side scope behind x g there,
-    page_sent says_snapshot says_page says_since account old new events told f side scope behind x g there,
+    is_page says_snapshot says_page says_since account old new events told f side scope past x g there,
+    page_sent says_snapshot says_page says_since account old new events told f side scope past x g there,
   )
 
   pub all_pages : AllPagesAreWhole account events new.messages

@@ -84,9 +84,9 @@ happened (e ∷ events) old new w told s =
     (rest.0, (one.0, one.1, rest.1), rest.2)
 
 -- ---- the reply that is kept
-behind : (front : List Reply) (reply : Reply) (rest : List Reply) → slice_get ((front ++ reply ∷ []) ++ rest) (length front) ≡ Some reply
-behind [] reply rest = refl
-behind (x ∷ front) reply rest = behind front reply rest
+past : (front : List Reply) (reply : Reply) (rest : List Reply) → slice_get ((front ++ reply ∷ []) ++ rest) (length front) ≡ Some reply
+past [] reply rest = refl
+past (x ∷ front) reply rest = past front reply rest
 
 -- the Ask whose message is there now
 pub record WasAsked (before since : List (Event × Outcome)) (side : Side) (command : Command) (k : ℕ) (w : World) (new : WorldRecord) : Type 0 where
@@ -118,7 +118,7 @@ asked_for old new events told before since side command k w all s =
       stands_not = asked.0;
       asks = asked.2;
       there = ap (λ (l : List Reply). slice_get l k) (stay.1 ∙ ap (λ (l : List Reply). l ++ stay.0) kept.kept) ∙ ap (λ (n : ℕ). slice_get ((parts.0.messages ++ kept.reply ∷ []) ++ stay.0) n) kept.next
-          ∙ behind parts.0.messages kept.reply stay.0 ∙ ap Some (sym asked.3);
+          ∙ past parts.0.messages kept.reply stay.0 ∙ ap Some (sym asked.3);
       late = rest.0;
       since_happens = rest.1;
       stands = rest.2;

@@ -85,11 +85,11 @@ SinceMessagesExtend account events messages =
 -- Whether a page message is a turn of the store in its state at the Page, as the law of pages takes it.
 abbrev pub PagesAreTurns : Account → List (Event × Outcome) → List Reply → Type 0
 PagesAreTurns account events messages =
-    (side : Side) (scope : Scope) (behind : Option Key) (x : GivenPage) (g : WasGiven events side (Page scope behind x.max) x.message) →
+    (side : Side) (scope : Scope) (past : Option Key) (x : GivenPage) (g : WasGiven events side (Page scope past x.max) x.message) →
     slice_get messages x.message ≡ Some (Paged x.page) →
     let now = extended_all account events in
     (t : PageTurn) × (t.max ≡ x.max) × (t.page ≡ x.page) × (t.feed ≡ feed_of (extended_all account g.before) side) ×
-    IsPageTurn (feed_of now side) (keeps scope) behind t × (sent_in now x.message ≡ given t.known x.page.items)
+    IsPageTurn (feed_of now side) (keeps scope) past t × (sent_in now x.message ≡ given t.known x.page.items)
 
 -- Whether a check message is a turn of its subscription, in the store's state at the Check. `early` is the feed of any
 -- earlier state.

@@ -6,8 +6,8 @@ use Rattle.line_io.specs.Lines.{IsUnbroken, EndsLine, with_newline}
 use Rattle.line_io.specs.Reading.{lines_of, AreLinesKept, GoesToNext, GoesToLast}
 
 -- The rest after a line that begins at an offset.
-rest_behind : (bytes line more : List ℕ) (at : ℕ) → at ≤ length bytes → drop at bytes ≡ line ++ more → drop (at + length line) bytes ≡ more
-rest_behind bytes line more at h e =
+rest_after : (bytes line more : List ℕ) (at : ℕ) → at ≤ length bytes → drop at bytes ≡ line ++ more → drop (at + length line) bytes ≡ more
+rest_after bytes line more at h e =
     let split : bytes ≡ (take at bytes ++ line) ++ more = sym (take-append-drop at bytes) ∙ ap (λ l. take at bytes ++ l) e ∙ sym (append_assoc (take at bytes) line more) in
     let front : length (take at bytes ++ line) ≡ at + length line = length-append (take at bytes) line ∙ ap (λ n. n + length line) (length-take-le at bytes h) in
     ap (drop (at + length line)) split ∙ drop_at (take at bytes ++ line) more (at + length line) front
@@ -30,7 +30,7 @@ goes_on bytes line more chunk have start at count reads kept all e ends =
     let next : ℕ = at + length line in
     let within : at ≤ length bytes = omega (arith, kept.within, all) in
     let there : take (next - at) (drop at bytes) ≡ line = line_there bytes line more at next refl e in
-    let rest : drop next bytes ≡ more = rest_behind bytes line more at within e in
+    let rest : drop next bytes ≡ more = rest_after bytes line more at within e in
     record {
       ends = subst EndsLine (sym there) ends;
       split = e ∙ ap (λ l. l ++ more) (sym there) ∙ ap (λ r. take (next - at) (drop at bytes) ++ r) (sym rest);

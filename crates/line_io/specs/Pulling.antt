@@ -19,7 +19,7 @@ ComesNext line from to =
 
 -- Whether the input that is left begins with these bytes.
 abbrev pub StandsFirst : List ℕ → Option (List ℕ) → Type 0
-StandsFirst front from = (behind : Option (List ℕ)) × Consumes from behind front
+StandsFirst front from = (past : Option (List ℕ)) × Consumes from past front
 
 -- The meaning of each outcome. `from` and `to` are the input that is left before and after the call. `Line`: the next
 -- line became the current one. `Long`: the next line is above 4096 bytes. `End`: no input is left. `ReadFault`: the

@@ -25,12 +25,12 @@ abbrev pub IsLeft : {S : Type 0} → (S → S → Type 0) → S → Type 0
 IsLeft {S} calls now = (before : S) × calls before now
 
 -- Whether `n` calls of one sort and a last one of another lead from the first state to the second.
-abbrev pub IsLastBehind : {S : Type 0} → (calls last : S → S → Type 0) → ℕ → S → S → Type 0
-IsLastBehind {S} calls last n old new = (mid : S) × CallsLead calls n old mid × last mid new
+abbrev pub IsLastAfter : {S : Type 0} → (calls last : S → S → Type 0) → ℕ → S → S → Type 0
+IsLastAfter {S} calls last n old new = (mid : S) × CallsLead calls n old mid × last mid new
 
 -- Whether the reads ended in a fault: only the last one failed, or 2^32 were made and none failed.
 abbrev pub HasFailedRead : {R : Type 0} → (reads fails : R → R → Type 0) → (old new : R) → Type 0
-HasFailedRead reads fails old new = (n : ℕ) × (IsLastBehind reads fails n old new ⊎ ((n ≡ 2 ^ 32) × CallsLead reads n old new))
+HasFailedRead reads fails old new = (n : ℕ) × (IsLastAfter reads fails n old new ⊎ ((n ≡ 2 ^ 32) × CallsLead reads n old new))
 
 -- Whether the writes ended in a fault: the last one failed, or at least 2^64 - 1 were made and none failed.
 abbrev pub HasFailedWrite : {W : Type 0} → (writes fails : W → W → Type 0) → W → Type 0

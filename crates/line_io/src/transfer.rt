@@ -58,7 +58,7 @@ pub fn write_out<W: Sink>(writer: &mut W, text: &[u8]) -> Result<(), WriteFailed
             return Ok(());
         }
         match write_once(writer, rest) {
-            Ok(count) => rest = behind(rest, count),
+            Ok(count) => rest = past(rest, count),
             Err(failed) => return Err(failed),
         }
     }
@@ -81,7 +81,7 @@ fn write_once<W: Sink>(writer: &mut W, text: &[u8]) -> Result<usize, WriteFailed
 }
 
 // Returns the text after its first `count` bytes.
-fn behind(text: &[u8], count: usize) -> &[u8]
+fn past(text: &[u8], count: usize) -> &[u8]
     requires { count ≤ length text.now }
     ensures { result.now ≡ drop count text.now }
 {

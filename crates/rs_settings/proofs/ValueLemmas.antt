@@ -69,7 +69,7 @@ each_of-names (v ∷ vs) = elim (cases_Bool (is_some (name_in (view v)))) [
   | inr f ↦ rw (none_from (name_in (view v)) f) refl
 ]
   where
-    by_rest : (b : Bool) → option_map (λ behind. text_in_value v ∷ behind) (cond b (Some (map text_in_value vs)) None) ≡ cond b (Some (text_in_value v ∷ map text_in_value vs)) None
+    by_rest : (b : Bool) → option_map (λ past. text_in_value v ∷ past) (cond b (Some (map text_in_value vs)) None) ≡ cond b (Some (text_in_value v ∷ map text_in_value vs)) None
     by_rest true = refl
     by_rest false = refl
 

@@ -25,7 +25,7 @@ item_count (item value rest) = item_count rest + 1
 -- The value of each item as `read` finds it, in order, or `None` if it finds none for one of them.
 abbrev pub each_of : {A : Type 0} → (Data → Option A) → Items → Option (List A)
 each_of read no_items = Some []
-each_of read (item value rest) = option_and_then (λ a. option_map (λ behind. a ∷ behind) (each_of read rest)) (read value)
+each_of read (item value rest) = option_and_then (λ a. option_map (λ past. a ∷ past) (each_of read rest)) (read value)
 
 -- The integer, if it is from `low` to `high`.
 abbrev pub within : ℕ → ℕ → ℤ → Option ℕ

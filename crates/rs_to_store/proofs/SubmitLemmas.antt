@@ -20,10 +20,10 @@ pub ended_before : (held : List Item) (id unit : ℕ) (old new : TableRecord) (b
 ended_before held id unit old new before after fault followed t stands =
     let f = followed t stands in (f.0, f.1, f.2, record { mid = f.0; stop = Some fault; follows = f.3; takes = (refl, refl); room = tt }, f.4)
 
-pub taken_behind : (held : List Item) (id unit : ℕ) (old mid new : TableRecord) (before after : List (List Move)) (own : Result (List Move) TableFault) → HasFollowed held old mid before after None
+pub taken_after : (held : List Item) (id unit : ℕ) (old mid new : TableRecord) (before after : List (List Move)) (own : Result (List Move) TableFault) → HasFollowed held old mid before after None
     → ((t : DriverTable) → TableStands mid t → (u : DriverTable) × TableStep t (Submit id unit) own u × TableStands new u)
     → ((t : DriverTable) → TableStands mid t → LacksOnlyWhere (RequestTakesMemory t id unit) own) → FollowedAndTaken held id unit old new before after own
-taken_behind held id unit old mid new before after own followed takes lacks t stands =
+taken_after held id unit old mid new before after own followed takes lacks t stands =
     let f = followed t stands in
     let done = takes f.0 f.4 in (done.0, f.1, f.2, record { mid = f.0; stop = None; follows = f.3; takes = done.1; room = lacks f.0 f.4 }, done.2)
 

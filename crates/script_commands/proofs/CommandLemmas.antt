@@ -17,10 +17,10 @@ use Rattle.script_commands.specs.declared.command.ScriptCommand.{ScriptCommand}
 use Rattle.script_commands.specs.declared.command.ScriptCommand.TheVariants.{Show}
 use Rattle.script_commands.specs.declared.word.Word.TheVariants as words
 use Rattle.script_commands.specs.declared.word.Word.{Word as CommandWord}
-use Rattle.script_commands.specs.Command.{command_word, word_of, behind_word, command_parts, IsCommand, IsCommandFault}
+use Rattle.script_commands.specs.Command.{command_word, word_of, after_word, command_parts, IsCommand, IsCommandFault}
 use Rattle.script_commands.specs.Words.{all_words, text_of}
-use Rattle.ds_line.proofs.NewlineLemmas.{ends_behind}
-use Rattle.script_commands.proofs.EndLemmas.{behind_ends, unbroken_word}
+use Rattle.ds_line.proofs.NewlineLemmas.{ends_then}
+use Rattle.script_commands.proofs.EndLemmas.{after_ends, unbroken_word}
 use Rattle.script_commands.proofs.StandLemmas.{command_stands, command_parted}
 use Rattle.script_commands.proofs.TableLemmas.{taken_by}
 
@@ -65,13 +65,13 @@ one_word command line word r s is first second = part_one Word line (word_of com
 -- ---- the line's word is at its front
 
 pub word_begins : (command : ScriptCommand) (line : List ℕ) → line ≡ texts (command_parts command)
-    → Begins is_ascii_alphanumeric line (word_of command) (texts (behind_word command))
+    → Begins is_ascii_alphanumeric line (word_of command) (texts (after_word command))
 word_begins command line is = record { parts = is; ends = command_parted command }
 
 -- the line ends with its one newline
 pub command_ends : (command : ScriptCommand) → IsCommand command → EndsLine (texts (command_parts command))
 command_ends command is =
-    ends_behind (part Word (word_of command)) (behind_word command) (unbroken_word (word_of command) (word_is command)) (behind_ends command is)
+    ends_then (part Word (word_of command)) (after_word command) (unbroken_word (word_of command) (word_is command)) (after_ends command is)
 
 -- ---- the line can't be read
 
@@ -79,7 +79,7 @@ command_ends command is =
 pub unknown_word : (line : List ℕ) → ((w : CommandWord) (rest : List ℕ) → ¬ Begins is_ascii_alphanumeric line (text_of w) rest) → IsCommandFault line 0
 unknown_word line other =
     record {
-      none = λ command can text. other (command_word command) (texts (behind_word command)) (word_begins command line text);
+      none = λ command can text. other (command_word command) (texts (after_word command)) (word_begins command line text);
       first = record {
         rest = line;
         stops = record {
@@ -97,14 +97,14 @@ line_breaks : (line rest at : List ℕ) (w : CommandWord) → Begins is_ascii_al
 line_breaks line rest at w begins s =
     record {
       none = λ command can text.
-          let one = one_word command line (text_of w) (texts (behind_word command)) rest (text_is w)
+          let one = one_word command line (text_of w) (texts (after_word command)) rest (text_is w)
           (word_begins command line text) begins in
-          let front = texts (behind_word command) in
-          let stands : Stand (length (behind_word command)) (behind_word command) front [] =
-          subst (λ (t : List ℕ). Stand (length (behind_word command)) (behind_word command) t []) (append-nil front)
+          let front = texts (after_word command) in
+          let stands : Stand (length (after_word command)) (after_word command) front [] =
+          subst (λ (t : List ℕ). Stand (length (after_word command)) (after_word command) t []) (append-nil front)
           (command_stands command) in
           s.none command [] (can, same_word (command_word command) w one.0)
-          (subst (λ (t : List ℕ). Stand (length (behind_word command)) (behind_word command) t []) one.1 stands);
+          (subst (λ (t : List ℕ). Stand (length (after_word command)) (after_word command) t []) one.1 stands);
       first = record {
         rest = at;
         stops = record {
@@ -117,14 +117,14 @@ line_breaks line rest at w begins s =
           most = λ after r.
               let one = one_word r.member line (text_of w) r.front.0 rest (text_is w) r.front.1 begins in
               s.most r.member after (r.is, same_word (command_word r.member) w one.0)
-              (subst (λ (t : List ℕ). Stand (suc s.count) (behind_word r.member) t after) one.1 r.front.2);
+              (subst (λ (t : List ℕ). Stand (suc s.count) (after_word r.member) t after) one.1 r.front.2);
         };
         begins = omega (
           arith,
           ap length begins.parts,
           length-append (text_of w) rest,
           stand_length s.count
-              (behind_word s.thing) rest at s.front,
+              (after_word s.thing) rest at s.front,
         );
       };
     }
@@ -132,7 +132,7 @@ line_breaks line rest at w begins s =
 pub left_fits : (line rest at : List ℕ) (w : CommandWord) → Begins is_ascii_alphanumeric line (text_of w) rest → Breaks (taken_by w) rest at
     → length at ≤ length line
 left_fits line rest at w begins s =
-    omega (arith, ap length begins.parts, length-append (text_of w) rest, stand_length s.count (behind_word s.thing) rest at s.front)
+    omega (arith, ap length begins.parts, length-append (text_of w) rest, stand_length s.count (after_word s.thing) rest at s.front)
 
 pub stops_place : (line rest : List ℕ) (w : CommandWord) (left : ℕ) → Begins is_ascii_alphanumeric line (text_of w) rest
     → StopsIn (taken_by w) (BadPart left) rest → IsCommandFault line (length line - left)
@@ -142,14 +142,14 @@ stops_place line rest w left begins s = subst (λ (n : ℕ). IsCommandFault line
 -- ---- the line is read
 
 -- the first newline is the last byte
-one_newline : (before behind front : List ℕ) → All (λ (b : ℕ). b ≢ 10) front → front ++ 10 ∷ [] ≡ before ++ 10 ∷ behind → behind ≡ []
-one_newline [] behind [] none same = cc
-one_newline [] behind (f ∷ front) none same = let first : f ≡ 10 = cc in absurd (All-head (λ (b : ℕ). b ≢ 10) f front none first)
-one_newline (a ∷ before) behind [] none same = let len : length before + suc (length behind) ≡ 0 = omega
-    (arith, ap length same, length-append before (10 ∷ behind)) in absurd (omega (arith, len))
-one_newline (a ∷ before) behind (f ∷ front) none same =
-    let rest : front ++ 10 ∷ [] ≡ before ++ 10 ∷ behind = cc in
-    one_newline before behind front (All-tail (λ (b : ℕ). b ≢ 10) f front none) rest
+one_newline : (before past front : List ℕ) → All (λ (b : ℕ). b ≢ 10) front → front ++ 10 ∷ [] ≡ before ++ 10 ∷ past → past ≡ []
+one_newline [] past [] none same = cc
+one_newline [] past (f ∷ front) none same = let first : f ≡ 10 = cc in absurd (All-head (λ (b : ℕ). b ≢ 10) f front none first)
+one_newline (a ∷ before) past [] none same = let len : length before + suc (length past) ≡ 0 = omega
+    (arith, ap length same, length-append before (10 ∷ past)) in absurd (omega (arith, len))
+one_newline (a ∷ before) past (f ∷ front) none same =
+    let rest : front ++ 10 ∷ [] ≡ before ++ 10 ∷ past = cc in
+    one_newline before past front (All-tail (λ (b : ℕ). b ≢ 10) f front none) rest
 
 -- the command is the whole line
 pub whole_line : (line rest after : List ℕ) (w : CommandWord) (command : ScriptCommand) → EndsLine line
@@ -157,13 +157,13 @@ pub whole_line : (line rest after : List ℕ) (w : CommandWord) (command : Scrip
     → IsCommand command × (line ≡ texts (command_parts command))
 whole_line line rest after w command ends begins found =
     let word = text_of w in
-    let is = stand_texts (behind_word command) rest after found.front in
-    let last = behind_ends command found.can.0 in
+    let is = stand_texts (after_word command) rest after found.front in
+    let last = after_ends command found.can.0 in
     let spread : line ≡ (word ++ last.front) ++ 10 ∷ after =
     begins.parts ∙ ap (λ (t : List ℕ). word ++ t) (is ∙ ap (λ (t : List ℕ). t ++ after) last.parts ∙ append_assoc last.front (10 ∷ []) after)
     ∙ sym (append_assoc word last.front (10 ∷ after)) in
     let none : after ≡ [] = one_newline (word ++ last.front) after ends.front ends.none (sym ends.parts ∙ spread) in
-    let all = texts (behind_word command) in (
+    let all = texts (after_word command) in (
       found.can.0,
       begins.parts ∙ ap (λ (t : List ℕ). word ++ t) (is ∙ ap (λ (t : List ℕ). all ++ t) none ∙ append-nil all)
           ∙ ap (λ (v : CommandWord). text_of v ++ all) (sym found.can.1),

@@ -7,25 +7,25 @@ use Rattle.ds_line.specs.FaultPlace.{Stand}
 use Rattle.ds_line.specs.Piece.{Piece, Found, StopsIn}
 use Rattle.ds_line.specs.declared.part_fault.PartFault.{PartFault}
 use Rattle.ds_line.specs.declared.part_fault.PartFault.TheVariants.{NoRoom}
-use Rattle.ds_line.proofs.PieceLemmas.{behind, One, Goes, Views, first_stops, then_stops, view_stops, both_found, view_found}
+use Rattle.ds_line.proofs.PieceLemmas.{past, One, Goes, Views, first_stops, then_stops, view_stops, both_found, view_found}
 use Rattle.script_commands.specs.Service.{device_parts, IsDevice}
 use Rattle.script_commands.specs.ServicePieces.{a_class, a_device, a_server, a_unit}
 use Rattle.script_commands.specs.declared.service.Device.{Device}
 use Rattle.script_commands.specs.declared.service.Device.TheVariants as devices
 use Rattle.script_commands.specs.declared.service.Server.{Server}
 use Rattle.script_commands.specs.declared.service.Server.TheVariants.{File, Net}
-use Rattle.script_commands.proofs.OneLemmas.{one_behind, one_view}
+use Rattle.script_commands.proofs.OneLemmas.{one_after, one_view}
 use Rattle.script_commands.proofs.OpenLemmas.{Apart}
 use Rattle.script_commands.proofs.ServicePieceLemmas.{server_fixed, server_one, class_one, unit_fixed, unit_one}
 
 -- ---- a server, and what follows its word
 
 abbrev pub device_rest : Server → Piece
-device_rest File = behind a_unit (λ (_ : ℕ). a_class)
+device_rest File = past a_unit (λ (_ : ℕ). a_class)
 device_rest Net = a_unit
 
 abbrev served : Piece
-served = behind a_server device_rest
+served = past a_server device_rest
 
 device_of : (server : Server) → (device_rest server).Of → Device
 device_of File x = devices.File x.0 x.1
@@ -70,23 +70,23 @@ device_server_stops stop bytes room s =
     view_stops served a_device device_view stop bytes (first_stops a_server device_rest 2 stop bytes server_fixed device_goes room s)
 
 -- what has to follow a server is missing
-behind_server : (server : Server) (stop : PartFault) (bytes r : List ℕ) → Found a_server server bytes r → StopsIn (device_rest server) stop r → StopsIn a_device stop bytes
-behind_server server stop bytes r found s =
+after_server : (server : Server) (stop : PartFault) (bytes r : List ℕ) → Found a_server server bytes r → StopsIn (device_rest server) stop r → StopsIn a_device stop bytes
+after_server server stop bytes r found s =
     view_stops served a_device device_view stop bytes (then_stops a_server device_rest 2 stop server bytes r server_fixed server_one found s)
 
 -- the major number is missing
 pub device_major_stops : (stop : PartFault) (bytes r : List ℕ) → Found a_server File bytes r → stop ≢ NoRoom → StopsIn a_unit stop r → StopsIn a_device stop bytes
 device_major_stops stop bytes r found room s =
-    behind_server File stop bytes r found (first_stops a_unit (λ _. a_class) 2 stop r unit_fixed (λ n can. (Block, tt)) room s)
+    after_server File stop bytes r found (first_stops a_unit (λ _. a_class) 2 stop r unit_fixed (λ n can. (Block, tt)) room s)
 
 -- the class is missing
 pub device_class_stops : (major : ℕ) (stop : PartFault) (bytes r t : List ℕ) → Found a_server File bytes r → Found a_unit major r t → StopsIn a_class stop t → StopsIn a_device stop bytes
 device_class_stops major stop bytes r t found number s =
-    behind_server File stop bytes r found (then_stops a_unit (λ _. a_class) 2 stop major r t unit_fixed unit_one number s)
+    after_server File stop bytes r found (then_stops a_unit (λ _. a_class) 2 stop major r t unit_fixed unit_one number s)
 
 -- the port is missing
 pub device_port_stops : (stop : PartFault) (bytes r : List ℕ) → Found a_server Net bytes r → StopsIn a_unit stop r → StopsIn a_device stop bytes
-device_port_stops stop bytes r found s = behind_server Net stop bytes r found s
+device_port_stops stop bytes r found s = after_server Net stop bytes r found s
 
 -- ---- a device is read
 
@@ -102,11 +102,11 @@ device_net_found port bytes r rest server number =
     view_found served a_device device_view (Net, port) bytes rest (both_found a_server device_rest Net port bytes r rest server number)
 
 rest_one : (server : Server) → One (device_rest server)
-rest_one File = one_behind a_unit (λ _. a_class) unit_one (λ _. class_one)
+rest_one File = one_after a_unit (λ _. a_class) unit_one (λ _. class_one)
 rest_one Net = unit_one
 
 pub device_one : One a_device
-device_one = one_view served a_device device_view (one_behind a_server device_rest server_one rest_one) device_back
+device_one = one_view served a_device device_view (one_after a_server device_rest server_one rest_one) device_back
 
 -- two servers at one front are the same
 no_two : (bytes r s : List ℕ) → Found a_server Net bytes r → ¬ Found a_server File bytes s

@@ -16,7 +16,7 @@ use Rattle.line_io.specs.Lines.{EndsLine}
 use Rattle.ds_line.proofs.QuoteLemmas.{shape}
 use Rattle.ds_line.proofs.OpeningLemmas.{word_is_word}
 use Rattle.ds_line.proofs.ItemLemmas.{item_ends}
-use Rattle.ds_line.proofs.NewlineLemmas.{Unbroken, unbroken_endpoint, unbroken_name, unbroken_decimal, unbroken_one, unbroken_run, unbroken_value, ends_behind, ends_behind_space, newline_ends}
+use Rattle.ds_line.proofs.NewlineLemmas.{Unbroken, unbroken_endpoint, unbroken_name, unbroken_decimal, unbroken_one, unbroken_run, unbroken_value, ends_then, ends_after_space, newline_ends}
 use Rattle.ds_machine.specs.declared.command.Scope.{Scope}
 use Rattle.ds_machine.specs.declared.command.Scope.TheVariants.{All as AllKeys, Under}
 use Rattle.ds_replica.specs.declared.event.Holder.{Holder}
@@ -28,7 +28,7 @@ use Rattle.script_commands.specs.declared.service.Device.TheVariants.{File, Net}
 use Rattle.script_commands.specs.declared.service.Server.TheVariants as servers
 use Rattle.script_commands.specs.declared.slot.Slot.{Slot}
 use Rattle.script_commands.specs.declared.slot.Slot.TheVariants as slots
-use Rattle.script_commands.specs.Command.{IsCommand, command_word, fields_of, behind_word}
+use Rattle.script_commands.specs.Command.{IsCommand, command_word, fields_of, after_word}
 use Rattle.script_commands.specs.Page.{IsAfter, range_parts}
 use Rattle.script_commands.specs.Pieces.{initial_word, mode_word}
 use Rattle.script_commands.specs.Scope.{IsScope, scope_parts}
@@ -79,7 +79,7 @@ AreUnbroken (p ∷ ps) = Unbroken p.text × AreUnbroken ps
 
 ends_after : (ps more : List Part) → AreUnbroken ps → EndsLine (texts more) → EndsLine (texts (ps ++ more))
 ends_after [] more all ends = ends
-ends_after (p ∷ ps) more all ends = ends_behind p (ps ++ more) all.0 (ends_after ps more all.1 ends)
+ends_after (p ∷ ps) more all ends = ends_then p (ps ++ more) all.0 (ends_after ps more all.1 ends)
 
 blank : Unbroken (32 ∷ [])
 blank = one_byte 32 (λ same. omega (arith, same))
@@ -157,7 +157,7 @@ slot_unbroken k s n inner can = number n can
 
 -- the contents of the last slot
 last_ends : (k : Kind) (s : Slot) (x : (piece_of k s).Of) → IsLast s → (piece_of k s).Can x → EndsLine (texts ((piece_of k s).parts x))
-last_ends k slots.Item i last can = ends_behind_space (item_parts i) (item_ends i can)
+last_ends k slots.Item i last can = ends_after_space (item_parts i) (item_ends i can)
 last_ends k slots.Value v last can =
     let value = one (value_part v).text (unbroken_value v can.valid) in
     ends_after (space ∷ byte 61 ∷ space ∷ value_part v ∷ []) (newline ∷ []) (blank, (one_byte 61 (λ same. omega (arith, same)), value)) newline_ends
@@ -177,6 +177,6 @@ row_ends k (s ∷ t ∷ ss) x is can =
     (row_ends after (t ∷ ss) x.1 first.1 can.1)
 
 -- what follows a command's word ends with its one newline
-pub behind_ends : (command : ScriptCommand) → IsCommand command → EndsLine (texts (behind_word command))
-behind_ends command is =
+pub after_ends : (command : ScriptCommand) → IsCommand command → EndsLine (texts (after_word command))
+after_ends command is =
     let w = command_word command in row_ends U32 (slots_of w) (fields_of command) (slots_are w) (fields_fit command is).0

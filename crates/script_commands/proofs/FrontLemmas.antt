@@ -8,7 +8,7 @@ use Rattle.ds_line.specs.declared.part_fault.PartFault.TheVariants.{BadPart, NoR
 use Rattle.ds_line.proofs.PartLemmas.{part_one}
 use Rattle.line_io.specs.Lines.{EndsLine}
 use Rattle.script_commands.specs.Command.{IsCommandFault, ReadsCommand}
-use Rattle.script_commands.specs.Front.{HasWord, StopsBehindWord}
+use Rattle.script_commands.specs.Front.{HasWord, StopsAfterWord}
 use Rattle.script_commands.specs.Later.{ReadsLater}
 use Rattle.script_commands.specs.Row.{TakesRow}
 use Rattle.script_commands.specs.Words.{text_of}
@@ -25,8 +25,8 @@ use Rattle.script_commands.proofs.RowLemmas.{takes_row}
 
 pub begins : (w : CommandWord) (line bytes : List ℕ) → HasWord w line → bytes ≡ drop (length (text_of w)) line
     → Begins is_ascii_alphanumeric line (text_of w) bytes
-begins w line bytes (rest, is) behind =
-    let same : bytes ≡ 32 ∷ rest = behind ∙ ap (λ (l : List ℕ). drop (length (text_of w)) l) is ∙ drop-append_seam (text_of w) (32 ∷ rest) in
+begins w line bytes (rest, is) past =
+    let same : bytes ≡ 32 ∷ rest = past ∙ ap (λ (l : List ℕ). drop (length (text_of w)) l) is ∙ drop-append_seam (text_of w) (32 ∷ rest) in
     subst (λ (b : List ℕ). Begins is_ascii_alphanumeric line (text_of w) b) (sym same) (record { parts = is; ends = refl })
 
 -- ---- what follows it is read
@@ -47,15 +47,15 @@ front_later w line bytes result other front reads =
 
 -- ---- or it can't be read
 
-pub stop_fits : (line : List ℕ) (left : ℕ) → StopsBehindWord line (BadPart left) → left ≤ length line
+pub stop_fits : (line : List ℕ) (left : ℕ) → StopsAfterWord line (BadPart left) → left ≤ length line
 stop_fits line left (w, bytes, front, takes) =
     let k = takes_row w bytes (Err (BadPart left)) takes in
     omega (arith, k.2, left_fits line bytes k.0 w front k.1)
 
-pub stop_place : (line : List ℕ) (left : ℕ) → StopsBehindWord line (BadPart left) → IsCommandFault line (length line - left)
+pub stop_place : (line : List ℕ) (left : ℕ) → StopsAfterWord line (BadPart left) → IsCommandFault line (length line - left)
 stop_place line left (w, bytes, front, takes) = stops_place line bytes w left front (takes_row w bytes (Err (BadPart left)) takes)
 
-pub stop_room : (line : List ℕ) → EndsLine line → StopsBehindWord line NoRoom → ReadsCommand line (Err faults.NoRoom)
+pub stop_room : (line : List ℕ) → EndsLine line → StopsAfterWord line NoRoom → ReadsCommand line (Err faults.NoRoom)
 stop_room line ends (w, bytes, front, takes) =
     let k = takes_row w bytes (Err NoRoom) takes in
     let whole = whole_line line bytes k.1 w k.0 ends front k.2 in

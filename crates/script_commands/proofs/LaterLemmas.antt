@@ -8,7 +8,7 @@ use Rattle.script_commands.specs.declared.command.ScriptCommand.{ScriptCommand}
 use Rattle.script_commands.specs.declared.command.ScriptCommand.TheVariants.{Show}
 use Rattle.script_commands.specs.declared.fault.CommandFault.{CommandFault}
 use Rattle.script_commands.specs.declared.fault.CommandFault.TheVariants.{BadLine, NoRoom}
-use Rattle.script_commands.specs.Command.{command_word, word_of, behind_word, command_parts, IsCommand, IsFaultAmong, IsCommandFault, ReadsCommand}
+use Rattle.script_commands.specs.Command.{command_word, word_of, after_word, command_parts, IsCommand, IsFaultAmong, IsCommandFault, ReadsCommand}
 use Rattle.script_commands.specs.Later.{IsLater, ReadsLater}
 use Rattle.script_commands.specs.Words.{text_of}
 use Rattle.script_commands.specs.declared.word.Word.{Word as CommandWord}
@@ -24,7 +24,7 @@ pub ring_is_bad : (line rest : List ℕ) → Begins is_ascii_alphanumeric line (
 ring_is_bad line rest begins =
     record {
       none = λ command can text.
-          can.1 (same_word (command_word command) words.Ring (one_word command line (text_of words.Ring) (texts (behind_word command)) rest refl (word_begins command line text) begins).0);
+          can.1 (same_word (command_word command) words.Ring (one_word command line (text_of words.Ring) (texts (after_word command)) rest refl (word_begins command line text) begins).0);
       first = record {
         rest = line;
         stops = record {
@@ -61,7 +61,7 @@ fault_later line place other fault =
     }
 
 may_stand : (line : List ℕ) (command : ScriptCommand) → ((after : List ℕ) → ¬ Begins is_ascii_alphanumeric line (text_of words.Ring) after) → IsCommand command → line ≡ texts (command_parts command) → IsLater command
-may_stand line command other can text = (can, other_word command line (texts (behind_word command)) other (word_begins command line text))
+may_stand line command other can text = (can, other_word command line (texts (after_word command)) other (word_begins command line text))
 
 pub reads_later : (line : List ℕ) (result : Result ScriptCommand CommandFault) → ((after : List ℕ) → ¬ Begins is_ascii_alphanumeric line (text_of words.Ring) after) → ReadsCommand line result → ReadsLater line result
 reads_later line (Ok command) other h = (may_stand line command other h.0 h.1, h.1)

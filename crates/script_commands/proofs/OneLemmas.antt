@@ -7,16 +7,16 @@ use Rattle.ds_line.specs.Piece.{Piece, last_value}
 use Rattle.ds_line.proofs.OpeningLemmas.{text_at}
 use Rattle.ds_line.proofs.BodyLemmas.{class_one, value_text}
 use Rattle.ds_line.proofs.ApartLemmas.{value_one}
-use Rattle.ds_line.proofs.PieceLemmas.{behind, One, one_by, stand_split, Views, after_byte}
+use Rattle.ds_line.proofs.PieceLemmas.{past, One, one_by, stand_split, Views, after_byte}
 use Rattle.script_commands.specs.Pieces.{a_value, an_end}
 
 -- one piece, followed by another
-pub one_behind : (p : Piece) (q : p.Of → Piece) → One p → ((a : p.Of) → One (q a)) → One (behind p q)
-one_behind p q one two a b bytes r s fa fb =
-    let ta = stand_split (length ((behind p q).parts a)) (length ((q a.0).parts a.1)) (p.parts a.0) ((q a.0).parts a.1) bytes r (length-append (p.parts a.0) ((q a.0).parts a.1)) fa.front in
-    let tb = stand_split (length ((behind p q).parts b)) (length ((q b.0).parts b.1)) (p.parts b.0) ((q b.0).parts b.1) bytes s (length-append (p.parts b.0) ((q b.0).parts b.1)) fb.front in
+pub one_after : (p : Piece) (q : p.Of → Piece) → One p → ((a : p.Of) → One (q a)) → One (past p q)
+one_after p q one two a b bytes r s fa fb =
+    let ta = stand_split (length ((past p q).parts a)) (length ((q a.0).parts a.1)) (p.parts a.0) ((q a.0).parts a.1) bytes r (length-append (p.parts a.0) ((q a.0).parts a.1)) fa.front in
+    let tb = stand_split (length ((past p q).parts b)) (length ((q b.0).parts b.1)) (p.parts b.0) ((q b.0).parts b.1) bytes s (length-append (p.parts b.0) ((q b.0).parts b.1)) fb.front in
     let first = one a.0 b.0 bytes ta.0 tb.0 (record { can = fa.can.0; front = ta.1 }) (record { can = fb.can.0; front = tb.1 }) in
-    let pair : (x : p.Of) → (q x).Of → (behind p q).Of = λ x y. (x, y) in
+    let pair : (x : p.Of) → (q x).Of → (past p q).Of = λ x y. (x, y) in
     let P : p.Of → Type 0 = λ x. (y : (q x).Of) → (q x).Can y → Stand (length ((q x).parts y)) ((q x).parts y) ta.0 s → (pair x y ≡ a) × (s ≡ r) in
     subst P (sym first.0)
     (λ y can front.

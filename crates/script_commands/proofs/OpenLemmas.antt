@@ -5,7 +5,7 @@ use Rattle.ds_line.specs.FaultPlace.{Stand}
 use Rattle.ds_line.specs.Piece.{Piece, Found, Breaks, StopsIn}
 use Rattle.ds_line.specs.declared.part_fault.PartFault.{PartFault}
 use Rattle.ds_line.specs.declared.part_fault.PartFault.TheVariants.{BadPart, NoRoom}
-use Rattle.ds_line.proofs.PieceLemmas.{One, Goes, behind, stand_split, both_found, stand_wider, stand_cut, stand_join}
+use Rattle.ds_line.proofs.PieceLemmas.{One, Goes, past, stand_split, both_found, stand_wider, stand_cut, stand_join}
 use Rattle.ds_line.proofs.PlaceLemmas.{fewer}
 
 -- ---- parts in sequence
@@ -17,7 +17,7 @@ abbrev pub Apart : Piece → Type 0
 Apart p = (a b : p.Of) (bytes r after : List ℕ) → Found p a bytes r → p.Can b → length (p.parts a) < length (p.parts b) → ¬ Stand (suc (length (p.parts a))) (p.parts b) bytes after
 
 -- the readable part ends within the first of two pieces
-open_first : (p : Piece) (q : p.Of → Piece) (bytes rest : List ℕ) → Goes p q → Breaks p bytes rest → Breaks (behind p q) bytes rest
+open_first : (p : Piece) (q : p.Of → Piece) (bytes rest : List ℕ) → Goes p q → Breaks p bytes rest → Breaks (past p q) bytes rest
 open_first p q bytes rest goes s =
     let next = goes s.thing s.can in
     record {
@@ -38,9 +38,9 @@ open_first p q bytes rest goes s =
     }
 
 -- what follows the first piece follows the one that is there
-behind_same : (p : Piece) (q : p.Of → Piece) (a : p.Of) (bytes r rest : List ℕ) → One p → Found p a bytes r → (s : Breaks (q a) r rest) (x : (b : p.Of) × (q b).Of) (mid after : List ℕ) (k : ℕ) → p.Can x.0 → (q x.0).Can x.1
+after_same : (p : Piece) (q : p.Of → Piece) (a : p.Of) (bytes r rest : List ℕ) → One p → Found p a bytes r → (s : Breaks (q a) r rest) (x : (b : p.Of) × (q b).Of) (mid after : List ℕ) (k : ℕ) → p.Can x.0 → (q x.0).Can x.1
     → Stand (length (p.parts x.0)) (p.parts x.0) bytes mid → Stand k ((q x.0).parts x.1) mid after → length (p.parts x.0) + k ≡ suc (length (p.parts a) + s.count) → ⊥
-behind_same p q a bytes r rest one found s x mid after k can_p can_q first second eq =
+after_same p q a bytes r rest one found s x mid after k can_p can_q first second eq =
     let same = one a x.0 bytes r mid found (record { can = can_p; front = first }) in
     let len : length (p.parts x.0) ≡ length (p.parts a) = ap (λ (b : p.Of). length (p.parts b)) same.0 in
     let count : k ≡ suc s.count = omega (arith, eq, len) in
@@ -48,7 +48,7 @@ behind_same p q a bytes r rest one found s x mid after k can_p can_q first secon
     (subst (λ (n : ℕ). Stand n ((q x.0).parts x.1) r after) count (subst (λ (b : List ℕ). Stand k ((q x.0).parts x.1) b after) same.1 second))
 
 -- the readable part ends within the second, after a first one
-open_then : (p : Piece) (q : p.Of → Piece) (a : p.Of) (bytes r rest : List ℕ) → Apart p → One p → Found p a bytes r → Breaks (q a) r rest → Breaks (behind p q) bytes rest
+open_then : (p : Piece) (q : p.Of → Piece) (a : p.Of) (bytes r rest : List ℕ) → Apart p → One p → Found p a bytes r → Breaks (q a) r rest → Breaks (past p q) bytes rest
 open_then p q a bytes r rest apart one found s =
     record {
       count = length (p.parts a) + s.count;
@@ -64,7 +64,7 @@ open_then p q a bytes r rest apart one found s =
             | inr le ↦
                 (let k = suc (length (p.parts a) + s.count) - length (p.parts x.0) in
                 let two = stand_split (suc (length (p.parts a) + s.count)) k (p.parts x.0) ((q x.0).parts x.1) bytes after (omega (arith, le)) h in
-                behind_same p q a bytes r rest one found s x two.0 after k can.0 can.1 two.1 two.2 (omega (arith, le)))
+                after_same p q a bytes r rest one found s x two.0 after k can.0 can.1 two.1 two.2 (omega (arith, le)))
           ];
       none = λ x after can h.
           let two = stand_split (length (p.parts x.0 ++ (q x.0).parts x.1)) (length ((q x.0).parts x.1)) (p.parts x.0) ((q x.0).parts x.1) bytes after (length-append (p.parts x.0) ((q x.0).parts x.1)) h in
@@ -74,7 +74,7 @@ open_then p q a bytes r rest apart one found s =
     }
 
 -- after a first piece, the readable part ends no earlier than that piece
-pub first_counts : (p : Piece) (q : p.Of → Piece) (a : p.Of) (b : (q a).Of) (bytes r rest : List ℕ) → Found p a bytes r → (q a).Can b → (s : Breaks (behind p q) bytes rest) → length (p.parts a) ≤ s.count
+pub first_counts : (p : Piece) (q : p.Of → Piece) (a : p.Of) (b : (q a).Of) (bytes r rest : List ℕ) → Found p a bytes r → (q a).Can b → (s : Breaks (past p q) bytes rest) → length (p.parts a) ≤ s.count
 first_counts p q a b bytes r rest found can s =
     elim (cases_lt s.count (length (p.parts a))) [
       | inl lt ↦
@@ -85,10 +85,10 @@ first_counts p q a b bytes r rest found can s =
 
 -- ---- as readers state it
 
-pub open_first_stops : (p : Piece) (q : p.Of → Piece) (stop : PartFault) (bytes : List ℕ) → Goes p q → stop ≢ NoRoom → StopsIn p stop bytes → StopsIn (behind p q) stop bytes
+pub open_first_stops : (p : Piece) (q : p.Of → Piece) (stop : PartFault) (bytes : List ℕ) → Goes p q → stop ≢ NoRoom → StopsIn p stop bytes → StopsIn (past p q) stop bytes
 open_first_stops p q (BadPart left) bytes goes room s = (s.0, open_first p q bytes s.0 goes s.1, s.2)
 open_first_stops p q NoRoom bytes goes room s = absurd (room refl)
 
-pub open_then_stops : (p : Piece) (q : p.Of → Piece) (stop : PartFault) (a : p.Of) (bytes r : List ℕ) → Apart p → One p → Found p a bytes r → StopsIn (q a) stop r → StopsIn (behind p q) stop bytes
+pub open_then_stops : (p : Piece) (q : p.Of → Piece) (stop : PartFault) (a : p.Of) (bytes r : List ℕ) → Apart p → One p → Found p a bytes r → StopsIn (q a) stop r → StopsIn (past p q) stop bytes
 open_then_stops p q (BadPart left) a bytes r apart one found s = (s.0, open_then p q a bytes r s.0 apart one found s.1, s.2)
 open_then_stops p q NoRoom a bytes r apart one found s = ((a, s.0), s.1, both_found p q a s.0 bytes r s.1 found s.2)

@@ -18,7 +18,7 @@ use Rattle.ds_line.specs.declared.part_fault.PartFault.TheVariants.{BadPart, NoR
 use Rattle.ds_line.proofs.LabelLemmas.{rs_is_name, some_value}
 use Rattle.ds_line.proofs.PartLemmas.{part_one}
 use Rattle.ds_line.proofs.OpeningLemmas.{text_at, word_is_word, word_one, key_is, version_is}
-use Rattle.ds_line.proofs.PieceLemmas.{behind, Fixed, One, one_by, Views, view_stops, first_stops, then_stops, after_byte, part_missing, byte_missing, byte_found, byte_stops, stops_from}
+use Rattle.ds_line.proofs.PieceLemmas.{past, Fixed, One, one_by, Views, view_stops, first_stops, then_stops, after_byte, part_missing, byte_missing, byte_found, byte_stops, stops_from}
 use Rattle.script_commands.specs.Pieces.{an_endpoint, an_initial, a_mode, a_name, a_kind, a_key, a_generation, a_seq, a_version, a_number, a_place, a_kinds, a_value, ValueWantsRoom, initial_word, mode_word}
 use Rattle.ds_line.proofs.LastValueLemmas.{some_value_of}
 
@@ -127,7 +127,7 @@ kind_part kind = part Word (kind_word kind)
 pub no_kind : (stop : PartFault) (bytes r : List ℕ) → bytes ≡ 32 ∷ r → stop ≡ BadPart (length r) → ((kind : Kind) (rest : List ℕ) → ¬ Begins is_ascii_alphanumeric r (kind_word kind) rest) → StopsIn a_kind stop bytes
 no_kind stop bytes r is at none = no_part 32 Kind (λ _. Unit {0}) kind_part U32 stop bytes r tt is at (λ kind rest can. none kind rest)
 
-key_view : Views (behind a_name (λ _. a_kind)) a_key
+key_view : Views (past a_name (λ _. a_kind)) a_key
 key_view = record {
   to = λ x. record { name = x.0; kind = x.1 };
   can = λ x can. can.0;
@@ -137,11 +137,11 @@ key_view = record {
 
 -- a key's name is missing
 pub key_name_stops : (stop : PartFault) (bytes : List ℕ) → stop ≢ NoRoom → StopsIn a_name stop bytes → StopsIn a_key stop bytes
-key_name_stops stop bytes room s = view_stops (behind a_name (λ _. a_kind)) a_key key_view stop bytes (first_stops a_name (λ _. a_kind) 2 stop bytes name_fixed (λ name can. (U32, tt)) room s)
+key_name_stops stop bytes room s = view_stops (past a_name (λ _. a_kind)) a_key key_view stop bytes (first_stops a_name (λ _. a_kind) 2 stop bytes name_fixed (λ name can. (U32, tt)) room s)
 
 -- its kind is missing
 pub key_kind_stops : (name : List ℕ) (stop : PartFault) (bytes r : List ℕ) → Found a_name name bytes r → StopsIn a_kind stop r → StopsIn a_key stop bytes
-key_kind_stops name stop bytes r found s = view_stops (behind a_name (λ _. a_kind)) a_key key_view stop bytes (then_stops a_name (λ _. a_kind) 2 stop name bytes r name_fixed name_one found s)
+key_kind_stops name stop bytes r found s = view_stops (past a_name (λ _. a_kind)) a_key key_view stop bytes (then_stops a_name (λ _. a_kind) 2 stop name bytes r name_fixed name_one found s)
 
 pub key_one : One a_key
 key_one =
@@ -201,7 +201,7 @@ kinds_one =
     one_by a_kinds (λ a b is_a is_b. (refl, λ _. (refl, λ _. tt))) (λ a is. (refl, ((a, omega (arith, is.1), refl), tt)))
     (λ a b is_a is_b same. decimal_injective a b (omega (arith, is_a.1)) (omega (arith, is_b.1)) (ap (text_at 1) same))
 
-version_view : Views (behind a_generation (λ _. a_seq)) a_version
+version_view : Views (past a_generation (λ _. a_seq)) a_version
 version_view = record {
   to = λ x. record { epoch = x.0; seq = x.1 };
   can = λ x can. record { epoch = can.0; seq = can.1 };
@@ -212,12 +212,12 @@ version_view = record {
 -- a version's epoch is missing
 pub version_epoch_stops : (stop : PartFault) (bytes : List ℕ) → stop ≢ NoRoom → StopsIn a_generation stop bytes → StopsIn a_version stop bytes
 version_epoch_stops stop bytes room s =
-    view_stops (behind a_generation (λ _. a_seq)) a_version version_view stop bytes (first_stops a_generation (λ _. a_seq) 2 stop bytes generation_fixed (λ n can. (0, omega arith)) room s)
+    view_stops (past a_generation (λ _. a_seq)) a_version version_view stop bytes (first_stops a_generation (λ _. a_seq) 2 stop bytes generation_fixed (λ n can. (0, omega arith)) room s)
 
 -- its sequence number is missing
 pub version_seq_stops : (epoch : ℕ) (stop : PartFault) (bytes r : List ℕ) → Found a_generation epoch bytes r → StopsIn a_seq stop r → StopsIn a_version stop bytes
 version_seq_stops epoch stop bytes r found s =
-    view_stops (behind a_generation (λ _. a_seq)) a_version version_view stop bytes (then_stops a_generation (λ _. a_seq) 2 stop epoch bytes r generation_fixed generation_one found s)
+    view_stops (past a_generation (λ _. a_seq)) a_version version_view stop bytes (then_stops a_generation (λ _. a_seq) 2 stop epoch bytes r generation_fixed generation_one found s)
 
 pub version_one : One a_version
 version_one =
@@ -247,8 +247,8 @@ value_wants kind stop bytes r1 r2 r3 is1 is2 is3 s room =
     )
 
 -- the value is missing, or memory runs out for it
-pub behind_mark : (kind : Kind) (stop : PartFault) (bytes r1 r2 r3 : List ℕ) → bytes ≡ 32 ∷ r1 → r1 ≡ 61 ∷ r2 → r2 ≡ 32 ∷ r3 → StopsIn (last_value kind) stop r3 → StopsIn (a_value kind) stop bytes
-behind_mark kind stop bytes r1 r2 r3 is1 is2 is3 s =
+pub after_mark : (kind : Kind) (stop : PartFault) (bytes r1 r2 r3 : List ℕ) → bytes ≡ 32 ∷ r1 → r1 ≡ 61 ∷ r2 → r2 ≡ 32 ∷ r3 → StopsIn (last_value kind) stop r3 → StopsIn (a_value kind) stop bytes
+after_mark kind stop bytes r1 r2 r3 is1 is2 is3 s =
     byte_stops 32 (after_byte 61 (after_byte 32 (last_value kind))) stop bytes r1 is1 (byte_stops 61 (after_byte 32 (last_value kind)) stop r1 r2 is2 (byte_stops 32 (last_value kind) stop r2 r3 is3 s))
 
 pub no_first_space : (kind : Kind) (stop : PartFault) (bytes : List ℕ) → stop ≡ BadPart (length bytes) → ((rest : List ℕ) → bytes ≢ 32 ∷ rest) → StopsIn (a_value kind) stop bytes

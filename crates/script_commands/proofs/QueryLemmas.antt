@@ -48,11 +48,11 @@ IsBegun written rest = (done : List ℕ) × IsUnbroken done × (written ≡ esca
 escaped_end : (text : List ℕ) (b : ℕ) → escaped (text ++ b ∷ []) ≡ escaped text ++ escaped_byte b
 escaped_end text b = flat_map-append escaped_byte text (b ∷ []) ∙ ap (λ (t : List ℕ). escaped text ++ t) (append-nil (escaped_byte b))
 
-pub begun_more : (written rest behind : List ℕ) (b : ℕ) → IsBegun written rest → rest ≡ escaped_byte b ++ behind → b ≢ 10 → IsBegun written behind
-begun_more written rest behind b begun is other = (
+pub begun_more : (written rest past : List ℕ) (b : ℕ) → IsBegun written rest → rest ≡ escaped_byte b ++ past → b ≢ 10 → IsBegun written past
+begun_more written rest past b begun is other = (
   begun.0 ++ b ∷ [],
   unbroken_end begun.0 b begun.1 other,
-  begun.2 ∙ ap (λ (t : List ℕ). escaped begun.0 ++ t) is ∙ sym (append_assoc (escaped begun.0) (escaped_byte b) behind) ∙ ap (λ (t : List ℕ). t ++ behind) (sym (escaped_end begun.0 b)),
+  begun.2 ∙ ap (λ (t : List ℕ). escaped begun.0 ++ t) is ∙ sym (append_assoc (escaped begun.0) (escaped_byte b) past) ∙ ap (λ (t : List ℕ). t ++ past) (sym (escaped_end begun.0 b)),
 )
 
 pub rest_fits : (written rest : List ℕ) → IsBegun written rest → length rest < length written + 1
@@ -78,14 +78,14 @@ no_closing bytes written rest opens begun no_byte no_quote text after is same =
 abbrev pub IsLeft : List ℕ → List ℕ → List ℕ → Type 0
 IsLeft written text rest = (left : List ℕ) × IsUnbroken left × (rest ≡ escaped left) × (written ≡ escaped (text ++ left))
 
-left_step : (left written text rest behind : List ℕ) (b : ℕ) → IsUnbroken left → rest ≡ escaped left → written ≡ escaped (text ++ left) → rest ≡ escaped_byte b ++ behind → IsLeft written (text ++ b ∷ []) behind
-left_step [] written text rest behind b is e w h = absurd (omega (arith, byte_shorter b rest behind h, ap length e))
-left_step (c ∷ more) written text rest behind b is e w h =
-    let one = byte_one b c behind (escaped more) (sym h ∙ e) in
+left_step : (left written text rest past : List ℕ) (b : ℕ) → IsUnbroken left → rest ≡ escaped left → written ≡ escaped (text ++ left) → rest ≡ escaped_byte b ++ past → IsLeft written (text ++ b ∷ []) past
+left_step [] written text rest past b is e w h = absurd (omega (arith, byte_shorter b rest past h, ap length e))
+left_step (c ∷ more) written text rest past b is e w h =
+    let one = byte_one b c past (escaped more) (sym h ∙ e) in
     (more, All-tail (λ (x : ℕ). x ≢ 10) c more is, one.1, w ∙ ap (λ (x : ℕ). escaped (text ++ x ∷ more)) (sym one.0) ∙ ap escaped (sym (append_assoc text (b ∷ []) more)))
 
-pub left_more : (written text rest behind : List ℕ) (b : ℕ) → IsLeft written text rest → rest ≡ escaped_byte b ++ behind → IsLeft written (text ++ b ∷ []) behind
-left_more written text rest behind b left h = left_step left.0 written text rest behind b left.1 left.2 left.3 h
+pub left_more : (written text rest past : List ℕ) (b : ℕ) → IsLeft written text rest → rest ≡ escaped_byte b ++ past → IsLeft written (text ++ b ∷ []) past
+left_more written text rest past b left h = left_step left.0 written text rest past b left.1 left.2 left.3 h
 
 left_ends : (left written text rest : List ℕ) → IsUnbroken left → rest ≡ escaped left → written ≡ escaped (text ++ left) → ((b : ℕ) (s : List ℕ) → b ≢ 10 → rest ≢ escaped_byte b ++ s) → written ≡ escaped text
 left_ends [] written text rest is e w none = w ∙ ap escaped (append-nil text)

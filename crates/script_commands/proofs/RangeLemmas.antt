@@ -18,11 +18,11 @@ use Rattle.ds_line.specs.declared.part_fault.PartFault.{PartFault}
 use Rattle.ds_line.specs.declared.part_fault.PartFault.TheVariants.{BadPart, NoRoom}
 use Rattle.ds_line.proofs.PartLemmas.{byte_begins}
 use Rattle.ds_line.proofs.OpeningLemmas.{text_at, word_is_word, word_one}
-use Rattle.ds_line.proofs.PieceLemmas.{One, Fixed, Views, behind, one_by, view_found, view_stops, first_stops, then_stops, then_breaks, both_found, count_fits}
+use Rattle.ds_line.proofs.PieceLemmas.{One, Fixed, Views, past, one_by, view_found, view_stops, first_stops, then_stops, then_breaks, both_found, count_fits}
 use Rattle.script_commands.specs.Pieces.{a_name, a_kind, a_number}
 use Rattle.script_commands.specs.Page.{no_key, IsAfter, range_parts, a_range}
 use Rattle.script_commands.proofs.PieceLemmas.{name_fixed, name_one, number_one}
-use Rattle.script_commands.proofs.OneLemmas.{one_behind, one_view}
+use Rattle.script_commands.proofs.OneLemmas.{one_after, one_view}
 use Rattle.script_commands.proofs.OpenLemmas.{Apart, first_counts}
 use Rattle.script_commands.proofs.WorldPieceLemmas.{first_byte}
 
@@ -61,7 +61,7 @@ same_parts name None max is = ap (λ (t : List ℕ). space ∷ part Name t ∷ f
 same_parts name (Some kind) max is = refl
 
 abbrev named : Piece
-named = behind a_name a_follow
+named = past a_name a_follow
 
 range_from : (b : Option Key × ℕ) → a_range.Can b → (a : named.Of) × named.Can a × (named.parts a ≡ a_range.parts b)
 range_from (None, max) can = ((no_key, (None, max)), (no_key_is, (refl, can.1)), refl)
@@ -150,7 +150,7 @@ follow_max_stops name NoRoom bytes is none room s = absurd (room refl)
 -- ---- a kind is needed
 
 abbrev with_kind : Piece
-with_kind = behind a_kind (λ (_ : Kind). a_number)
+with_kind = past a_kind (λ (_ : Kind). a_number)
 
 kind_fixed : Fixed a_kind 2
 kind_fixed kind = refl
@@ -177,31 +177,31 @@ follow_kind_stops name stop bytes other room s = kind_missing name stop bytes (�
 
 -- ---- a kind is there, and the number after it is missing
 
-behind_most : (name bytes after : List ℕ) (k : ℕ) → 2 ≤ k → ((x : with_kind.Of) (end : List ℕ) → with_kind.Can x → ¬ Stand (suc k) (with_kind.parts x) bytes end)
+after_most : (name bytes after : List ℕ) (k : ℕ) → 2 ≤ k → ((x : with_kind.Of) (end : List ℕ) → with_kind.Can x → ¬ Stand (suc k) (with_kind.parts x) bytes end)
     → (x : Option Kind × ℕ) → (a_follow name).Can x → Stand (suc k) ((a_follow name).parts x) bytes after → ⊥
-behind_most name bytes after k two most (None, max) can h = omega (arith, two, count_fits (suc k) (follow_parts None max) bytes after h)
-behind_most name bytes after k two most (Some kind, max) can h = most (kind, max) after (tt, can.1) h
+after_most name bytes after k two most (None, max) can h = omega (arith, two, count_fits (suc k) (follow_parts None max) bytes after h)
+after_most name bytes after k two most (Some kind, max) can h = most (kind, max) after (tt, can.1) h
 
-behind_none : (name bytes r after : List ℕ) (there : Kind) → Found a_kind there bytes r → ((x : with_kind.Of) (end : List ℕ) → with_kind.Can x → ¬ Stand (length (with_kind.parts x)) (with_kind.parts x) bytes end)
+after_none : (name bytes r after : List ℕ) (there : Kind) → Found a_kind there bytes r → ((x : with_kind.Of) (end : List ℕ) → with_kind.Can x → ¬ Stand (length (with_kind.parts x)) (with_kind.parts x) bytes end)
     → (x : Option Kind × ℕ) → (a_follow name).Can x → Stand (length ((a_follow name).parts x)) ((a_follow name).parts x) bytes after → ⊥
-behind_none name bytes r after there found none (None, max) can h = not_both there max bytes r after found (record { can = can.1; front = h })
-behind_none name bytes r after there found none (Some kind, max) can h = none (kind, max) after (tt, can.1) h
+after_none name bytes r after there found none (None, max) can h = not_both there max bytes r after found (record { can = can.1; front = h })
+after_none name bytes r after there found none (Some kind, max) can h = none (kind, max) after (tt, can.1) h
 
-behind_breaks : (name bytes r rest : List ℕ) (kind : Kind) → Found a_kind kind bytes r → Breaks a_number r rest → Breaks (a_follow name) bytes rest
-behind_breaks name bytes r rest kind found s =
+after_breaks : (name bytes r rest : List ℕ) (kind : Kind) → Found a_kind kind bytes r → Breaks a_number r rest → Breaks (a_follow name) bytes rest
+after_breaks name bytes r rest kind found s =
     let t = then_breaks a_kind (λ _. a_number) 2 kind bytes r rest kind_fixed kind_one found s in
     record {
       count = t.count;
       thing = (Some t.thing.0, t.thing.1);
       can = (tt, t.can.1);
       front = t.front;
-      most = λ x after can h. behind_most name bytes after t.count (first_counts a_kind (λ _. a_number) kind 0 bytes r rest found (omega arith) t) t.most x can h;
-      none = λ x after can h. behind_none name bytes r after kind found t.none x can h;
+      most = λ x after can h. after_most name bytes after t.count (first_counts a_kind (λ _. a_number) kind 0 bytes r rest found (omega arith) t) t.most x can h;
+      none = λ x after can h. after_none name bytes r after kind found t.none x can h;
     }
 
-pub follow_behind_stops : (name : List ℕ) (kind : Kind) (stop : PartFault) (bytes r : List ℕ) → Found a_kind kind bytes r → stop ≢ NoRoom → StopsIn a_number stop r → StopsIn (a_follow name) stop bytes
-follow_behind_stops name kind (BadPart left) bytes r found room s = (s.0, behind_breaks name bytes r s.0 kind found s.1, s.2)
-follow_behind_stops name kind NoRoom bytes r found room s = absurd (room refl)
+pub follow_after_stops : (name : List ℕ) (kind : Kind) (stop : PartFault) (bytes r : List ℕ) → Found a_kind kind bytes r → stop ≢ NoRoom → StopsIn a_number stop r → StopsIn (a_follow name) stop bytes
+follow_after_stops name kind (BadPart left) bytes r found room s = (s.0, after_breaks name bytes r s.0 kind found s.1, s.2)
+follow_after_stops name kind NoRoom bytes r found room s = absurd (room refl)
 
 -- ---- the reader of a range
 
@@ -228,7 +228,7 @@ follows_one name (None, m) (None, n) bytes r s fa fb =
 follows_one name (None, m) (Some kind, n) bytes r s fa fb = let there = kind_of_more 2 kind n bytes s fb.front in absurd (not_both kind m bytes there.0 r there.1 (record { can = fa.can.1; front = fa.front }))
 follows_one name (Some kind, m) (None, n) bytes r s fa fb = let there = kind_of_more 2 kind m bytes r fa.front in absurd (not_both kind n bytes there.0 s there.1 (record { can = fb.can.1; front = fb.front }))
 follows_one name (Some k, m) (Some l, n) bytes r s fa fb =
-    let one = one_behind a_kind (λ _. a_number) kind_one (λ _. number_one) (k, m) (l, n) bytes r s (record { can = (tt, fa.can.1); front = fa.front }) (record { can = (tt, fb.can.1); front = fb.front }) in
+    let one = one_after a_kind (λ _. a_number) kind_one (λ _. number_one) (k, m) (l, n) bytes r s (record { can = (tt, fa.can.1); front = fa.front }) (record { can = (tt, fb.can.1); front = fb.front }) in
     (ap (λ (x : with_kind.Of). (Some x.0, x.1)) one.0, one.1)
 
 range_back : (b : Option Key × ℕ) (can : a_range.Can b) → range_view.to (range_from b can).0 ≡ b
@@ -237,7 +237,7 @@ range_back (None, max) can = refl
 range_back (Some key, max) can = refl
 
 pub range_one : One a_range
-range_one = one_view named a_range range_view (one_behind a_name a_follow name_one follows_one) range_back
+range_one = one_view named a_range range_view (one_after a_name a_follow name_one follows_one) range_back
 
 ranges_apart : (a b : Option Key × ℕ) (bytes r after : List ℕ) → Found a_range a bytes r → a_range.Can b → length (a_range.parts a) < length (a_range.parts b) → Stand (suc (length (a_range.parts a))) (a_range.parts b) bytes after → ⊥
 ranges_apart (None, m) (None, n) bytes r after f can lt h = omega (arith, lt)

@@ -33,7 +33,7 @@ exits p bytes rest (Err it) exit room s =
 
 -- the byte before the piece is missing
 pub exits_byte : (n : ℕ) (p : Piece) (some : p.Of) → p.Can some → {bytes : List ℕ} (rest : List ℕ) (result : Result p.Of PartFault) {stop : PartFault}
-    → IsErrAnd result (λ (it : PartFault). it ≡ stop) → stop ≡ BadPart (length bytes) → ((behind : List ℕ) → bytes ≢ n ∷ behind)
+    → IsErrAnd result (λ (it : PartFault). it ≡ stop) → stop ≡ BadPart (length bytes) → ((past : List ℕ) → bytes ≢ n ∷ past)
     → Reads (after_byte n p) bytes result rest
 exits_byte n p some can {bytes} rest result {stop} exit at none =
     exits (after_byte n p) bytes rest result exit (no_want stop (length bytes) at) (no_byte n p some stop bytes can at none)

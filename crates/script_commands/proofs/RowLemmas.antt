@@ -77,11 +77,11 @@ last_comes k s bytes done failed (Err stop) rest reads told =
     inr (record { stop = stop; at = reads.stop; big = λ is. big_stands k s bytes (reads.room is); told = told })
 
 -- after a slot that is read
-behind_comes : (k : Kind) (s t : Slot) (ss : List Slot) (bytes rest : List ℕ) (x : (piece_of k s).Of)
+after_comes : (k : Kind) (s t : Slot) (ss : List Slot) (bytes rest : List ℕ) (x : (piece_of k s).Of)
     (done : (row_of k (s ∷ t ∷ ss)).Of → Type 0) (failed : PartFault → Type 0) → IsInner s → Found (piece_of k s) x bytes rest
     → Filled (kind_after k s x) (t ∷ ss) rest (λ y. done (x, y)) ⊎ Broken (kind_after k s x) (t ∷ ss) rest failed
     → Filled k (s ∷ t ∷ ss) bytes done ⊎ Broken k (s ∷ t ∷ ss) bytes failed
-behind_comes k s t ss bytes rest x done failed inner found comes =
+after_comes k s t ss bytes rest x done failed inner found comes =
     let more : (piece_of k s).Of → Piece = λ y. row_of (kind_after k s y) (t ∷ ss) in
     elim comes [
       | inl f ↦ inl (record {
@@ -107,7 +107,7 @@ first_comes : (k : Kind) (s t : Slot) (ss : List Slot) (bytes : List ℕ) (done 
     → MatchResult r More failed → Filled k (s ∷ t ∷ ss) bytes done ⊎ Broken k (s ∷ t ∷ ss) bytes failed
 unfolding ReadsOr
 first_comes k s t ss bytes done failed inner (Ok x) rest reads More comes told =
-    behind_comes k s t ss bytes rest x done failed inner reads.found (comes x told)
+    after_comes k s t ss bytes rest x done failed inner reads.found (comes x told)
 first_comes k s t ss bytes done failed inner (Err stop) rest reads More comes told =
     let none : stop ≢ NoRoom = λ is. inner_wants k s bytes inner (reads.room is) in
     inr (record {

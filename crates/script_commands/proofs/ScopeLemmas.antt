@@ -7,7 +7,7 @@ use Rattle.ds_line.specs.FaultPlace.{Stand}
 use Rattle.ds_line.specs.Piece.{Piece, Found, Breaks, StopsIn}
 use Rattle.ds_line.specs.declared.part_fault.PartFault.{PartFault}
 use Rattle.ds_line.specs.declared.part_fault.PartFault.TheVariants.{BadPart, NoRoom}
-use Rattle.ds_line.proofs.PieceLemmas.{One, behind, then_breaks, both_found, count_fits}
+use Rattle.ds_line.proofs.PieceLemmas.{One, past, then_breaks, both_found, count_fits}
 use Rattle.ds_pattern.specs.declared.query.Query.{Query}
 use Rattle.script_commands.specs.Pieces.{a_pattern, a_kinds}
 use Rattle.script_commands.specs.Reads.{ReadsOr, FindsPattern}
@@ -18,7 +18,7 @@ use Rattle.script_commands.specs.Query.{unescaped}
 use Rattle.script_commands.specs.Scope.{a_scope, scope_parts, IsScope}
 use Rattle.script_commands.proofs.PieceLemmas.{kinds_one}
 use Rattle.script_commands.proofs.QueryLemmas.{pattern_fixed, pattern_one}
-use Rattle.script_commands.proofs.OneLemmas.{one_behind}
+use Rattle.script_commands.proofs.OneLemmas.{one_after}
 use Rattle.script_commands.proofs.OpenLemmas.{Apart, first_counts}
 
 -- what follows the space
@@ -27,7 +27,7 @@ scope_rest = record { Of = Scope; Can = IsScope; parts = scope_parts }
 
 -- a pattern, and a mask of kinds
 abbrev pub a_query : Piece
-a_query = behind a_pattern (λ (_ : List ℕ). a_kinds)
+a_query = past a_pattern (λ (_ : List ℕ). a_kinds)
 
 -- ---- neither `*` nor a pattern is there
 
@@ -98,7 +98,7 @@ query_found written bytes r rest kinds found second =
     record { can = record { text = found.1.found.can; some = second.can.0; limit = second.can.1 }; front = both.front }
 
 query_one : One a_query
-query_one = one_behind a_pattern (λ _. a_kinds) pattern_one (λ _. kinds_one)
+query_one = one_after a_pattern (λ _. a_kinds) pattern_one (λ _. kinds_one)
 
 query_quote : (query : Query) (bytes rest : List ℕ) → Found a_scope (Under query) bytes rest → (t : List ℕ) × (bytes ≡ 32 ∷ 34 ∷ t)
 query_quote query bytes rest f = quote_stands query.text bytes f.front.0 f.front.2.0 f.front.1.parts f.front.2.1.parts

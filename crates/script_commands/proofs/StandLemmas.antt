@@ -22,7 +22,7 @@ use Rattle.ds_machine.specs.declared.command.Scope.TheVariants.{All as AllKeys, 
 use Rattle.script_commands.specs.declared.command.ScriptCommand.{ScriptCommand}
 use Rattle.script_commands.specs.declared.slot.Slot.{Slot}
 use Rattle.script_commands.specs.declared.slot.Slot.TheVariants as slots
-use Rattle.script_commands.specs.Command.{command_word, fields_of, behind_word}
+use Rattle.script_commands.specs.Command.{command_word, fields_of, after_word}
 use Rattle.script_commands.specs.Pieces.{initial_word, mode_word}
 use Rattle.script_commands.specs.Table.{slots_of, piece_of, kind_after, row_of}
 use Rattle.script_answers.specs.Outcome.{side_word}
@@ -184,7 +184,7 @@ row_stands k (s ∷ t ∷ ss) x =
 
 -- ---- commands
 
-pub command_stands : (command : ScriptCommand) → AllStand (behind_word command) []
+pub command_stands : (command : ScriptCommand) → AllStand (after_word command) []
 command_stands command = row_stands U32 (slots_of (command_word command)) (fields_of command)
 
 parted_ends : (ps : List Part) → Parted ps → Ends is_ascii_alphanumeric (texts ps)
@@ -193,5 +193,5 @@ parted_ends (p ∷ ps) (inl e) = subst (λ (q : Part). Ends is_ascii_alphanumeri
 parted_ends (p ∷ ps) (inr e) = subst (λ (q : Part). Ends is_ascii_alphanumeric (texts (q ∷ ps))) (sym e) refl
 
 -- the command's word ends where they begin
-pub command_parted : (command : ScriptCommand) → Ends is_ascii_alphanumeric (texts (behind_word command))
-command_parted command = parted_ends (behind_word command) (row_parted U32 (slots_of (command_word command)) (fields_of command))
+pub command_parted : (command : ScriptCommand) → Ends is_ascii_alphanumeric (texts (after_word command))
+command_parted command = parted_ends (after_word command) (row_parted U32 (slots_of (command_word command)) (fields_of command))

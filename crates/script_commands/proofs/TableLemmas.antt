@@ -12,10 +12,10 @@ use Rattle.script_commands.specs.declared.slot.Slot.{Slot}
 use Rattle.script_commands.specs.declared.slot.Slot.TheVariants as slots
 use Rattle.script_commands.specs.declared.word.Word.{Word as CommandWord}
 use Rattle.script_commands.specs.declared.word.Word.TheVariants as words
-use Rattle.script_commands.specs.Command.{row_for, command_word, fields_of, behind_word, IsCommand}
+use Rattle.script_commands.specs.Command.{row_for, command_word, fields_of, after_word, IsCommand}
 use Rattle.script_commands.specs.Row.{command_in}
 use Rattle.script_commands.specs.Table.{slots_of, piece_of, kind_after, row_of, line_of}
-use Rattle.script_commands.proofs.OneLemmas.{one_behind, one_view}
+use Rattle.script_commands.proofs.OneLemmas.{one_after, one_view}
 use Rattle.script_commands.proofs.SlotLemmas.{some_of, slot_one, IsLast, IsInner}
 
 -- ---- the command of a word and of its slots' contents
@@ -31,7 +31,7 @@ made w x can = (can, refl)
 record Row (m : ScriptCommand) (w : CommandWord) : Type 0 where
   fields : (line_of w).Of
   can : (line_of w).Can fields
-  parts : (line_of w).parts fields ≡ behind_word m
+  parts : (line_of w).parts fields ≡ after_word m
   back : command_in w fields ≡ m
 
 -- they are valid, and make the command
@@ -47,7 +47,7 @@ word_row w m is same =
 
 -- the contents of a word's commands
 abbrev pub taken_by : CommandWord → Piece
-taken_by w = record { Of = ScriptCommand; Can = λ (m : ScriptCommand). IsCommand m × (command_word m ≡ w); parts = behind_word }
+taken_by w = record { Of = ScriptCommand; Can = λ (m : ScriptCommand). IsCommand m × (command_word m ≡ w); parts = after_word }
 
 -- they are what its slots may hold
 view_of : (w : CommandWord) → Views (line_of w) (taken_by w)
@@ -100,7 +100,7 @@ row_some k (s ∷ t ∷ ss) = let x = some_of k s in let more = row_some (kind_a
 row_one : (k : Kind) (ss : List Slot) → One (row_of k ss)
 row_one k [] = slot_one k slots.End
 row_one k (s ∷ []) = slot_one k s
-row_one k (s ∷ t ∷ ss) = one_behind (piece_of k s) (λ (x : (piece_of k s).Of). row_of (kind_after k s x) (t ∷ ss)) (slot_one k s)
+row_one k (s ∷ t ∷ ss) = one_after (piece_of k s) (λ (x : (piece_of k s).Of). row_of (kind_after k s x) (t ∷ ss)) (slot_one k s)
     (λ x. row_one (kind_after k s x) (t ∷ ss))
 
 -- two commands of a word at one front are the same

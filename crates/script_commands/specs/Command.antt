@@ -64,12 +64,12 @@ abbrev pub word_of : ScriptCommand → List ℕ
 word_of command = text_of (command_word command)
 
 -- The parts after the word, slot by slot.
-abbrev pub behind_word : ScriptCommand → List Part
-behind_word command = (line_of (command_word command)).parts (fields_of command)
+abbrev pub after_word : ScriptCommand → List Part
+after_word command = (line_of (command_word command)).parts (fields_of command)
 
 -- The parts of a command's line: its word, and the contents of its slots.
 abbrev pub command_parts : ScriptCommand → List Part
-command_parts command = part Word (word_of command) ∷ behind_word command
+command_parts command = part Word (word_of command) ∷ after_word command
 
 -- The contents of the command's slots are valid. Only an offer's item must keep the rules of labels and of sequence
 -- numbers here; the store judges what is published. No line is a Merge.

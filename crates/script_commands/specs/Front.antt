@@ -12,6 +12,6 @@ abbrev pub HasWord : Word → List ℕ → Type 0
 HasWord w line = (rest : List ℕ) × (line ≡ text_of w ++ 32 ∷ rest)
 
 -- A word is at the front, and the reader of what follows stops with this fault.
-abbrev pub StopsBehindWord : List ℕ → PartFault → Type 0
-StopsBehindWord line stop =
+abbrev pub StopsAfterWord : List ℕ → PartFault → Type 0
+StopsAfterWord line stop =
     (w : Word) × (bytes : List ℕ) × Begins is_ascii_alphanumeric line (text_of w) bytes × TakesRow w bytes (Err stop)

@@ -42,7 +42,7 @@ pub enum ScriptCommand {
         map: u64,
     },
     /// `ring N`: the journals of both stores keep the last N items that took effect, 1 to 4096. Only a script's first
-    /// line may be this one; `read_line_behind` sees to it.
+    /// line may be this one; `read_line_after` sees to it.
     Ring {
         ring: u32,
     },

@@ -1,6 +1,6 @@
 //! Fast readers for the lines that most scripts consist of: `offer`, `publish` and `retrieve`.
 //!
-//! Each promises, for the lines of one word, what `read_line` and `read_line_behind` promise. It returns the parts of
+//! Each promises, for the lines of one word, what `read_line` and `read_line_after` promise. It returns the parts of
 //! the command rather than a `ScriptCommand`, which is as large as the largest command and would be copied from each
 //! reader to its caller.
 
@@ -11,7 +11,7 @@ ghost use Rattle.script_commands.specs.Fast.{IsOffer, IsPublish, IsRetrieve, OfP
 ghost use Rattle.script_commands.specs.Later.{ReadsLater};
 ghost use Rattle.script_commands.specs.declared.fault.CommandFault.{CommandFault as Fault};
 
-use crate::fault::{CommandFault, fault_behind_word};
+use crate::fault::{CommandFault, fault_after_word};
 use crate::lines::{item_at, publication_at, retrieved_at};
 use crate::pieces::Rest;
 use ds_entry::{Item, Value};
@@ -72,7 +72,7 @@ pub fn fast_offer(alloc: Global, line: &[u8], slot: &mut Option<Item>) -> Result
     };
     match item_at(alloc, &mut rest, slot) {
         Ok(()) => Ok(()),
-        Err(stop) => Err(fault_behind_word(line, stop, rest.expected)),
+        Err(stop) => Err(fault_after_word(line, stop, rest.expected)),
     }
 }
 
@@ -91,7 +91,7 @@ pub fn fast_publish(alloc: Global, line: &[u8]) -> Result<Publication, CommandFa
     };
     match publication_at(alloc, &mut rest) {
         Ok(publication) => Ok(publication),
-        Err(stop) => Err(fault_behind_word(line, stop, rest.expected)),
+        Err(stop) => Err(fault_after_word(line, stop, rest.expected)),
     }
 }
 
@@ -110,6 +110,6 @@ pub fn fast_retrieve(line: &[u8]) -> Result<Key, CommandFault>
     };
     match retrieved_at(&mut rest) {
         Ok(key) => Ok(key),
-        Err(stop) => Err(fault_behind_word(line, stop, rest.expected)),
+        Err(stop) => Err(fault_after_word(line, stop, rest.expected)),
     }
 }

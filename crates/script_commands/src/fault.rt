@@ -3,7 +3,7 @@
 ghost use Rattle.std.specs.Prelude.{Err};
 ghost use Rattle.line_io.specs.Lines.{EndsLine};
 ghost use Rattle.script_commands.specs.Command.{ReadsCommand};
-ghost use Rattle.script_commands.specs.Front.{StopsBehindWord};
+ghost use Rattle.script_commands.specs.Front.{StopsAfterWord};
 
 use ds_line::{Expected, PartFault};
 use thiserror::Error;
@@ -23,9 +23,9 @@ pub enum CommandFault {
 /// Returns the fault of a line that begins with a command's word and whose reader stopped after it, at the part that
 /// was expected.
 #[inline(always)]
-pub(crate) fn fault_behind_word(line: &[u8], stop: PartFault, expected: Expected) -> CommandFault
+pub(crate) fn fault_after_word(line: &[u8], stop: PartFault, expected: Expected) -> CommandFault
     requires line { EndsLine line.now }
-    requires stop { StopsBehindWord line.now stop }
+    requires stop { StopsAfterWord line.now stop }
     ensures { ReadsCommand line.now (Err result) }
 {
     match stop {

@@ -19,7 +19,7 @@ use std::alloc::Global;
 /// no other. Like `read_line`, but `ring` is a word of the first line only: on a later line it is unknown, so that line
 /// is bad at place 0.
 #[inline(always)]
-pub fn read_line_behind(
+pub fn read_line_after(
     alloc: Global,
     line: &[u8],
     before: u64,

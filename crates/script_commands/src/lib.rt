@@ -41,7 +41,7 @@ pub use fast::{
     Publication, fast_offer, fast_publish, fast_retrieve, is_offer, is_publish, is_retrieve,
 };
 pub use fault::CommandFault;
-pub use later::read_line_behind;
+pub use later::read_line_after;
 pub use laws::{lines_are_proper, lines_have_one_command, rows_are_commands};
 pub use reading::{read_command, read_line};
 pub use service::{Device, Request, Server};

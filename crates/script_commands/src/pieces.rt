@@ -10,8 +10,7 @@ ghost use Rattle.script_commands.specs.Reads.{Reads, ReadsOr};
 
 use ds_entry::Value;
 use ds_line::{
-    Expected, PartFault, behind_name, endpoint_at, kind_at, last_value_at, name_at, stop_at,
-    word_at,
+    Expected, PartFault, after_name, endpoint_at, kind_at, last_value_at, name_at, stop_at, word_at,
 };
 use ds_names::limits::LAST_GENERATION;
 use ds_names::{Endpoint, Generation, Key, Kind, Kinds, Name, Version, read_byte, read_decimal};
@@ -94,7 +93,7 @@ impl Rest<'_> {
         let Some(name) = name_at(self.bytes) else {
             return Err(stop_at(self.bytes));
         };
-        self.bytes = behind_name(self.bytes, &name);
+        self.bytes = after_name(self.bytes, &name);
         Ok(name)
     }
 

@@ -73,13 +73,13 @@ pub(crate) fn quoted_at(bytes: &[u8]) -> Option<(&[u8], &[u8])>
 {
     let written = read_byte(bytes, b'"')?;
     let mut rest = written;
-    while let Some((_, behind)) = written_byte_at(rest) {
-        rest = behind;
+    while let Some((_, after)) = written_byte_at(rest) {
+        rest = after;
     }
-    let Some(behind) = read_byte(rest, b'"') else {
+    let Some(after) = read_byte(rest, b'"') else {
         return None;
     };
-    Some((&written[..written.len() - rest.len()], behind))
+    Some((&written[..written.len() - rest.len()], after))
 }
 
 // Returns the text of these bytes, with its escapes resolved.
@@ -89,9 +89,9 @@ fn unescape(alloc: Global, written: &[u8]) -> Result<PatternText, NoRoom>
 {
     let mut text = Vec::new(alloc);
     let mut rest = written;
-    while let Some((byte, behind)) = written_byte_at(rest) {
+    while let Some((byte, after)) = written_byte_at(rest) {
         text.push(byte)?;
-        rest = behind;
+        rest = after;
     }
     PatternText::of(alloc, &text)
 }

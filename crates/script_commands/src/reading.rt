@@ -6,7 +6,7 @@ ghost use Rattle.script_commands.specs.Command.{ReadsCommand, IsLineOf, IsComman
 ghost use Rattle.script_commands.specs.Row.{TakesRow};
 
 use crate::command::ScriptCommand;
-use crate::fault::{CommandFault, fault_behind_word};
+use crate::fault::{CommandFault, fault_after_word};
 use crate::lines::{
     all_at, check_at, delete_at, entries_at, map_at, nameof_at, offer_at, publish_at, retrieve_at,
     show_at, subscribe_at, sweep_at,
@@ -67,16 +67,16 @@ pub fn read_line(alloc: Global, line: &[u8]) -> Result<ScriptCommand, CommandFau
         bytes,
         expected: Expected::Space,
     };
-    let command = match behind_word(alloc, word, &mut rest) {
+    let command = match after_word(alloc, word, &mut rest) {
         Ok(command) => command,
-        Err(stop) => return Err(fault_behind_word(line, stop, rest.expected)),
+        Err(stop) => return Err(fault_after_word(line, stop, rest.expected)),
     };
     Ok(command)
 }
 
 // Reads what follows a command's word.
 #[inline(always)]
-fn behind_word(alloc: Global, word: Word, rest: &mut Rest) -> Result<ScriptCommand, PartFault>
+fn after_word(alloc: Global, word: Word, rest: &mut Rest) -> Result<ScriptCommand, PartFault>
     ensures { TakesRow word rest.old.bytes.now result }
 {
     match word {

@@ -40,15 +40,15 @@ compared (x ∷ a) b (y ∷ c) d e = compared_on x y a b c d (ap (λ (l : List (
 
 longer_by : (start front : List ℕ) (before more left first rest : List (List ℕ)) (n : ℕ) → start ≡ joined before → front ≡ joined first → NoneEnds start front → Fails front rest → IsLegal (joined (before ++ more)) n →
     Compared (before ++ more) left first rest → more ≡ []
-longer_by start front before more left first rest n is behind none fails legal (inl k) =
+longer_by start front before more left first rest n is past none fails legal (inl k) =
     let text : joined (before ++ more) ≡ start ++ joined more = flat_map-append with_newline before more ∙ ap (λ (l : List ℕ). l ++ joined more) (sym is) in
     let split : front ≡ (start ++ joined more) ++ joined k.0 =
-    behind ∙ ap (λ (l : List (List ℕ)). joined l) k.1 ∙ flat_map-append with_newline (before ++ more) k.0 ∙ ap (λ (l : List ℕ). l ++ joined k.0) text in
+    past ∙ ap (λ (l : List (List ℕ)). joined l) k.1 ∙ flat_map-append with_newline (before ++ more) k.0 ∙ ap (λ (l : List ℕ). l ++ joined k.0) text in
     joined_none more (sym (none (joined more) (joined k.0) n split (subst (λ (l : List ℕ). IsLegal l n) text legal)))
-longer_by start front before more left first rest n is behind none fails legal (inr k) =
+longer_by start front before more left first rest n is past none fails legal (inr k) =
     let stops : Fails front (k.0 ∷ (k.1 ++ left)) = subst (Fails front) k.3 fails in
     let text : joined (before ++ more) ≡ (front ++ joined (k.0 ∷ [])) ++ joined k.1 =
-    ap (λ (l : List (List ℕ)). joined l) k.2 ∙ flat_map-append with_newline first (k.0 ∷ k.1) ∙ ap (λ (l : List ℕ). l ++ (with_newline k.0 ++ joined k.1)) (sym behind)
+    ap (λ (l : List (List ℕ)). joined l) k.2 ∙ flat_map-append with_newline first (k.0 ∷ k.1) ∙ ap (λ (l : List ℕ). l ++ (with_newline k.0 ++ joined k.1)) (sym past)
     ∙ sym (append_assoc front (with_newline k.0) (joined k.1)) ∙ ap (λ (l : List ℕ). (front ++ l) ++ joined k.1) (sym (append-nil (with_newline k.0))) in
     absurd (stops (joined k.1, n, subst (λ (l : List ℕ). IsLegal l n) text legal))
 
@@ -58,4 +58,4 @@ pub none_longer : (bytes start front : List ℕ) (number : ℕ) (before after : 
 none_longer bytes start front number before after lines is wrong none more left n split legal =
     let same : (before ++ more) ++ left ≡ wrong.before ++ wrong.rest =
     append_assoc before more left ∙ ap (λ (l : List (List ℕ)). before ++ l) (sym split) ∙ lines_are_one bytes (before ++ after) (wrong.before ++ wrong.rest) lines wrong.lines in
-    longer_by start front before more left wrong.before wrong.rest n is wrong.behind none wrong.fails legal (compared (before ++ more) left wrong.before wrong.rest same)
+    longer_by start front before more left wrong.before wrong.rest n is wrong.past none wrong.fails legal (compared (before ++ more) left wrong.before wrong.rest same)

@@ -24,7 +24,7 @@ use Rattle.trace_walk.specs.declared.walk.Walk.{Walk}
 use Rattle.trace_walk.specs.Passing.{HasPassed, IsWrittenAs}
 use Rattle.trace_walk.specs.Steps.{WalksAt, EndsThere, first_spot}
 use Rattle.trace_check.specs.Upgrading.{BeginsWithTwo, Refuses, Upgrades, upgrade_fault}
-use Rattle.trace_walk.specs.Walking.{Spot, IsAt, IsFault, Walks, spot_behind}
+use Rattle.trace_walk.specs.Walking.{Spot, IsAt, IsFault, Walks, spot_after}
 use Rattle.trace_check.proofs.LastLemmas.{none_longer}
 
 -- a fault of a walk explains why the input isn't written whole, if the first lines were passed and written
@@ -75,7 +75,7 @@ module _ (b : Spot) (h : Header) (output : List ℕ) (count : ℕ) (x : Upgrades
 
   -- one more
   pub upgrades_on : (w : Walk) (to : Option (List ℕ)) (passed : Passed) (p : HasPassed b h w to passed) (text : List ℕ) (k : ℕ)
-      → IsWrittenAs w passed [] text k → Upgrades (spot_behind b h.limits p.entry p.state) h (output ++ text) (count + k)
+      → IsWrittenAs w passed [] text k → Upgrades (spot_after b h.limits p.entry p.state) h (output ++ text) (count + k)
   upgrades_on w to passed p text k is =
       let m = written_as b h w to passed p x.one text k is in
       let leads : EntryLeads One b.state p.entry p.state = subst (λ (f : Format). EntryLeads f b.state p.entry p.state) x.one p.leads in
@@ -144,7 +144,7 @@ module _ (b : Spot) (before : List ℕ) (h : Header) (w : Walk) (from had has : 
     p = subst (λ (g : Header). HasPassed u.now g new to passed) u.header (goes u.now u.walks)
 
     abbrev next : Spot
-    next = spot_behind u.now h.limits p.entry p.state
+    next = spot_after u.now h.limits p.entry p.state
 
     on : Upgrades next h ((before ++ u.more) ++ text) (count + k)
     on = upgrades_on u.now h (before ++ u.more) count u.upgrades new to passed p text k is
@@ -179,7 +179,7 @@ module _ (bytes : List ℕ) (w : Walk) (from : Option (List ℕ)) (walks : Walks
   -- it is of format 2
   pub begins_two : w.header.format ≡ Two → BeginsWithTwo bytes
   begins_two two =
-      record { h = w.header; two = two; is = walks.behind.trace.header; front = walks.at.before; rest = walks.at.after; lines = walks.at.lines; text = sym walks.at.front_is }
+      record { h = w.header; two = two; is = walks.past.trace.header; front = walks.at.before; rest = walks.at.after; lines = walks.at.lines; text = sym walks.at.front_is }
 
   -- it is of format 1
   pub header_upgrades : w.header.format ≡ One → Upgrades (first_spot bytes w.header) w.header (header_text (upgraded w.header)) 0
@@ -188,7 +188,7 @@ module _ (bytes : List ℕ) (w : Walk) (from : Option (List ℕ)) (walks : Walks
         old = [];
         new = [];
         one = one;
-        trace = record { header = walks.behind.trace.header; each = λ k d lt. absurd (omega (arith, lt)); history = refl; written = sym (append-nil (header_text w.header)) };
+        trace = record { header = walks.past.trace.header; each = λ k d lt. absurd (omega (arith, lt)); history = refl; written = sym (append-nil (header_text w.header)) };
         become = (refl, refl);
         written = sym (append-nil (header_text (upgraded w.header)));
         counted = refl;

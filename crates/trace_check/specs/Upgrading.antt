@@ -95,10 +95,10 @@ StopsUpgrading old from had has fault =
     (more : List ℕ) × Appends had has more × Refuses fault b.bytes (before ++ more)
 
 -- Like `EndsUpgraded`, when only the header was read.
-abbrev pub EndsBehindHeader : Walk → Option (List ℕ) → (had has : Option (List ℕ)) → ℕ → Type 0
-EndsBehindHeader old from had has count =
+abbrev pub EndsAfterHeader : Walk → Option (List ℕ) → (had has : Option (List ℕ)) → ℕ → Type 0
+EndsAfterHeader old from had has count =
     (bytes : List ℕ) → WalksAt (first_spot bytes old.header) old from → UpgradesAll bytes had has count
 
-abbrev pub StopsBehindHeader : Walk → Option (List ℕ) → (had has : Option (List ℕ)) → UpgradeFault → Type 0
-StopsBehindHeader old from had has fault =
+abbrev pub StopsAfterHeader : Walk → Option (List ℕ) → (had has : Option (List ℕ)) → UpgradeFault → Type 0
+StopsAfterHeader old from had has fault =
     (bytes : List ℕ) → WalksAt (first_spot bytes old.header) old from → UpgradesInPart bytes had has fault

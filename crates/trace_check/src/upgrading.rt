@@ -2,8 +2,8 @@
 
 ghost use Rattle.std.specs.Prelude.{◌≡◌, IfOk, IfErr, IfSome};
 ghost use Rattle.trace_walk.specs.Upgrade.{upgraded};
-ghost use Rattle.trace_check.specs.Upgrading.{EndsBehindHeader, EndsUpgraded, BlamesUpgrade, BlamesUpgradeOn};
-ghost use Rattle.trace_check.specs.Upgrading.{StopsBehindHeader, StopsUpgrading, UpgradesAll, UpgradesInPart};
+ghost use Rattle.trace_check.specs.Upgrading.{EndsAfterHeader, EndsUpgraded, BlamesUpgrade, BlamesUpgradeOn};
+ghost use Rattle.trace_check.specs.Upgrading.{StopsAfterHeader, StopsUpgrading, UpgradesAll, UpgradesInPart};
 
 use ds_names::NoRoom;
 use line_io::{Sink, Source, WriteFailed, write_out};
@@ -92,18 +92,18 @@ pub fn upgrade<R: Source, W: Sink>(
     ensures cause { IfErr result (λ fault. BlamesUpgrade R.Source W.Sink fault reader.old reader.new writer.new) }
 {
     let mut walk = Walk::begin(alloc, reader)?;
-    upgrade_behind_header(alloc, &mut walk, reader, writer)
+    upgrade_after_header(alloc, &mut walk, reader, writer)
 }
 
 // Writes the trace whose header the walk read, header first.
-fn upgrade_behind_header<R: Source, W: Sink>(
+fn upgrade_after_header<R: Source, W: Sink>(
     alloc: Global,
     walk: &mut Walk,
     reader: &mut R,
     writer: &mut W,
 ) -> Result<u64, UpgradeFault>
-    ensures upgraded { IfOk result (EndsBehindHeader walk.old (R.remaining reader.old) (W.contents writer.old) (W.contents writer.new)) }
-    ensures stopped { IfErr result (StopsBehindHeader walk.old (R.remaining reader.old) (W.contents writer.old) (W.contents writer.new)) }
+    ensures upgraded { IfOk result (EndsAfterHeader walk.old (R.remaining reader.old) (W.contents writer.old) (W.contents writer.new)) }
+    ensures stopped { IfErr result (StopsAfterHeader walk.old (R.remaining reader.old) (W.contents writer.old) (W.contents writer.new)) }
     ensures cause { IfErr result (BlamesUpgradeOn R.Source W.Sink walk.old.entry.lines.reads reader.old reader.new writer.new) }
 {
     let header = walk.header();

@@ -17,8 +17,8 @@ ends_asked line e = by_test (has_pass line)
     by_test false = ends_after (62 ∷ 32 ∷ 48 ∷ 32 ∷ []) line (without 10 (λ (x : ℕ). nat_lt 10 x) refl (62 ∷ 32 ∷ 48 ∷ 32 ∷ []) refl) e
 
 -- so is what follows a pass
-pub ends_behind_pass : (pass : ℕ) (line rest : List ℕ) → pass ≤ 63 → line ≡ decimal pass ++ 32 ∷ rest → EndsLine line → EndsLine rest
-ends_behind_pass pass line rest le is e =
+pub ends_after_pass : (pass : ℕ) (line rest : List ℕ) → pass ≤ 63 → line ≡ decimal pass ++ 32 ∷ rest → EndsLine line → EndsLine rest
+ends_after_pass pass line rest le is e =
     pass_ends pass rest le (subst (λ (l : List ℕ). EndsLine (62 ∷ 32 ∷ l)) is (ends_after (62 ∷ 32 ∷ []) line (without 10 (λ (x : ℕ). nat_lt 10 x) refl (62 ∷ 32 ∷ []) refl) e))
 
 -- it is no shorter
@@ -30,9 +30,9 @@ asked_longer line = by_test (has_pass line)
     by_test false = omega arith
 
 -- what follows a first line follows its line in the trace
-pub asked_behind : (line more : List ℕ) → 0 < length line → asked_by (line ++ more) ≡ asked_by line ++ more
-asked_behind [] more some = absurd (omega (arith, some))
-asked_behind (b ∷ line) more some = by_test (is_ascii_digit b)
+pub asked_after : (line more : List ℕ) → 0 < length line → asked_by (line ++ more) ≡ asked_by line ++ more
+asked_after [] more some = absurd (omega (arith, some))
+asked_after (b ∷ line) more some = by_test (is_ascii_digit b)
   where
     by_test : (t : Bool) → 62 ∷ 32 ∷ cond t (b ∷ (line ++ more)) (48 ∷ 32 ∷ b ∷ (line ++ more)) ≡ (62 ∷ 32 ∷ cond t (b ∷ line) (48 ∷ 32 ∷ b ∷ line)) ++ more
     by_test true = refl

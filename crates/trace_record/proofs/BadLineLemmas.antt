@@ -12,7 +12,7 @@ use Rattle.trace_walk.specs.Text.{plus_text}
 use Rattle.trace_walk.proofs.FaultLemmas.{not_short}
 use Rattle.trace_record.specs.Asking.{AsksNothing, AsksNothingAt, IsAtLimit, IsFirstLines, IsPlaceOfLine, IsRingLine, asked_by}
 use Rattle.trace_record.specs.Reading.{IsAtLine}
-use Rattle.trace_record.proofs.AskingLemmas.{asked_longer, asked_behind, some_line}
+use Rattle.trace_record.proofs.AskingLemmas.{asked_longer, asked_after, some_line}
 use Rattle.trace_record.proofs.RingLemmas.{long_no_ring}
 
 -- ---- a line that must be a command
@@ -30,7 +30,7 @@ asks_nothing format bytes front line l to number place h none no_ring e at =
       before = h.before;
       rest = line ∷ h.more;
       lines = h.lines;
-      behind = append-nil front ∙ h.front_is;
+      past = append-nil front ∙ h.front_is;
       counted = e ∙ h.counted;
       stops = inl (refl, none);
       no_ring = λ first. no_ring (h.front_is ∙ ap (λ (l : List (List ℕ)). joined l) first);
@@ -45,7 +45,7 @@ long_asks_nothing format bytes front number place l limit =
       before = l.before;
       rest = l.line ∷ l.more;
       lines = l.lines;
-      behind = append-nil front ∙ l.front_is;
+      past = append-nil front ∙ l.front_is;
       counted = l.counted;
       stops = inl (refl, λ pass head short is. not_short l.line l.long (omega (arith, short, asked_longer (with_newline l.line))));
       no_ring = λ first. long_no_ring l.line l.long;
@@ -54,8 +54,8 @@ long_asks_nothing format bytes front number place l limit =
 
 -- ---- a line that must be an item's
 
-some_behind : (front line items : List ℕ) → front ++ (with_newline line ++ items) ≡ [] → ⊥
-some_behind front line items none = omega (arith, ap length none, length-append front (with_newline line ++ items), length-append (with_newline line) items, some_line line)
+some_after : (front line items : List ℕ) → front ++ (with_newline line ++ items) ≡ [] → ⊥
+some_after front line items none = omega (arith, ap length none, length-append front (with_newline line ++ items), length-append (with_newline line) items, some_line line)
 
 -- after a Merge's first line and some of its items
 pub lacks_item : (format : Format) (bytes front line : List ℕ) (pass count number place : ℕ)
@@ -64,14 +64,14 @@ pub lacks_item : (format : Format) (bytes front line : List ℕ) (pass count num
     → AsksNothingAt format bytes front number place
 lacks_item format bytes front line pass count number place whole head x =
     let items : List ℕ = flat_map plus_text x.items in
-    let behind : front ++ (with_newline line ++ items) ≡ joined x.lacks.before = sym (append_assoc front (with_newline line) items) ∙ x.lacks.behind in
+    let past : front ++ (with_newline line ++ items) ≡ joined x.lacks.before = sym (append_assoc front (with_newline line) items) ∙ x.lacks.past in
     record {
       whole = whole;
       part = with_newline line ++ items;
       before = x.lacks.before;
       rest = x.lacks.rest;
       lines = x.lacks.lines;
-      behind = behind;
+      past = past;
       counted = x.lacks.counted;
       stops = inr (record {
         pass = pass;
@@ -80,10 +80,10 @@ lacks_item format bytes front line pass count number place whole head x =
         pass_few = head.0;
         few = head.1;
         may = x.may;
-        part_is = asked_behind (with_newline line) items (some_line line) ∙ ap (λ (l : List ℕ). l ++ items) head.2;
+        part_is = asked_after (with_newline line) items (some_line line) ∙ ap (λ (l : List ℕ). l ++ items) head.2;
         less = x.less;
         lacks = x.lacks.lacks;
       });
-      no_ring = λ first. absurd (some_behind front line items (behind ∙ ap (λ (l : List (List ℕ)). joined l) first));
+      no_ring = λ first. absurd (some_after front line items (past ∙ ap (λ (l : List (List ℕ)). joined l) first));
       at = λ none. absurd (omega (arith, ap length none, length-append (with_newline line) items, some_line line));
     }

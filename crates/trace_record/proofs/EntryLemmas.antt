@@ -10,7 +10,7 @@ use Rattle.trace_walk.specs.declared.header.Header.{Header}
 use Rattle.trace_walk.specs.Legal.{EntryLeads, AllLead, opened_by}
 use Rattle.trace_walk.specs.Text.{TraceEntry, FormatHas, IsEntry, IsHeader, asked_text, entry_text, header_text, trace_text}
 use Rattle.trace_walk.proofs.TracedLemmas.{traced_stays}
-use Rattle.trace_walk.proofs.WalkLemmas.{header_behind}
+use Rattle.trace_walk.proofs.WalkLemmas.{header_after}
 use Rattle.trace_record.specs.declared.form.Form.{Form}
 use Rattle.trace_record.specs.declared.form.Form.TheVariants.{One, Two}
 use Rattle.trace_record.specs.Asking.{asked_by}
@@ -27,7 +27,7 @@ header_is (Two limits) ring r l = record { incarnation = omega arith; first = om
 -- it is the trace of nothing
 pub recorded_none : (h : Header) → IsHeader h → Recorded h (header_text h) [] (opened_by h) 0
 recorded_none h is =
-    let b = header_behind h is in
+    let b = header_after h is in
     record {
       entries = [];
       asks = refl;

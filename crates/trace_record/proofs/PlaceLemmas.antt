@@ -9,7 +9,7 @@ use Rattle.script_commands.specs.declared.command.ScriptCommand.{ScriptCommand}
 use Rattle.script_commands.specs.declared.command.ScriptCommand.TheVariants.{Offer}
 use Rattle.script_commands.specs.declared.fault.CommandFault.{CommandFault}
 use Rattle.script_commands.specs.declared.fault.CommandFault.TheVariants.{BadLine, NoRoom}
-use Rattle.trace_record.specs.Asking.{IsBadBehindPass, IsTextBadAt, IsUncarried, MayBe}
+use Rattle.trace_record.specs.Asking.{IsBadAfterPass, IsTextBadAt, IsUncarried, MayBe}
 use Rattle.trace_record.specs.Places.{IsPlaceOfFault}
 
 first_byte : (command : ScriptCommand) (place : ℕ) → place ≡ 0 → IsUncarried command place
@@ -35,18 +35,18 @@ few_by (Offer i) at (inr e) = omega (arith, e)
 few_by _ at e = omega (arith, e)
 
 -- after a pass
-pub behind_pass : (line text : List ℕ) (pass at place : ℕ)
+pub after_pass : (line text : List ℕ) (pass at place : ℕ)
     → pass ≤ 63 → line ≡ decimal pass ++ 32 ∷ text → length line < 2 ^ 64 → IsTextBadAt 1 text at
     → place ≡ min ((length line - length text) + at) (2 ^ 64 - 1)
-    → IsBadBehindPass line place
-behind_pass line text pass at place few is short (inl merge) e =
+    → IsBadAfterPass line place
+after_pass line text pass at place few is short (inl merge) e =
     let front : length line ≡ length (decimal pass) + (1 + length text) = omega (arith, ap length is, length-append (decimal pass) (32 ∷ text)) in
     let digits : length (decimal pass) ≤ 20 = length-decimal-le 20 pass (omega arith) (omega (arith, few)) (omega (arith, few)) in
     record { pass = pass; text = text; at = place - (length (decimal pass) + 1); few = few; line_is = is; place_is = omega (arith, front, digits, e); bad = inl merge }
-behind_pass line text pass at place few is short (inr (inl fault)) e =
+after_pass line text pass at place few is short (inr (inl fault)) e =
     let front : length line ≡ length (decimal pass) + (1 + length text) = omega (arith, ap length is, length-append (decimal pass) (32 ∷ text)) in
     record { pass = pass; text = text; at = at; few = few; line_is = is; place_is = omega (arith, front, e, short, fault.first.begins); bad = inr (inl fault) }
-behind_pass line text pass at place few is short (inr (inr other)) e =
+after_pass line text pass at place few is short (inr (inr other)) e =
     let front : length line ≡ length (decimal pass) + (1 + length text) = omega (arith, ap length is, length-append (decimal pass) (32 ∷ text)) in
     let digits : length (decimal pass) ≤ 20 = length-decimal-le 20 pass (omega arith) (omega (arith, few)) (omega (arith, few)) in
     record { pass = pass; text = text; at = at; few = few; line_is = is; place_is = omega (arith, front, digits, e, few_by other.0 at other.3); bad = inr (inr other) }

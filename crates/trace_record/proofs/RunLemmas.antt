@@ -126,7 +126,7 @@ some_more first asking [] some none = some refl
 some_more first asking (b ∷ more) some none = omega (arith, ap length none, length-append first (asking ++ b ∷ more), length-append asking (b ∷ more))
 
 -- it waits, and the input is after its lines
-pub record IsBehind (known : Option (List ℕ)) (first : List ℕ) (had : Option (List ℕ)) (h : Header) (w : Recorder) (from has : Option (List ℕ)) (count : ℕ) : Type 0 where
+pub record IsAfterEntries (known : Option (List ℕ)) (first : List ℕ) (had : Option (List ℕ)) (h : Header) (w : Recorder) (from has : Option (List ℕ)) (count : ℕ) : Type 0 where
   pub sent : List ℕ
   pub asking : List ℕ
   pub state : State
@@ -142,7 +142,7 @@ module _ (known : Option (List ℕ)) (first : List ℕ) (had : Option (List ℕ)
   abbrev at_line : (bytes : List ℕ) → known ≡ Some bytes → IsAtLine bytes (first ++ r.asking) w.entry.lines from
   at_line bytes k = subst (ComesToNext bytes (first ++ r.asking) w.entry.lines from) there (r.comes bytes k)
 
-  pub entry_added : AddsEntry w from new to → IsBehind known first had h new to has (suc count)
+  pub entry_added : AddsEntry w from new to → IsAfterEntries known first had h new to has (suc count)
   entry_added added =
       let a = added.1 (r.sent ++ w.output.items) r.asking r.state count (subst (λ (z : Header). Recorded z (r.sent ++ w.output.items) r.asking r.state count) (sym r.header) r.recorded) r.stands in
       let text : (r.sent ++ w.output.items) ++ a.added ≡ r.sent ++ new.output.items = append_assoc r.sent w.output.items a.added ∙ ap (λ (l : List ℕ). r.sent ++ l) (sym a.output) in
@@ -172,7 +172,7 @@ module _ (known : Option (List ℕ)) (first : List ℕ) (had : Option (List ℕ)
         input = λ bytes k. subst (λ (z : Header). IsBeforeFault z.format fault bytes (first ++ r.asking)) r.header (f.2 bytes (first ++ r.asking) (at_line bytes k) (λ none. r.no_ring none there));
       })
 
-module _ (known : Option (List ℕ)) (first : List ℕ) (had : Option (List ℕ)) (h : Header) (w : Recorder) (from has now : Option (List ℕ)) (count : ℕ) (b : IsBehind known first had h w from has count) where
+module _ (known : Option (List ℕ)) (first : List ℕ) (had : Option (List ℕ)) (h : Header) (w : Recorder) (from has now : Option (List ℕ)) (count : ℕ) (b : IsAfterEntries known first had h w from has count) where
   -- it can't be written
   pub entry_unwritten : (waits : List ℕ) → WritesPart has now w.output.items → RunsTo known first had h waits now (Err WriteFault)
   entry_unwritten waits p =

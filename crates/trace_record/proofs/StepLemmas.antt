@@ -28,7 +28,7 @@ use Rattle.trace_record.specs.Asking.{IsPlaceOfLine, AsksNothing, IsFirstLines, 
 use Rattle.trace_record.specs.Reading.{IsAtLine, IsOfInput, IsOfLines, of_lines}
 use Rattle.trace_record.specs.Record.{IsBeforeFault}
 use Rattle.trace_record.specs.Steps.{AddedEntry, AddsEntry, AnswersAsked, AnswersIn, FailsAtHead, FailsInEntry, HeadsFrom, KeepsOutput, Recorded}
-use Rattle.trace_record.proofs.AskingLemmas.{asked_behind}
+use Rattle.trace_record.proofs.AskingLemmas.{asked_after}
 use Rattle.trace_record.proofs.BadLineLemmas.{asks_nothing, front_there, lacks_item}
 use Rattle.trace_record.proofs.EntryLemmas.{recorded_more}
 
@@ -59,7 +59,7 @@ module _ (w read new : Recorder) (whole : EntryReader) (from to : Option (List �
   line = w.entry.lines.line
 
   lines_asked : asked_by (line ++ l.more) ≡ asked_text hf.pass asked
-  lines_asked = asked_behind line l.more (omega (arith, ap length ends.parts, length-append ends.front (10 ∷ []))) ∙ ap (λ (t : List ℕ). t ++ l.more) (sym hf.begun) ∙ sym l.whole
+  lines_asked = asked_after line l.more (omega (arith, ap length ends.parts, length-append ends.front (10 ∷ []))) ∙ ap (λ (t : List ℕ). t ++ l.more) (sym hf.begun) ∙ sym l.whole
 
   lines_some : line ++ l.more ≢ []
   lines_some none = omega (arith, ap length none, length-append line l.more, ap length ends.parts, length-append ends.front (10 ∷ []))

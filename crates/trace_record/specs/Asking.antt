@@ -77,7 +77,7 @@ IsTextBadAt before text place =
     ⊎ ((command : ScriptCommand) × MayBe before command × (text ≡ texts (command_parts command)) × IsUncarried command place))
 
 -- Whether the line is a pass, a space and such a text.
-pub record IsBadBehindPass (line : List ℕ) (place : ℕ) : Type 0 where
+pub record IsBadAfterPass (line : List ℕ) (place : ℕ) : Type 0 where
   pub pass : ℕ
   pub text : List ℕ
   pub at : ℕ
@@ -92,7 +92,7 @@ HasNoPass line = (pass : ℕ) (text : List ℕ) → pass ≤ 63 → line ≢ dec
 
 -- Whether the line is bad at the place, by whether it begins with a digit.
 abbrev pub IsLineBadAt : (has_pass : Bool) → (before : ℕ) → List ℕ → ℕ → Type 0
-IsLineBadAt true before line place = IsBadBehindPass line place ⊎ (HasNoPass line × (place ≡ 0))
+IsLineBadAt true before line place = IsBadAfterPass line place ⊎ (HasNoPass line × (place ≡ 0))
 IsLineBadAt false before line place = IsTextBadAt before line place
 
 -- The place in a line that is too long: where it is as long as it may be, which depends on its pass.
@@ -149,7 +149,7 @@ pub record AsksNothingAt (format : Format) (bytes front : List ℕ) (number plac
   pub before : List (List ℕ)
   pub rest : List (List ℕ)
   pub lines : HasLines bytes (before ++ rest)
-  pub behind : front ++ part ≡ joined before
+  pub past : front ++ part ≡ joined before
   pub counted : number ≡ suc (length before)
   pub stops : GoesNotOn format part rest
   pub no_ring : before ≡ [] → BeginsNoRing rest

@@ -67,8 +67,8 @@ BeginsInput old from new to b =
     ((bytes : List ℕ) → IsAt bytes [] old from → ComesToNext bytes first new to b.next)
 
 -- Whether the line, in some pass, has this command.
-abbrev pub IsHeadBehind : Format → List ℕ → Head → Type 0
-IsHeadBehind format text head = (pass : ℕ) × IsHeadOf format pass head text × IsShort text
+abbrev pub IsHeadAfter : Format → List ℕ → Head → Type 0
+IsHeadAfter format text head = (pass : ℕ) × IsHeadOf format pass head text × IsShort text
 
 -- Why a line isn't read: it isn't a command, has this number and is bad at the place, or memory ran out.
 abbrev pub IsBadHead : Format → List ℕ → ℕ → RecordFault → Type 0

@@ -4,7 +4,7 @@ ghost use Rattle.std.specs.Prelude.{◌≡◌, IfOk, IfErr};
 ghost use Rattle.line_io.specs.Lines.{EndsLine};
 ghost use Rattle.trace_record.specs.Asking.{asked_by};
 ghost use Rattle.trace_record.specs.Causes.{ReadsOn};
-ghost use Rattle.trace_record.specs.Reading.{Comes, IsBadHead, IsHeadBehind, IsReady};
+ghost use Rattle.trace_record.specs.Reading.{Comes, IsBadHead, IsHeadAfter, IsReady};
 
 use crate::fault::RecordFault;
 use crate::place::{longest, place_of_command, place_of_long};
@@ -41,7 +41,7 @@ pub(crate) fn read_asking(
 ) -> Result<Head, RecordFault>
     requires ends { EndsLine line.now }
     requires text { text.now ≡ asked_by line.now }
-    ensures found { IfOk result (IsHeadBehind format text.now) }
+    ensures found { IfOk result (IsHeadAfter format text.now) }
     ensures fails { IfErr result (IsBadHead format line.now number) }
 {
     if text.len() > LONGEST_LINE + 1 {

@@ -9,7 +9,7 @@ use crate::pass::{has_pass, mark_length};
 use ds_line::{LineFault, read_item};
 use ds_names::{read_byte, read_decimal};
 use line_io::{LONGEST_LINE, Lines};
-use script_commands::{CommandFault, ScriptCommand, read_line_behind};
+use script_commands::{CommandFault, ScriptCommand, read_line_after};
 use std::alloc::Global;
 
 /// Returns the most bytes that the line may have, without its newline: with its mark, a trace's line has at most 4096.
@@ -38,7 +38,7 @@ pub(crate) fn place_of_command(alloc: Global, line: &[u8], number: u64) -> usize
     ensures { IsLineBadAt (has_pass line.now) (number - 1) line.now result }
 {
     if !has_pass(line) {
-        return place_behind_pass(alloc, line, number.saturating_sub(1));
+        return place_after_pass(alloc, line, number.saturating_sub(1));
     }
     let Some((_, rest)) = read_decimal(line, 63) else {
         return 0;
@@ -47,18 +47,18 @@ pub(crate) fn place_of_command(alloc: Global, line: &[u8], number: u64) -> usize
         return 0;
     };
     let before = line.len().saturating_sub(rest.len());
-    before.saturating_add(place_behind_pass(alloc, rest, 1))
+    before.saturating_add(place_after_pass(alloc, rest, 1))
 }
 
 // Likewise for the text after a pass, of a line after `before` others. Only the first line may be `ring N`.
-fn place_behind_pass(alloc: Global, text: &[u8], before: u64) -> usize
+fn place_after_pass(alloc: Global, text: &[u8], before: u64) -> usize
     requires { EndsLine text.now }
     ensures { IsTextBadAt before text.now result }
 {
     if let Some(place) = place_of_merge(text) {
         return place;
     }
-    place_of_read(&read_line_behind(alloc, text, before))
+    place_of_read(&read_line_after(alloc, text, before))
 }
 
 // Likewise for a line that was parsed. A valid offer has an item that the trace's format doesn't: the place of its

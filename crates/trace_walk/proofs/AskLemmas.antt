@@ -36,7 +36,7 @@ use Rattle.trace_walk.specs.declared.passed.Passed.{Passed}
 use Rattle.trace_walk.specs.declared.walk.Walk.{Walk}
 use Rattle.trace_walk.specs.Passing.{BecomesBy, HasPassed}
 use Rattle.trace_walk.specs.Steps.{HasSaid, SaysAll}
-use Rattle.trace_walk.specs.Walking.{Spot, IsAt, HasLine, IsFault, IsShort, Walks, spot_behind, HasAsked, Hears, IsEnded, IsThere, IsToBeSaid, IsStopFault, IsForStore}
+use Rattle.trace_walk.specs.Walking.{Spot, IsAt, HasLine, IsFault, IsShort, Walks, spot_after, HasAsked, Hears, IsEnded, IsThere, IsToBeSaid, IsStopFault, IsForStore}
 use Rattle.trace_walk.proofs.FaultLemmas.{wrong_there, place_of}
 use Rattle.trace_walk.proofs.ShortLemmas.{reply_short, may_short, reply_ended, reply_some}
 use Rattle.trace_walk.proofs.ToldLemmas.{told, stop_first, stop_told, sweep_step}
@@ -49,15 +49,15 @@ pub reply_wanted : (b : Spot) (l : LinesContent) (store : ContentRecord) (h : He
     → IsPlaceInEntry b.front (b.front ++ asked_text pass asked) true IsShort
 reply_wanted b l store h from pass asked kept x =
     place_of b.front _ true (MayReply h.format h.limits b.state asked) IsShort
-    (λ line m. may_short h pass b.state asked line x.behind.trace.header x.behind.traced x.may m)
-    (reply_places b.front h b.state b.count pass asked x.behind x.pass_few x.may)
+    (λ line m. may_short h pass b.state asked line x.past.trace.header x.past.traced x.may m)
+    (reply_places b.front h b.state b.count pass asked x.past x.pass_few x.may)
 
 -- and does
 pub hears : (b : Spot) (old l : LinesContent) (store : ContentRecord) (h : Header) (from to : Option (List ℕ)) (pass : ℕ)
     (asked : Asked) (kept : List ℕ) (x : HasAsked b old store h from pass asked kept) (line : List ℕ)
     → l.line ≡ with_newline line → HasLine b.bytes (b.front ++ asked_text pass asked) line l to → Hears b l store h to pass asked kept
 hears b old l store h from to pass asked kept x line is here =
-    record { line = line; here = here; line_is = is; stands = x.stands; behind = x.behind; pass_few = x.pass_few; may = x.may; kept_is = x.kept_is }
+    record { line = line; here = here; line_is = is; stands = x.stands; past = x.past; pass_few = x.pass_few; may = x.may; kept_is = x.kept_is }
 
 -- ---- the reply
 
@@ -66,7 +66,7 @@ module _ (b : Spot) (old : LinesContent) (store : ContentRecord) (h : Header) (f
   base = b.front ++ asked_text pass asked
 
   abbrev place : IsPlaceInEntry b.front base true (MayReply h.format h.limits b.state asked)
-  place = reply_places b.front h b.state b.count pass asked x.behind x.pass_few x.may
+  place = reply_places b.front h b.state b.count pass asked x.past x.pass_few x.may
 
   module _ (command : Command) (asks : command_asked asked ≡ Some command) (reply : AReply) (t : State) (step : StepOf h.format b.state command reply t) where
     abbrev entry : TraceEntry
@@ -90,22 +90,22 @@ module _ (b : Spot) (old : LinesContent) (store : ContentRecord) (h : Header) (f
           further = λ given next left is ends.
               let last : EndsALine next = record { front = ends.front; parts = ends.parts; none = ends.none } in (
                 subst (λ (f : List ℕ). IsPlaceInEntry b.front f true (λ (line : List ℕ). line ≡ 60 ∷ 32 ∷ next)) (sym (append_assoc b.front (asked_text pass asked) (marked (given ++ 10 ∷ []))))
-                    (within_replies b.front h b.state t b.count entry given next left x.behind is_entry leads is last),
-                reply_short h pass b.state t asked command reply x.behind.trace.header x.behind.traced x.may asks step (given ++ 10 ∷ []) next left is last,
+                    (within_replies b.front h b.state t b.count entry given next left x.past is_entry leads is last),
+                reply_short h pass b.state t asked command reply x.past.trace.header x.past.traced x.may asks step (given ++ 10 ∷ []) next left is last,
               );
         }
 
     -- all its lines are there
-    pub walks_on : (l : LinesContent) (to : Option (List ℕ)) (new : ContentRecord) → IsAt b.bytes (base ++ marked text) l to → ContentStands new t → Walks (spot_behind b h.limits entry t) l new h to
+    pub walks_on : (l : LinesContent) (to : Option (List ℕ)) (new : ContentRecord) → IsAt b.bytes (base ++ marked text) l to → ContentStands new t → Walks (spot_after b h.limits entry t) l new h to
     walks_on l to new at stands =
         record {
           at = subst (λ (f : List ℕ). IsAt b.bytes f l to) (append_assoc b.front (asked_text pass asked) (marked text)) at;
           stands = stands;
-          behind = entries_lead b.front h b.state t b.count entry x.behind is_entry leads;
+          past = entries_lead b.front h b.state t b.count entry x.past is_entry leads;
         }
 
     -- and that is one more entry
-    pub passes : (w : Walk) (to : Option (List ℕ)) (passed : Passed) → Walks (spot_behind b h.limits entry t) w.entry.lines w.store h to → w.header ≡ h → w.entry.text.items ≡ kept → w.reply.items ≡ text →
+    pub passes : (w : Walk) (to : Option (List ℕ)) (passed : Passed) → Walks (spot_after b h.limits entry t) w.entry.lines w.store h to → w.header ≡ h → w.entry.text.items ≡ kept → w.reply.items ≡ text →
         (h.format ≡ One → BecomesBy b.state h.limits entry passed) → HasPassed b h w to passed
     passes w to passed walks header asked_is reply_is becomes =
         record { entry = entry; state = t; is = is_entry; leads = leads; walks = walks; header = header; asked = asked_is ∙ x.kept_is; reply = reply_is; becomes = becomes }
@@ -114,7 +114,7 @@ module _ (b : Spot) (old : LinesContent) (store : ContentRecord) (h : Header) (f
     pub answered_goes : (said : List ℕ) → said ≡ text → (l : LinesContent) (to : Option (List ℕ)) (new : ContentRecord) →
         ((bytes base here : List ℕ) → HasLine bytes base here old from → old.line ≡ with_newline here → IsEnded said → 0 < length said → IsAt bytes (base ++ marked said) l to) →
         ContentStands new t →
-        Walks (spot_behind b h.limits entry t) l new h to
+        Walks (spot_after b h.limits entry t) l new h to
     answered_goes said is l to new goes stands =
         let whole : IsEnded said = subst IsEnded (sym is) (reply_ended (worded_as asked) reply h.limits) in
         let some : 0 < length said = subst (λ (f : List ℕ). 0 < length f) (sym is) (reply_some (worded_as asked) reply h.limits) in
@@ -151,7 +151,7 @@ module _ (b : Spot) (old : LinesContent) (store : ContentRecord) (h : Header) (f
       let step = wants_step h.format b.state c.0 in
       let walks = walks_on c.0 c.1 (Refused refusals.NoRoom) b.state step old from store
       (subst (λ (l : List ℕ). IsAt b.bytes (base ++ l) old from) (sym x.line_is ∙ is ∙ sym noroom_marked) x.here.then) x.stands in
-      let next : Spot = spot_behind b h.limits (record { pass = pass; asked = asked; reply = Refused refusals.NoRoom }) b.state in
+      let next : Spot = spot_after b h.limits (record { pass = pass; asked = asked; reply = Refused refusals.NoRoom }) b.state in
       let there : Walks next w.entry.lines w.store h from = subst (λ (k : ContentRecord). Walks next w.entry.lines k h from) (sym store_is) (subst (λ (k : LinesContent). Walks next k store h from) (sym lines_is) walks) in
       passes c.0 c.1 (Refused refusals.NoRoom) b.state step w from passed there header asked_is reply_is becomes
 
@@ -178,7 +178,7 @@ module _ (b : Spot) (old : LinesContent) (store : ContentRecord) (h : Header) (f
   pub stop_fails : (fault : WalkFault) (number : ℕ) → IsStopFault b.state items done number fault → number ≡ old.count → IsFault b.front b.bytes fault
   stop_fails (IllegalAt n) number k e =
       wrong_there b.front b.bytes (b.front ++ asked_text pass (askeds.Merge items)) x.line old from n (MayReply h.format h.limits b.state (askeds.Merge items)) x.here (place b old store h from pass (askeds.Merge items) kept x)
-      (λ m. k.1 (stop_told h.format h.limits pass b.state items done (with_newline x.line) x.behind.traced x.may less (sym x.line_is ∙ is) m)) (k.0 ∙ e)
+      (λ m. k.1 (stop_told h.format h.limits pass b.state items done (with_newline x.line) x.past.traced x.may less (sym x.line_is ∙ is) m)) (k.0 ∙ e)
   stop_fails (BadLineAt n) number k e = absurd k
   stop_fails ReadFault number k e = tt
   stop_fails NoRoom number k e = tt

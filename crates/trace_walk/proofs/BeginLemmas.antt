@@ -16,7 +16,7 @@ use Rattle.trace_walk.specs.Legal.{IsTrace}
 use Rattle.trace_walk.specs.Text.{IsHeader, FormatHas, HasNoHeader, header_text, format_text, numbers_text, limits_text}
 use Rattle.trace_walk.specs.Verdict.{IsLegal, IsWrongAt, MayBegin, WantsReply, IsVerdict}
 use Rattle.trace_walk.proofs.HeaderLemmas.{few_limits}
-use Rattle.trace_walk.proofs.WalkLemmas.{header_behind, bad_header}
+use Rattle.trace_walk.proofs.WalkLemmas.{header_after, bad_header}
 use Rattle.trace_walk.specs.declared.fault.WalkFault.{WalkFault}
 use Rattle.trace_walk.specs.declared.fault.WalkFault.TheVariants as faults
 use Rattle.trace_walk.specs.declared.entry.EntryFault.{EntryFault}
@@ -38,7 +38,7 @@ pub legal_at_end : (b : Spot) (l : LinesContent) (store : ContentRecord) (h : He
     → Walks b l store h from → (count : ℕ) → b.count ≡ count → (lines : List (List ℕ)) × HasLines b.bytes lines × (b.front ≡ joined lines)
     → IsVerdict b.bytes (verdicts.Legal count)
 legal_at_end b l store h from w count is ends =
-    (ends.0, ends.1, (h, w.behind.entries, b.state, subst (λ (t : List ℕ). IsTrace t h w.behind.entries b.state) ends.2 w.behind.trace, w.behind.counted ∙ is))
+    (ends.0, ends.1, (h, w.past.entries, b.state, subst (λ (t : List ℕ). IsTrace t h w.past.entries b.state) ends.2 w.past.trace, w.past.counted ∙ is))
 
 -- ---- the empty front
 
@@ -50,7 +50,7 @@ unfolding some_header
 some_is = record { incarnation = omega arith; first = omega arith; ring = record { some = omega arith; limit = omega arith }; limits = refl }
 
 nothing_begins : MayBegin []
-nothing_begins = let b = header_behind some_header some_is in (header_text some_header, 0, (some_header, b.entries, _, b.trace, b.counted))
+nothing_begins = let b = header_after some_header some_is in (header_text some_header, 0, (some_header, b.entries, _, b.trace, b.counted))
 
 starts : (f : Format) (a b : List ℕ) → get_or ((format_text f ++ a) ++ b) 0 0 ≡ 116
 starts One a b = refl
@@ -118,8 +118,8 @@ pub wrong_first : (bytes line : List ℕ) (number : ℕ) (before more : List (Li
     → HasLines bytes (before ++ line ∷ more) → [] ≡ joined before → number ≡ suc (length before) → IsUnbroken line
     → HasNoHeader (with_newline line)
     → WantsHeader bytes (faults.BadLineAt number)
-wrong_first bytes line number before more lines behind counted whole none =
-    let wrong : IsWrongAt bytes number [] = record { before = before; rest = line ∷ more; lines = lines; behind = behind; counted = counted; begins = nothing_begins; fails = bad_header line more whole none } in
+wrong_first bytes line number before more lines past counted whole none =
+    let wrong : IsWrongAt bytes number [] = record { before = before; rest = line ∷ more; lines = lines; past = past; counted = counted; begins = nothing_begins; fails = bad_header line more whole none } in
     (([], wrong, no_reply_first, none_here []), ([], wrong, refl))
 
 pub line_wrong : (bytes line : List ℕ) (number : ℕ) (l : LinesContent) (to : Option (List ℕ)) → HasLine bytes [] line l to → number ≡ 1 → HasNoHeader (with_newline line) → WantsHeader bytes (faults.BadLineAt number)
@@ -129,7 +129,7 @@ line_wrong bytes line number l to h one none =
 pub input_empty : (bytes : List ℕ) (number : ℕ) → IsRead bytes [] number → WantsHeader bytes (faults.BadLineAt 1)
 input_empty bytes number r =
     let none : r.0 ≡ [] = joined_none r.0 r.2 in
-    let wrong : IsWrongAt bytes 1 [] = record { before = []; rest = []; lines = subst (HasLines bytes) none r.1; behind = refl; counted = refl; begins = nothing_begins; fails = nothing_illegal } in
+    let wrong : IsWrongAt bytes 1 [] = record { before = []; rest = []; lines = subst (HasLines bytes) none r.1; past = refl; counted = refl; begins = nothing_begins; fails = nothing_illegal } in
     (([], wrong, no_reply_first, none_here []), ([], wrong, refl))
 
 pub first_fails : (bytes : List ℕ) (fault : EntryFault) → IsLongFault bytes [] fault → WantsHeader bytes (of_entry fault)
@@ -146,7 +146,7 @@ at_start bytes l from e f =
       after = h.0;
       rest = bytes;
       lines = h.1;
-      behind = h.1;
+      past = h.1;
       left_is = ap (λ (x : LinesContent). left x from) e ∙ ap (λ (o : Option (List ℕ)). left no_lines o) f;
       front_is = refl;
       counted = ap (λ (x : LinesContent). x.count) e;

@@ -25,7 +25,7 @@ use Rattle.trace_walk.specs.Legal.{StepOf, EntryLeads, AllLead, opened_by, IsTra
 use Rattle.trace_walk.specs.OneReply.{IsTraced}
 use Rattle.trace_walk.specs.Text.{TraceEntry, IsEntry, MayAsk, MayMerge, command_asked, worded_as, marked, asked_text, reply_text, entry_text, trace_text, header_text, pass_text, line_text, merge_text, plus_text}
 use Rattle.trace_walk.specs.Verdict.{IsLegal}
-use Rattle.trace_walk.specs.Walk.{MayComeBehind, EntriesLead}
+use Rattle.trace_walk.specs.Walk.{MayComeAfter, EntriesLead}
 use Rattle.trace_walk.proofs.AskedLemmas.{pass_one, same_command}
 use Rattle.script_commands.proofs.CommandLemmas.{command_ends}
 use Rattle.trace_walk.proofs.MarkLemmas.{marked_first, reply_begins}
@@ -54,8 +54,8 @@ pub merge_head : (format : Format) (p q n : ℕ) (js : List Item) (r s : List �
 merge_head format p q n js r s lp lq few may e =
     let one = lines_one (pass_text p (merge_text n)) (pass_text q (merge_text (length js))) r (flat_map plus_text js ++ s) (merge_ends p n lp few) (head_is format q (Merge js) lq may).1
     (e ∙ append_assoc (pass_text q (merge_text (length js))) (flat_map plus_text js) s) in
-    let behind = (pass_one p q (merge_text n) (merge_text (length js)) lp lq one.0).1 in
-    ((number_one n (length js) 10 [] [] (omega (arith, few)) (omega (arith, may.0)) refl (ap (drop 6) behind)).0, one.1)
+    let past = (pass_one p q (merge_text n) (merge_text (length js)) lp lq one.0).1 in
+    ((number_one n (length js) 10 [] [] (omega (arith, few)) (omega (arith, may.0)) refl (ap (drop 6) past)).0, one.1)
 
 -- no command's line is one
 pub merge_not_line : (format : Format) (p q n : ℕ) (c : ScriptCommand) (r s : List ℕ) → p ≤ 63 → q ≤ 63 → n ≤ 256 → MayAsk format q (Line c) → pass_text p (merge_text n) ++ r ≡ line_text q c ++ s → ⊥
@@ -83,8 +83,8 @@ pub asked_one : (format : Format) (p q : ℕ) (a b : Asked) (r s : List ℕ) →
 asked_one format p q (Line c) (Line d) r s lp lq may_a may_b e =
     let ends = head_is format p (Line c) lp may_a in
     let one = lines_one (line_text p c) (line_text q d) r s ends.1 (head_is format q (Line d) lq may_b).1 e in
-    let behind = (pass_one p q (texts (command_parts c)) (texts (command_parts d)) lp lq one.0).1 in
-    let same = same_command c d (texts (command_parts c)) (command_ends c may_a.0) (line_short p c may_a.3) may_a.0 may_b.0 refl behind in
+    let past = (pass_one p q (texts (command_parts c)) (texts (command_parts d)) lp lq one.0).1 in
+    let same = same_command c d (texts (command_parts c)) (command_ends c may_a.0) (line_short p c may_a.3) may_a.0 may_b.0 refl past in
     (ap (λ (x : ScriptCommand). Line x) same, one.1)
 asked_one format p q (Line c) (Merge js) r s lp lq may_a may_b e =
     let one = lines_one (line_text p c) (pass_text q (merge_text (length js))) r (flat_map plus_text js ++ s) (head_is format p (Line c) lp may_a).1 (head_is format q (Merge js) lq may_b).1
@@ -147,7 +147,7 @@ asked_some pass (Merge items) = omega arith
 goes_on : (format : Format) (limits : LimitsRecord) (s t : State) (e : TraceEntry) (more : List ℕ)
     → IsTraced format s → IsEntry format e → EntryLeads format s e t → (entries : List TraceEntry) (last : State)
     → All (IsEntry format) entries → AllLead format s entries last → entry_text limits e ++ more ≡ flat_map (entry_text limits) entries
-    → MayComeBehind format limits t more
+    → MayComeAfter format limits t more
 goes_on format limits s t e more traced is x [] last each l text =
     absurd (omega (arith, ap length text, length-append (entry_text limits e) more, length-append (asked_text e.pass e.asked) (reply_text limits e), asked_some e.pass e.asked))
 goes_on format limits s t e more traced is x (f ∷ entries) last each l text =

@@ -28,8 +28,8 @@ none_here start part left n e legal = is_nothing part (omega (arith, ap length e
 at_place : (start bytes front : List ℕ) (number : ℕ) (May : List ℕ → Type 0) (before rest : List (List ℕ))
     → IsPlaceInEntry start front true May → HasLines bytes (before ++ rest) → front ≡ joined before → number ≡ suc (length before) → Fails front rest
     → IsFault start bytes (IllegalAt number)
-at_place start bytes front number May before rest p lines behind counted fails =
-    (front, record { before = before; rest = rest; lines = lines; behind = behind; counted = counted; begins = p.begins; fails = fails }, p.wants, p.none)
+at_place start bytes front number May before rest p lines past counted fails =
+    (front, record { before = before; rest = rest; lines = lines; past = past; counted = counted; begins = p.begins; fails = fails }, p.wants, p.none)
 
 -- no line is there
 pub missing : (start bytes front : List ℕ) (count number : ℕ) (May : List ℕ → Type 0)

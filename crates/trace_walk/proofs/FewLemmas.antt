@@ -25,7 +25,7 @@ use Rattle.ds_entry.proofs.Members.{Contains-head, Contains-tail, none_pass}
 use Rattle.ds_join.specs.Label.{names_endpoint}
 use Rattle.ds_entry.specs.Left.{value_in, value_of}
 use Rattle.ds_feed.specs.Feed.{from}
-use Rattle.ds_feed.specs.Page.{is_floor, is_behind_key, still_to_come, floors_of, changes_of, page_of}
+use Rattle.ds_feed.specs.Page.{is_floor, is_after_key, still_to_come, floors_of, changes_of, page_of}
 use Rattle.ds_feed.specs.Since.{prefix, piece, since_of}
 use Rattle.ds_feed.specs.declared.cursor.Cursor.{Cursor}
 use Rattle.ds_machine.specs.Asking.{AskedChange, published, deleted, name_of, asked_in, against_asked, against_sweep, cause_against, sweep_cause}
@@ -291,7 +291,7 @@ module _ (s : State) (reached : IsReached s) (within : IsWithin s) (are : AreIte
   page_few : (test : Item → Bool) (after : Option Key) (max : ℕ) → IsFewReply (Paged (page_of test after max (held s) (cursor s)))
   page_few test after max =
       let coming : List Item = still_to_come test after (held s) in
-      let some = filter_few (is_behind_key after) (filter test (held s)) in (
+      let some = filter_few (is_after_key after) (filter test (held s)) in (
         omega (
           arith,
           some,

@@ -16,9 +16,9 @@ use Rattle.trace_walk.specs.declared.header.Header.{Header}
 use Rattle.trace_walk.specs.Head.{IsHeadOf, HasNoHead, head_text}
 use Rattle.trace_walk.specs.Text.{asked_text, merge_text, pass_text, plus_text}
 use Rattle.trace_walk.specs.Verdict.{Fails, IsLegal, IsWrongAt}
-use Rattle.trace_walk.specs.Walk.{IsBehind, IsPlaceInEntry, IsPlus}
+use Rattle.trace_walk.specs.Walk.{IsAfterEntries, IsPlaceInEntry, IsPlus}
 use Rattle.trace_walk.proofs.PlaceLemmas.{plus_places}
-use Rattle.trace_walk.proofs.WalkLemmas.{bad_head, behind_begins, no_reply}
+use Rattle.trace_walk.proofs.WalkLemmas.{bad_head, after_begins, no_reply}
 use Rattle.trace_walk.specs.declared.fault.WalkFault.{WalkFault}
 use Rattle.trace_walk.specs.declared.fault.WalkFault.TheVariants.{BadLineAt}
 use Rattle.trace_walk.specs.declared.wrong_line.Wanted.TheVariants.{Entry, Item as AnItem}
@@ -30,8 +30,8 @@ use Rattle.trace_walk.proofs.ShortLemmas.{plus_short}
 use Rattle.trace_walk.proofs.WalkingLemmas.{whole_line}
 
 -- what was passed is a legal trace
-pub legal_front : (b : Spot) (h : Header) → IsBehind b.front h b.state b.count → IsLegal b.front b.count
-legal_front b h behind = (h, behind.entries, b.state, behind.trace, behind.counted)
+pub legal_front : (b : Spot) (h : Header) → IsAfterEntries b.front h b.state b.count → IsLegal b.front b.count
+legal_front b h past = (h, past.entries, b.state, past.trace, past.counted)
 
 -- ---- the first line of an entry
 
@@ -44,7 +44,7 @@ module _ (b : Spot) (old l : LinesContent) (store : ContentRecord) (h : Header) 
       record {
         at = subst (λ (t : List ℕ). IsAt b.bytes (b.front ++ t) l to) (sym line_is ∙ is.2) here.then;
         stands = w.stands;
-        behind = w.behind;
+        past = w.past;
         pass_few = is.0;
         may = is.1;
         short = subst IsShort is.2 short;
@@ -59,18 +59,18 @@ module _ (b : Spot) (old l : LinesContent) (store : ContentRecord) (h : Header) 
       → HasLines b.bytes (before ++ line ∷ more) → b.front ≡ joined before → number ≡ suc (length before) → IsUnbroken line
       → (IsShort (with_newline line) → HasNoHead h.format (with_newline line))
       → WantsEntry (BadLineAt number)
-  head_fails number line before more lines behind counted whole none =
+  head_fails number line before more lines past counted whole none =
       let wrong : IsWrongAt b.bytes number b.front =
       record {
         before = before;
         rest = line ∷ more;
         lines = lines;
-        behind = behind;
+        past = past;
         counted = counted;
-        begins = behind_begins b.front h b.state b.count w.behind;
-        fails = bad_head b.front line more h b.state b.count w.behind whole none;
+        begins = after_begins b.front h b.state b.count w.past;
+        fails = bad_head b.front line more h b.state b.count w.past whole none;
       } in
-      ((b.front, wrong, no_reply b.front h b.state b.count w.behind, none_here b.front), (b.front, wrong, (b.count, legal_front b h w.behind)))
+      ((b.front, wrong, no_reply b.front h b.state b.count w.past, none_here b.front), (b.front, wrong, (b.count, legal_front b h w.past)))
 
   -- it is none
   pub head_wrong : (line : List ℕ) (fault : AskedFault) (number : ℕ)
@@ -103,7 +103,7 @@ command_on b old new store h from to pass head asked x adds =
     record {
       at = subst (λ (t : List ℕ). IsAt b.bytes t new.lines to) (append_assoc b.front (head_text pass head) l.more ∙ ap (λ (t : List ℕ). b.front ++ t) text) (l.over b.bytes (b.front ++ head_text pass head) x.at);
       stands = x.stands;
-      behind = x.behind;
+      past = x.past;
       pass_few = x.pass_few;
       may = l.may;
       kept_is = l.text ∙ sym l.whole;
@@ -114,13 +114,13 @@ abbrev pub WantsItem : Spot → WalkFault → Type 0
 WantsItem b fault = IsFault b.front b.bytes fault × IsWanted b.bytes AnItem fault
 
 -- an item of a Merge is missing
-module _ (b : Spot) (h : Header) (behind : IsBehind b.front h b.state b.count) (pass most number : ℕ) (pass_few : pass ≤ 63) (few : most ≤ most_items)
+module _ (b : Spot) (h : Header) (past : IsAfterEntries b.front h b.state b.count) (pass most number : ℕ) (pass_few : pass ≤ 63) (few : most ≤ most_items)
     (x : LacksOne h.format b.bytes (b.front ++ pass_text pass (merge_text most)) most number) where
   abbrev front : List ℕ
   front = b.front ++ (pass_text pass (merge_text most) ++ flat_map plus_text x.items)
 
   place : IsPlaceInEntry b.front front false (IsPlus h.format)
-  place = plus_places b.front h b.state b.count pass most x.items behind pass_few few x.less x.may
+  place = plus_places b.front h b.state b.count pass most x.items past pass_few few x.less x.may
 
   item_fails : (rest : List (List ℕ)) → HasLines b.bytes (x.lacks.before ++ rest) → BeginsNoItem h.format rest → Fails front rest
   item_fails [] lines none = place.ends
@@ -134,22 +134,22 @@ module _ (b : Spot) (h : Header) (behind : IsBehind b.front h b.state b.count) (
         before = x.lacks.before;
         rest = x.lacks.rest;
         lines = x.lacks.lines;
-        behind = sym (append_assoc b.front (pass_text pass (merge_text most)) (flat_map plus_text x.items)) ∙ x.lacks.behind;
+        past = sym (append_assoc b.front (pass_text pass (merge_text most)) (flat_map plus_text x.items)) ∙ x.lacks.past;
         counted = x.lacks.counted;
         begins = place.begins;
         fails = item_fails x.lacks.rest x.lacks.lines x.lacks.lacks;
       } in
-      let within : IsWithinMerge front = record { start = b.front; count = b.count; pass = pass; most = most; items = x.items; legal = legal_front b h behind; less = x.less; front_is = refl } in
+      let within : IsWithinMerge front = record { start = b.front; count = b.count; pass = pass; most = most; items = x.items; legal = legal_front b h past; less = x.less; front_is = refl } in
       ((front, wrong, place.wants, place.none), (front, wrong, within))
 
-item_or_not : (b : Spot) (h : Header) (pass most : ℕ) (fault : EntryFault) → IsBehind b.front h b.state b.count → pass ≤ 63 → most ≤ most_items
+item_or_not : (b : Spot) (h : Header) (pass most : ℕ) (fault : EntryFault) → IsAfterEntries b.front h b.state b.count → pass ≤ 63 → most ≤ most_items
     → IsLackingOne h.format b.bytes (b.front ++ pass_text pass (merge_text most)) most fault → WantsItem b (of_entry fault)
-item_or_not b h pass most (entries.BadLine number) behind pass_few few lacks = item_wrong b h behind pass most number pass_few few lacks
-item_or_not b h pass most entries.ReadFault behind pass_few few lacks = (tt, tt)
-item_or_not b h pass most entries.NoRoom behind pass_few few lacks = (tt, tt)
+item_or_not b h pass most (entries.BadLine number) past pass_few few lacks = item_wrong b h past pass most number pass_few few lacks
+item_or_not b h pass most entries.ReadFault past pass_few few lacks = (tt, tt)
+item_or_not b h pass most entries.NoRoom past pass_few few lacks = (tt, tt)
 
 pub command_fails : (b : Spot) (old : EntryReader) (store : ContentRecord) (h : Header) (from : Option (List ℕ)) (pass : ℕ) (head : Head) (fault : EntryFault)
     → MissesLines h.format old from head fault → Heads b old.lines store h from pass head old.text.items → WantsItem b (of_entry fault)
 command_fails b old store h from pass head fault misses x =
     let merge = subst (λ (k : Head). Heads b old.lines store h from pass k old.text.items) misses.1 x in
-    item_or_not b h pass misses.0 fault merge.behind merge.pass_few merge.may (misses.2 b.bytes (b.front ++ pass_text pass (merge_text misses.0)) merge.at)
+    item_or_not b h pass misses.0 fault merge.past merge.pass_few merge.may (misses.2 b.bytes (b.front ++ pass_text pass (merge_text misses.0)) merge.at)

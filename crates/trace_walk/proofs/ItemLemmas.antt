@@ -58,15 +58,15 @@ module _ (format : Format) (w mid new : EntryReader) (from there to : Option (Li
 
 pub lacks_line : (format : Format) (bytes front line : List ℕ) (l : LinesContent) (to : Option (List ℕ)) (number : ℕ)
     → HasLine bytes front line l to → IsNoItem format (with_newline line) → number ≡ l.count → LacksNext format bytes front number
-lacks_line format bytes front line l to number h none e = record { before = h.before; rest = line ∷ h.more; lines = h.lines; behind = h.front_is; counted = e ∙ h.counted; lacks = none }
+lacks_line format bytes front line l to number h none e = record { before = h.before; rest = line ∷ h.more; lines = h.lines; past = h.front_is; counted = e ∙ h.counted; lacks = none }
 
 pub lacks_long : (format : Format) (bytes front : List ℕ) (fault : EntryFault) → IsLongFault bytes front fault → IsLackingNext format bytes front fault
-lacks_long format bytes front (BadLine number) l = record { before = l.before; rest = l.line ∷ l.more; lines = l.lines; behind = l.front_is; counted = l.counted; lacks = λ i may short is. not_short l.line l.long short }
+lacks_long format bytes front (BadLine number) l = record { before = l.before; rest = l.line ∷ l.more; lines = l.lines; past = l.front_is; counted = l.counted; lacks = λ i may short is. not_short l.line l.long short }
 lacks_long format bytes front ReadFault l = tt
 lacks_long format bytes front NoRoom l = tt
 
 pub lacks_all : (format : Format) (bytes front : List ℕ) (count number : ℕ) → IsRead bytes front count → number ≡ suc count → LacksNext format bytes front number
-lacks_all format bytes front count number r e = record { before = r.0; rest = []; lines = subst (HasLines bytes) (sym (append-nil r.0)) r.1; behind = r.2; counted = e ∙ ap suc r.3; lacks = tt }
+lacks_all format bytes front count number r e = record { before = r.0; rest = []; lines = subst (HasLines bytes) (sym (append-nil r.0)) r.1; past = r.2; counted = e ∙ ap suc r.3; lacks = tt }
 
 -- ---- the whole command
 

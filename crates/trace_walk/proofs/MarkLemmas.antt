@@ -26,12 +26,12 @@ pub record BeginsLine (text : List ℕ) : Type 0 where
   pub is : text ≡ front ++ 10 ∷ rest
 
 -- so does each that has a newline
-pub begins_line : (before behind : List ℕ) → BeginsLine (before ++ 10 ∷ behind)
-begins_line [] behind = record { front = []; whole = All-nil (λ (x : ℕ). x ≢ 10); rest = behind; is = refl }
-begins_line (b ∷ before) behind = by_test (b == 10) refl (begins_line before behind)
+pub begins_line : (before past : List ℕ) → BeginsLine (before ++ 10 ∷ past)
+begins_line [] past = record { front = []; whole = All-nil (λ (x : ℕ). x ≢ 10); rest = past; is = refl }
+begins_line (b ∷ before) past = by_test (b == 10) refl (begins_line before past)
   where
-    by_test : (t : Bool) → (b == 10) ≡ t → BeginsLine (before ++ 10 ∷ behind) → BeginsLine (b ∷ (before ++ 10 ∷ behind))
-    by_test true e more = record { front = []; whole = All-nil (λ (x : ℕ). x ≢ 10); rest = before ++ 10 ∷ behind; is = ap (λ (x : ℕ). x ∷ (before ++ 10 ∷ behind)) (eqb-true b 10 e) }
+    by_test : (t : Bool) → (b == 10) ≡ t → BeginsLine (before ++ 10 ∷ past) → BeginsLine (b ∷ (before ++ 10 ∷ past))
+    by_test true e more = record { front = []; whole = All-nil (λ (x : ℕ). x ≢ 10); rest = before ++ 10 ∷ past; is = ap (λ (x : ℕ). x ∷ (before ++ 10 ∷ past)) (eqb-true b 10 e) }
     by_test false e more = record { front = b ∷ more.front; whole = unbroken_one b more.front (eqb-false b 10 e) more.whole; rest = more.rest; is = ap (λ (l : List ℕ). b ∷ l) more.is }
 
 pub reply_begins : (wording : Wording) (reply : Reply) (limits : LimitsRecord) → BeginsLine (reply_lines wording reply limits)

@@ -12,8 +12,8 @@ use Rattle.ds_names.specs.Run.{Begins}
 use Rattle.ds_names.proofs.DecimalLemmas.{decimal_one}
 use Rattle.trace_walk.specs.Noroom.{stopped_line}
 
-pub behind_byte : (b : ℕ) (r s : List ℕ) → b ∷ r ≡ b ∷ s → r ≡ s
-behind_byte b r s e = ap (drop 1) e
+pub after_byte : (b : ℕ) (r s : List ℕ) → b ∷ r ≡ b ∷ s → r ≡ s
+after_byte b r s e = ap (drop 1) e
 
 pub number_begins : (bytes : List ℕ) (n stop : ℕ) (rest : List ℕ) → is_ascii_digit stop ≡ false → bytes ≡ decimal n ++ stop ∷ rest → Begins is_ascii_digit bytes (decimal n) (stop ∷ rest)
 number_begins bytes n stop rest h e = record { parts = e; ends = h }
@@ -22,14 +22,14 @@ number_begins bytes n stop rest h e = record { parts = e; ends = h }
 pub number_one : (m n stop : ℕ) (r s : List ℕ) → m < 2 ^ 64 → n < 2 ^ 64 → is_ascii_digit stop ≡ false → decimal m ++ stop ∷ r ≡ decimal n ++ stop ∷ s → (m ≡ n) × (r ≡ s)
 number_one m n stop r s lm ln h e =
     let one = decimal_one (decimal m ++ stop ∷ r) m n (stop ∷ r) (stop ∷ s) lm ln (number_begins (decimal m ++ stop ∷ r) m stop r h refl) (number_begins (decimal m ++ stop ∷ r) n stop s h e) in
-    (one.0, behind_byte stop r s one.1)
+    (one.0, after_byte stop r s one.1)
 
 -- if another byte follows a number, no number is followed by this byte
-pub none_behind : (bytes rest : List ℕ) (m stop : ℕ)
+pub none_after : (bytes rest : List ℕ) (m stop : ℕ)
     → m < 2 ^ 64 → is_ascii_digit stop ≡ false → Begins is_ascii_digit bytes (decimal m) rest → ((s : List ℕ) → rest ≢ stop ∷ s)
     → (n : ℕ) (s : List ℕ) → n < 2 ^ 64
     → bytes ≢ decimal n ++ stop ∷ s
-none_behind bytes rest m stop lm h begins none n s ln e = none s (decimal_one bytes m n rest (stop ∷ s) lm ln begins (number_begins bytes n stop s h e)).1
+none_after bytes rest m stop lm h begins none n s ln e = none s (decimal_one bytes m n rest (stop ∷ s) lm ln begins (number_begins bytes n stop s h e)).1
 
 -- ---- slices
 

@@ -35,7 +35,7 @@ use Rattle.trace_walk.specs.Legal.{StepOf, EntryLeads, AllLead}
 use Rattle.trace_walk.specs.OneReply.{HaveOneFirst, IsTraced}
 use Rattle.trace_walk.specs.Text.{TraceEntry, IsEntry, MayAsk, MayMerge, command_asked, worded_as, marked, asked_text, reply_text, entry_text, pass_text, merge_text, plus_text}
 use Rattle.trace_walk.specs.Verdict.{IsLegal, MayBegin, WantsReply, Fails}
-use Rattle.trace_walk.specs.Walk.{MayComeBehind, IsBehind, IsPlaceInEntry, NoneEnds, IsPlus, PlusPlaces, MayReply, ReplyPlaces, WithinReplies}
+use Rattle.trace_walk.specs.Walk.{MayComeAfter, IsAfterEntries, IsPlaceInEntry, NoneEnds, IsPlus, PlusPlaces, MayReply, ReplyPlaces, WithinReplies}
 use Rattle.trace_walk.proofs.EntryLemmas.{asked_one, asked_some, merge_head, merge_not_line, one_entry, entries_lead}
 use Rattle.trace_walk.proofs.MarkLemmas.{BeginsLine, begins_line, marked_first, marked_line, marked_append, reply_begins}
 use Rattle.trace_walk.proofs.OneReplyLemmas.{reply_is_one}
@@ -43,8 +43,8 @@ use Rattle.trace_walk.proofs.SplitLemmas.{lines_one, without, ends_after}
 
 -- ---- legal traces and their fronts
 
-legal_behind : (front : List ℕ) (h : Header) (s : State) (count : ℕ) → IsBehind front h s count → IsLegal front count
-legal_behind front h s count b = (h, b.entries, s, b.trace, b.counted)
+legal_after : (front : List ℕ) (h : Header) (s : State) (count : ℕ) → IsAfterEntries front h s count → IsLegal front count
+legal_after front h s count b = (h, b.entries, s, b.trace, b.counted)
 
 begins_by : (front more whole : List ℕ) (n : ℕ) → IsLegal whole n → whole ≡ front ++ more → MayBegin front
 begins_by front more whole n legal e = (more, n, subst (λ (l : List ℕ). IsLegal l n) e legal)
@@ -81,7 +81,7 @@ pub record FirstEntry (format : Format) (limits : LimitsRecord) (s : State) (tex
   pub leads : EntryLeads format s entry new
   pub rest : List ℕ
   pub text_is : text ≡ entry_text limits entry ++ rest
-  pub goes : MayComeBehind format limits new rest
+  pub goes : MayComeAfter format limits new rest
 
 first_entry : (format : Format) (limits : LimitsRecord) (s : State) (text : List ℕ)
     → 0 < length text → (entries : List TraceEntry) (last : State) → All (IsEntry format) entries → AllLead format s entries last
@@ -99,7 +99,7 @@ first_entry format limits s text some (f ∷ entries) last each l e =
       goes = (entries, last, λ k d lt. each (suc k) d (omega (arith, lt)), l.2, refl);
     }
 
-first_goes : (format : Format) (limits : LimitsRecord) (s : State) (text : List ℕ) → 0 < length text → MayComeBehind format limits s text → FirstEntry format limits s text
+first_goes : (format : Format) (limits : LimitsRecord) (s : State) (text : List ℕ) → 0 < length text → MayComeAfter format limits s text → FirstEntry format limits s text
 first_goes format limits s text some g = first_entry format limits s text some g.0 g.1 g.2 g.3 g.4
 
 -- ---- an entry for which memory runs out is always legal
@@ -130,10 +130,10 @@ abbrev pub wanting : ℕ → Asked → TraceEntry
 wanting pass asked = record { pass = pass; asked = asked; reply = Refused refusals.NoRoom }
 
 -- so a legal trace may have every command there
-legal_wanting : (front : List ℕ) (h : Header) (s : State) (count pass : ℕ) (asked : Asked) → IsBehind front h s count → pass ≤ 63 → MayAsk h.format pass asked → IsLegal (front ++ entry_text h.limits (wanting pass asked)) (suc count)
+legal_wanting : (front : List ℕ) (h : Header) (s : State) (count pass : ℕ) (asked : Asked) → IsAfterEntries front h s count → pass ≤ 63 → MayAsk h.format pass asked → IsLegal (front ++ entry_text h.limits (wanting pass asked)) (suc count)
 legal_wanting front h s count pass asked b le may =
     let c = asks_some h.format pass asked may in
-    legal_behind (front ++ entry_text h.limits (wanting pass asked)) h s (suc count) (entries_lead front h s s count (wanting pass asked) b (record { pass = le; asked = may }) (c.0, c.1, wants_step h.format s c.0))
+    legal_after (front ++ entry_text h.limits (wanting pass asked)) h s (suc count) (entries_lead front h s s count (wanting pass asked) b (record { pass = le; asked = may }) (c.0, c.1, wants_step h.format s c.0))
 
 -- ---- no legal trace ends within an entry
 
@@ -157,7 +157,7 @@ none_whole format limits s t e part more traced is x whole some (f ∷ entries) 
     absurd (omega (arith, some, ap length one.1, length-append rest more))
 
 none_within : (front : List ℕ) (h : Header) (s t : State) (count : ℕ) (e : TraceEntry) (part more : List ℕ)
-    → IsBehind front h s count → IsEntry h.format e → EntryLeads h.format s e t → entry_text h.limits e ≡ part ++ more → 0 < length more
+    → IsAfterEntries front h s count → IsEntry h.format e → EntryLeads h.format s e t → entry_text h.limits e ≡ part ++ more → 0 < length more
     → NoneEnds front (front ++ part)
 none_within front h s t count e part more b is x whole some p left n same legal =
     let split : part ≡ p ++ left = append_cancel_left front part (p ++ left) (same ∙ append_assoc front p left) in
@@ -166,7 +166,7 @@ none_within front h s t count e part more b is x whole some p left n same legal 
 
 -- if memory may run out for it
 none_wanting : (front : List ℕ) (h : Header) (s : State) (count pass : ℕ) (asked : Asked) (part more : List ℕ)
-    → IsBehind front h s count → pass ≤ 63 → MayAsk h.format pass asked → entry_text h.limits (wanting pass asked) ≡ part ++ more
+    → IsAfterEntries front h s count → pass ≤ 63 → MayAsk h.format pass asked → entry_text h.limits (wanting pass asked) ≡ part ++ more
     → 0 < length more
     → NoneEnds front (front ++ part)
 none_wanting front h s count pass asked part more b le may whole some =
@@ -209,7 +209,7 @@ merge_next format limits pass n items more f (Merge js) rest le lf few less all 
     let one = merge_head format pass f.pass n js (flat_map plus_text items ++ more) rest le lf few may (sym (append_assoc (pass_text pass (merge_text n)) (flat_map plus_text items) more) ∙ e) in
     plus_next format items js more rest (omega (arith, less, one.0)) all may.1 one.1
 
-module _ (front : List ℕ) (h : Header) (s : State) (count pass n : ℕ) (items : List Item) (b : IsBehind front h s count) (le : pass ≤ 63) (few : n ≤ 256) (less : length items < n) (all : All (MayMerge h.format) items) where
+module _ (front : List ℕ) (h : Header) (s : State) (count pass n : ℕ) (items : List Item) (b : IsAfterEntries front h s count) (le : pass ≤ 63) (few : n ≤ 256) (less : length items < n) (all : All (MayMerge h.format) items) where
   abbrev head : List ℕ
   head = pass_text pass (merge_text n)
 
@@ -298,9 +298,9 @@ pub record ReplyComes (format : Format) (limits : LimitsRecord) (s : State) (ask
   pub step : StepOf format s command reply new
   pub rest : List ℕ
   pub text_is : more ≡ marked (reply_lines (worded_as asked) reply limits) ++ rest
-  pub goes : MayComeBehind format limits new rest
+  pub goes : MayComeAfter format limits new rest
 
-module _ (front : List ℕ) (h : Header) (s : State) (count pass : ℕ) (asked : Asked) (b : IsBehind front h s count) (le : pass ≤ 63) (may : MayAsk h.format pass asked) where
+module _ (front : List ℕ) (h : Header) (s : State) (count pass : ℕ) (asked : Asked) (b : IsAfterEntries front h s count) (le : pass ≤ 63) (may : MayAsk h.format pass asked) where
   pub reply_only : Only (front ++ asked_text pass asked) (ReplyComes h.format h.limits s asked)
   reply_only more k legal =
       let text : List ℕ = asked_text pass asked in
@@ -358,7 +358,7 @@ reply_places front h s count pass asked b le may = reply_place front h s count p
 
 -- ---- within a reply
 
-module _ (front : List ℕ) (h : Header) (s t : State) (count : ℕ) (e : TraceEntry) (given next left : List ℕ) (b : IsBehind front h s count) (is : IsEntry h.format e) (x : EntryLeads h.format s e t)
+module _ (front : List ℕ) (h : Header) (s t : State) (count : ℕ) (e : TraceEntry) (given next left : List ℕ) (b : IsAfterEntries front h s count) (is : IsEntry h.format e) (x : EntryLeads h.format s e t)
     (text : reply_lines (worded_as e.asked) e.reply h.limits ≡ (given ++ 10 ∷ []) ++ (next ++ left)) (ends : EndsLine next) where
   abbrev asked : List ℕ
   asked = asked_text e.pass e.asked
@@ -403,8 +403,8 @@ module _ (front : List ℕ) (h : Header) (s t : State) (count : ℕ) (e : TraceE
 
   within_place : IsPlaceInEntry front (front ++ (asked ++ said)) true (λ (line : List ℕ). line ≡ 60 ∷ 32 ∷ next)
   within_place =
-      let behind = entries_lead front h s t count e b is x in
-      let legal : IsLegal (front ++ entry_text h.limits e) (suc count) = legal_behind (front ++ entry_text h.limits e) h t (suc count) behind in
+      let past = entries_lead front h s t count e b is x in
+      let legal : IsLegal (front ++ entry_text h.limits e) (suc count) = legal_after (front ++ entry_text h.limits e) h t (suc count) past in
       let whole : front ++ entry_text h.limits e ≡ (front ++ (asked ++ said)) ++ marked (next ++ left) =
       ap (λ (l : List ℕ). front ++ (asked ++ l)) marks ∙ ap (λ (l : List ℕ). front ++ l) (sym (append_assoc asked said (marked (next ++ left)))) ∙ sym (append_assoc front (asked ++ said) (marked (next ++ left))) in
       let starts : marked (next ++ left) ≡ 60 ∷ 32 ∷ ((ends.front ++ 10 ∷ []) ++ (marked left ++ [])) = sym (append-nil (marked (next ++ left))) ∙ marked_starts (next ++ left) [] left_begins in

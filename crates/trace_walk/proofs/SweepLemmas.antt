@@ -41,12 +41,12 @@ use Rattle.trace_walk.specs.Sweeping.{IsSweptInMerges, tombstone_over}
 abbrev pub gone_of : List ℕ → ℕ → List ChangeRecord → List Item
 gone_of owner generation cs = map (tombstone owner generation) (filter (is_swept owner generation) cs)
 
-behind_floors : (fs : List (List ℕ × ℕ)) (items : List Item) → changes_in (map floor_item fs ++ items) ≡ changes_in items
-behind_floors [] items = refl
-behind_floors (f ∷ fs) items = behind_floors fs items
+after_floors : (fs : List (List ℕ × ℕ)) (items : List Item) → changes_in (map floor_item fs ++ items) ≡ changes_in items
+after_floors [] items = refl
+after_floors (f ∷ fs) items = after_floors fs items
 
 pub held_gone : (owner : List ℕ) (generation : ℕ) (h : Holding) → gone_of owner generation (held_changes h) ≡ tombstones (held_items h) owner generation
-held_gone owner generation h = ap (λ (l : List ChangeRecord). gone_of owner generation l) (sym (behind_floors (entries h.floors) (map change_item (held_changes h)) ∙ own_changes (held_changes h)))
+held_gone owner generation h = ap (λ (l : List ChangeRecord). gone_of owner generation l) (sym (after_floors (entries h.floors) (map change_item (held_changes h)) ∙ own_changes (held_changes h)))
   where
     own_changes : (cs : List ChangeRecord) → changes_in (map change_item cs) ≡ cs
     own_changes [] = refl

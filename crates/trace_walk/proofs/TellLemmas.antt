@@ -52,7 +52,7 @@ kind_letter kinds.Str r = (omega arith, λ e. omega (arith, e))
 kind_letter kinds.Mem r = (omega arith, λ e. omega (arith, e))
 
 -- the name of a change, a space, and the word of its kind
-change_begins : (c : ChangeRecord) (more : List ℕ) → (behind : List ℕ) × (item_spelling (Changed c) ++ more ≡ c.key.name ++ 32 ∷ (kind_word c.key.kind ++ behind))
+change_begins : (c : ChangeRecord) (more : List ℕ) → (past : List ℕ) × (item_spelling (Changed c) ++ more ≡ c.key.name ++ 32 ∷ (kind_word c.key.kind ++ past))
 change_begins c more =
     let parts : List ℕ = texts (drop 3 (change_parts c)) in
     (parts ++ more, append_assoc c.key.name (32 ∷ (kind_word c.key.kind ++ parts)) more ∙ ap (λ (l : List ℕ). c.key.name ++ 32 ∷ l) (append_assoc (kind_word c.key.kind) parts more))
@@ -61,15 +61,15 @@ above_space : (word : List ℕ) → list_all (λ (x : ℕ). nat_lt 32 x) word �
 above_space word all = without 32 (λ (x : ℕ). nat_lt 32 x) refl word all
 
 -- a word, a space and a byte that begins no word of a kind begin no item's line
-item_apart : (i : Item) (word : List ℕ) (more behind : List ℕ)
-    → IsItem i → All (λ (x : ℕ). x ≢ 32) word → (97 ≤ get_or (word ++ 32 ∷ behind) 0 0) → (97 ≤ get_or behind 0 0 → get_or behind 0 0 ≡ 110)
-    → item_spelling i ++ more ≡ word ++ 32 ∷ behind
+item_apart : (i : Item) (word : List ℕ) (more past : List ℕ)
+    → IsItem i → All (λ (x : ℕ). x ≢ 32) word → (97 ≤ get_or (word ++ 32 ∷ past) 0 0) → (97 ≤ get_or past 0 0 → get_or past 0 0 ≡ 110)
+    → item_spelling i ++ more ≡ word ++ 32 ∷ past
     → ⊥
-item_apart (Floored f) word more behind is none letter other e = omega (arith, letter, ap (λ (l : List ℕ). get_or l 0 0) e)
-item_apart (Changed c) word more behind is none letter other e =
+item_apart (Floored f) word more past is none letter other e = omega (arith, letter, ap (λ (l : List ℕ). get_or l 0 0) e)
+item_apart (Changed c) word more past is none letter other e =
     let b = change_begins c more in
-    let s = split_same 32 c.key.name word (kind_word c.key.kind ++ b.0) behind (name_has_none c.key.name is.name) none (sym b.1 ∙ e) in
-    let first : get_or (kind_word c.key.kind ++ b.0) 0 0 ≡ get_or behind 0 0 = ap (λ (l : List ℕ). get_or l 0 0) s.1 in
+    let s = split_same 32 c.key.name word (kind_word c.key.kind ++ b.0) past (name_has_none c.key.name is.name) none (sym b.1 ∙ e) in
+    let first : get_or (kind_word c.key.kind ++ b.0) 0 0 ≡ get_or past 0 0 = ap (λ (l : List ℕ). get_or l 0 0) s.1 in
     let k = kind_letter c.key.kind b.0 in
     k.1 (first ∙ other (omega (arith, k.0, first)))
 
@@ -94,13 +94,13 @@ number_low : (n : ℕ) (r : List ℕ) → n < 2 ^ 64 → get_or (decimal n ++ r)
 number_low n r few = digits_low (decimal n) r (decimal_nonempty n few) (digits_decimal own n few)
 
 -- if they are at the front of a reply, no item is before them
-behind_items : (items : List Item) (word more behind : List ℕ)
-    → AreItems items → All (λ (x : ℕ). x ≢ 32) word → (97 ≤ get_or (word ++ 32 ∷ behind) 0 0)
-    → (97 ≤ get_or behind 0 0 → get_or behind 0 0 ≡ 110) → flat_map item_spelling items ++ more ≡ word ++ 32 ∷ behind
-    → more ≡ word ++ 32 ∷ behind
-behind_items [] word more behind are none letter other e = e
-behind_items (i ∷ items) word more behind are none letter other e =
-    absurd (item_apart i word (flat_map item_spelling items ++ more) behind (are i (Contains-head i items)) none letter other (sym (append_assoc (item_spelling i) (flat_map item_spelling items) more) ∙ e))
+after_items : (items : List Item) (word more past : List ℕ)
+    → AreItems items → All (λ (x : ℕ). x ≢ 32) word → (97 ≤ get_or (word ++ 32 ∷ past) 0 0)
+    → (97 ≤ get_or past 0 0 → get_or past 0 0 ≡ 110) → flat_map item_spelling items ++ more ≡ word ++ 32 ∷ past
+    → more ≡ word ++ 32 ∷ past
+after_items [] word more past are none letter other e = e
+after_items (i ∷ items) word more past are none letter other e =
+    absurd (item_apart i word (flat_map item_spelling items ++ more) past (are i (Contains-head i items)) none letter other (sym (append_assoc (item_spelling i) (flat_map item_spelling items) more) ∙ e))
 
 -- a refusal whose words are `noroom` is out of memory's
 fault_told : (fault : Refusal) (z rest : List ℕ) → (refusal_words fault ++ 10 ∷ []) ++ z ≡ codes "noroom\n" ++ rest → is_noroom fault ≡ true
@@ -207,15 +207,15 @@ words_stopped d (Paged page) z rest few less e = absurd (omega (arith, ap (λ (l
 refused_by : (wording : Wording) (limits : LimitsRecord) (reply : Reply) (rest : List ℕ) → AreItems (shown_by reply) → reply_lines wording reply limits ≡ refused_front rest → Told wording reply
 refused_by wording limits reply rest items e =
     let last : List ℕ = owed_line limits (owed_by reply) in
-    words_refused wording reply last rest (behind_items (shown_by reply) (codes "refused") (with_newline (reply_words wording reply) ++ last) (codes "noroom\n" ++ rest) items (above_space (codes "refused") refl) (omega arith) (λ l. refl) e)
+    words_refused wording reply last rest (after_items (shown_by reply) (codes "refused") (with_newline (reply_words wording reply) ++ last) (codes "noroom\n" ++ rest) items (above_space (codes "refused") refl) (omega arith) (λ l. refl) e)
 
 stopped_by : (limits : LimitsRecord) (reply : Reply) (d : ℕ) (rest : List ℕ) → IsSpelt reply → d < 2 ^ 64 → reply_lines AsMerge reply limits ≡ stopped_front d rest → room_wanted reply ≡ Some (Some d)
 stopped_by limits reply d rest is few e =
     let last : List ℕ = owed_line limits (owed_by reply) in
-    let behind : List ℕ = decimal d ++ 32 ∷ (codes "noroom\n" ++ rest) in
-    let low : get_or behind 0 0 < 97 = number_low d (32 ∷ (codes "noroom\n" ++ rest)) few in
+    let past : List ℕ = decimal d ++ 32 ∷ (codes "noroom\n" ++ rest) in
+    let low : get_or past 0 0 < 97 = number_low d (32 ∷ (codes "noroom\n" ++ rest)) few in
     words_stopped d reply last rest few is.few
-    (behind_items (shown_by reply) (codes "stopped") (with_newline (reply_words AsMerge reply) ++ last) behind is.items
+    (after_items (shown_by reply) (codes "stopped") (with_newline (reply_words AsMerge reply) ++ last) past is.items
     (above_space (codes "stopped") refl) (omega arith) (λ l. absurd (omega (arith, l, low))) e)
 
 -- ---- what is written if memory ran out

@@ -39,7 +39,7 @@ use Rattle.trace_walk.specs.Upgrade.{IsPart, MergeInParts, SweepBecomes, Becomes
 use Rattle.trace_walk.proofs.OneReplyLemmas.{is_merge}
 use Rattle.trace_walk.proofs.TombstoneLemmas.{tombstones_are_free, tombstones_are_items}
 use Rattle.trace_walk.proofs.TracedLemmas.{asked_proper, traced_stays}
-use Rattle.trace_walk.proofs.WalkLemmas.{header_behind}
+use Rattle.trace_walk.proofs.WalkLemmas.{header_after}
 
 -- ---- Merges of free items
 
@@ -196,7 +196,7 @@ header_two h one is = record { incarnation = is.incarnation; first = is.first; r
 
 pub upgraded_is_legal : UpgradedIsLegal
 upgraded_is_legal h old new last text one t b =
-    let traced : IsTraced One (opened_by h) = subst (λ (f : Format). IsTraced f (opened_by h)) one (header_behind h t.header).traced in
+    let traced : IsTraced One (opened_by h) = subst (λ (f : Format). IsTraced f (opened_by h)) one (header_after h t.header).traced in
     let each : All (IsEntry One) old = subst (λ (f : Format). All (IsEntry f) old) one t.each in
     let also = become_two (opened_by h) last old new traced each b in
     record { header = header_two h one t.header; each = also.each; history = also.leads; written = refl }

@@ -25,7 +25,7 @@ use Rattle.trace_walk.specs.Head.{head_text, IsHeadOf}
 use Rattle.trace_walk.specs.Legal.{IsTrace, opened_by}
 use Rattle.trace_walk.specs.OneReply.{KeepsFloors, IsTraced}
 use Rattle.trace_walk.specs.Verdict.{IsLegal, MayBegin}
-use Rattle.trace_walk.specs.Walk.{MayComeBehind, IsBehind, BadHeadsAreWrong, NoReplyBehindEntries, HeadersBegin, BadHeadersAreWrong}
+use Rattle.trace_walk.specs.Walk.{MayComeAfter, IsAfterEntries, BadHeadsAreWrong, NoReplyAfterEntries, HeadersBegin, BadHeadersAreWrong}
 use Rattle.ds_machine.proofs.ReachedLemmas.{opening_is_reached}
 use Rattle.script_commands.proofs.CommandLemmas.{command_ends}
 use Rattle.trace_walk.proofs.HeaderLemmas.{few_limits, header_one}
@@ -36,11 +36,11 @@ use Rattle.trace_walk.proofs.SplitLemmas.{lines_one, ends_after}
 two_unbroken : (a b : ℕ) → a ≢ 10 → b ≢ 10 → Unbroken (a ∷ b ∷ [])
 two_unbroken a b na nb = unbroken_one a (b ∷ []) na (unbroken_one b [] nb (All-nil (λ (x : ℕ). x ≢ 10)))
 
-pass_line : (pass : ℕ) (behind : List ℕ) → pass ≤ 63 → EndsLine behind → EndsLine (pass_text pass behind)
-pass_line pass behind le e =
-    ends_after (62 ∷ 32 ∷ []) (decimal pass ++ 32 ∷ behind) (two_unbroken 62 32 (λ same. omega (arith, same)) (λ same. omega (arith, same)))
-    (ends_after (decimal pass) (32 ∷ behind) (unbroken_decimal pass (omega (arith, le)))
-    (ends_after (32 ∷ []) behind (unbroken_one 32 [] (λ same. omega (arith, same)) (All-nil (λ (x : ℕ). x ≢ 10))) e))
+pass_line : (pass : ℕ) (past : List ℕ) → pass ≤ 63 → EndsLine past → EndsLine (pass_text pass past)
+pass_line pass past le e =
+    ends_after (62 ∷ 32 ∷ []) (decimal pass ++ 32 ∷ past) (two_unbroken 62 32 (λ same. omega (arith, same)) (λ same. omega (arith, same)))
+    (ends_after (decimal pass) (32 ∷ past) (unbroken_decimal pass (omega (arith, le)))
+    (ends_after (32 ∷ []) past (unbroken_one 32 [] (λ same. omega (arith, same)) (All-nil (λ (x : ℕ). x ≢ 10))) e))
 
 merge_line : (count : ℕ) → count ≤ 256 → EndsLine (merge_text count)
 merge_line count le =
@@ -68,11 +68,11 @@ head_of (askeds.Line c) = Line c
 head_of (askeds.Merge items) = Merge (length items)
 
 -- what follows that line
-abbrev pub behind_head : LimitsRecord → TraceEntry → Asked → List ℕ
-behind_head limits e (askeds.Line c) = reply_text limits e
-behind_head limits e (askeds.Merge items) = flat_map plus_text items ++ reply_text limits e
+abbrev pub after_head : LimitsRecord → TraceEntry → Asked → List ℕ
+after_head limits e (askeds.Line c) = reply_text limits e
+after_head limits e (askeds.Merge items) = flat_map plus_text items ++ reply_text limits e
 
-pub entry_splits : (limits : LimitsRecord) (e : TraceEntry) (asked : Asked) → asked_text e.pass asked ++ reply_text limits e ≡ head_text e.pass (head_of asked) ++ behind_head limits e asked
+pub entry_splits : (limits : LimitsRecord) (e : TraceEntry) (asked : Asked) → asked_text e.pass asked ++ reply_text limits e ≡ head_text e.pass (head_of asked) ++ after_head limits e asked
 entry_splits limits e (askeds.Line c) = refl
 entry_splits limits e (askeds.Merge items) = append_assoc (pass_text e.pass (merge_text (length items))) (flat_map plus_text items) (reply_text limits e)
 
@@ -86,8 +86,8 @@ head_is format pass (askeds.Merge items) le may = ((le, may.0, refl), pass_line 
 -- ---- after an entry
 
 -- the front begins a legal trace: itself
-pub behind_begins : (front : List ℕ) (h : Header) (s : State) (count : ℕ) → IsBehind front h s count → MayBegin front
-behind_begins front h s count b = ([], count, (h, b.entries, s, subst (λ (t : List ℕ). IsTrace t h b.entries s) (sym (append-nil front)) b.trace, b.counted))
+pub after_begins : (front : List ℕ) (h : Header) (s : State) (count : ℕ) → IsAfterEntries front h s count → MayBegin front
+after_begins front h s count b = ([], count, (h, b.entries, s, subst (λ (t : List ℕ). IsTrace t h b.entries s) (sym (append-nil front)) b.trace, b.counted))
 
 head_first : (pass : ℕ) (head : Head) (r s : List ℕ) → get_or ((head_text pass head ++ r) ++ s) 0 0 ≡ 62
 head_first pass (Line c) r s = refl
@@ -99,13 +99,13 @@ first_by limits [] b more text = absurd (omega (arith, ap length text))
 first_by limits (e ∷ entries) b more text =
     ap (λ (l : List ℕ). get_or l 0 0)
     (text ∙ ap (λ (l : List ℕ). l ++ flat_map (entry_text limits) entries) (entry_splits limits e e.asked))
-    ∙ head_first e.pass (head_of e.asked) (behind_head limits e e.asked) (flat_map (entry_text limits) entries)
+    ∙ head_first e.pass (head_of e.asked) (after_head limits e e.asked) (flat_map (entry_text limits) entries)
 
-goes_first : (format : Format) (limits : LimitsRecord) (s : State) (b : ℕ) (more : List ℕ) → MayComeBehind format limits s (b ∷ more) → b ≡ 62
+goes_first : (format : Format) (limits : LimitsRecord) (s : State) (b : ℕ) (more : List ℕ) → MayComeAfter format limits s (b ∷ more) → b ≡ 62
 goes_first format limits s b more g = first_by limits g.0 b more g.4
 
 -- no reply line may follow
-pub no_reply : NoReplyBehindEntries
+pub no_reply : NoReplyAfterEntries
 no_reply front h s count b w =
     let goes = b.only (60 ∷ w.0) w.1 (subst (λ (t : List ℕ). IsLegal t w.1) (append_assoc front (60 ∷ []) w.0) w.2) in
     omega (arith, goes_first h.format h.limits s 60 w.0 goes)
@@ -121,11 +121,11 @@ head_by format limits (e ∷ entries) line more each ends text =
     let is : IsEntry format e = each 0 e (omega arith) in
     let h = head_is format e.pass e.asked is.pass is.asked in
     let split =
-    text ∙ ap (λ (l : List ℕ). l ++ flat_map (entry_text limits) entries) (entry_splits limits e e.asked) ∙ append_assoc (head_text e.pass (head_of e.asked)) (behind_head limits e e.asked) (flat_map (entry_text limits) entries) in
-    let one = lines_one line (head_text e.pass (head_of e.asked)) more (behind_head limits e e.asked ++ flat_map (entry_text limits) entries) ends h.1 split in
+    text ∙ ap (λ (l : List ℕ). l ++ flat_map (entry_text limits) entries) (entry_splits limits e e.asked) ∙ append_assoc (head_text e.pass (head_of e.asked)) (after_head limits e e.asked) (flat_map (entry_text limits) entries) in
+    let one = lines_one line (head_text e.pass (head_of e.asked)) more (after_head limits e e.asked ++ flat_map (entry_text limits) entries) ends h.1 split in
     (e.pass, head_of e.asked, subst (IsHeadOf format e.pass (head_of e.asked)) (sym one.0) h.0, subst (λ (l : List ℕ). length l ≤ 4097) (sym one.0) h.2)
 
-goes_head : (format : Format) (limits : LimitsRecord) (s : State) (line more : List ℕ) → EndsLine line → MayComeBehind format limits s (line ++ more) → HasHead format line
+goes_head : (format : Format) (limits : LimitsRecord) (s : State) (line more : List ℕ) → EndsLine line → MayComeAfter format limits s (line ++ more) → HasHead format line
 goes_head format limits s line more ends g = head_by format limits g.0 line more g.2 ends g.4
 
 -- a line that is too long, or isn't the first line of an entry, is wrong there
@@ -184,8 +184,8 @@ opened_traced h is =
     }
 
 -- a header alone is a legal trace, and what begins with it continues from the state that it opens
-pub header_behind : HeadersBegin
-header_behind h is =
+pub header_after : HeadersBegin
+header_after h is =
     record {
       entries = [];
       trace = record { header = is; each = All-nil (IsEntry h.format); history = refl; written = sym (append-nil (header_text h)) };
@@ -195,7 +195,7 @@ header_behind h is =
           let t = legal.3 in
           let one = lines_one (header_text h) (header_text legal.0) more (flat_map (entry_text legal.0.limits) legal.1) (header_line h is) (header_line legal.0 t.header) t.written in
           let same : h ≡ legal.0 = header_one h legal.0 is t.header one.0 in
-          subst (λ (k : Header). MayComeBehind k.format k.limits (opened_by k) more) (sym same) (legal.1, legal.2, t.each, t.history, one.1);
+          subst (λ (k : Header). MayComeAfter k.format k.limits (opened_by k) more) (sym same) (legal.1, legal.2, t.each, t.history, one.1);
     }
 
 -- a line that isn't a header is wrong there

@@ -68,9 +68,9 @@ whole_line bytes line before more h =
 
 -- ---- one more line
 
-known_after : (rest line : List ℕ) (to : Option (List ℕ)) → Consumes (Some rest) to line → (behind : List ℕ) × (to ≡ Some behind) × (rest ≡ line ++ behind)
+known_after : (rest line : List ℕ) (to : Option (List ℕ)) → Consumes (Some rest) to line → (past : List ℕ) × (to ≡ Some past) × (rest ≡ line ++ past)
 known_after rest line None c = absurd c
-known_after rest line (Some behind) c = (behind, refl, c)
+known_after rest line (Some past) c = (past, refl, c)
 
 joined_more : (before : List (List ℕ)) (line : List ℕ) → joined (before ++ line ∷ []) ≡ joined before ++ with_newline line
 joined_more before line = flat_map-append with_newline before (line ∷ []) ∙ ap (λ (l : List ℕ). joined before ++ l) (append-nil (with_newline line))
@@ -79,10 +79,10 @@ count_more : (before : List (List ℕ)) (line : List ℕ) → length (before ++ 
 count_more before line = omega (arith, length-append before (line ∷ []))
 
 gone_to : (bytes front line : List ℕ) (old new : LinesContent) (from to : Option (List ℕ)) (at : IsAt bytes front old from)
-    (behind : List ℕ) (more : List (List ℕ))
-    → IsUnbroken line → at.after ≡ line ∷ more → HasLines behind more → left new to ≡ Some behind → new.count ≡ suc old.count
+    (past : List ℕ) (more : List (List ℕ))
+    → IsUnbroken line → at.after ≡ line ∷ more → HasLines past more → left new to ≡ Some past → new.count ≡ suc old.count
     → HasLine bytes front line new to
-gone_to bytes front line old new from to at behind more whole is lines left_is count =
+gone_to bytes front line old new from to at past more whole is lines left_is count =
     let same : at.before ++ at.after ≡ (at.before ++ line ∷ []) ++ more = ap (λ (l : List (List ℕ)). at.before ++ l) is ∙ sym (append_assoc at.before (line ∷ []) more) in
     record {
       before = at.before;
@@ -94,9 +94,9 @@ gone_to bytes front line old new from to at behind more whole is lines left_is c
       then = record {
         before = at.before ++ line ∷ [];
         after = more;
-        rest = behind;
+        rest = past;
         lines = subst (HasLines bytes) same at.lines;
-        behind = lines;
+        past = lines;
         left_is = left_is;
         front_is = ap (λ (l : List ℕ). l ++ with_newline line) at.front_is ∙ sym (joined_more at.before line);
         counted = count ∙ ap suc at.counted ∙ sym (count_more at.before line);
@@ -105,7 +105,7 @@ gone_to bytes front line old new from to at behind more whole is lines left_is c
 
 at_end_is : (to : Option (List ℕ)) (rest last : List ℕ) → Consumes (Some rest) to last → IsAtEnd to → (to ≡ Some []) × (rest ≡ last)
 at_end_is None rest last c e = absurd c
-at_end_is (Some behind) rest last c e = (ap (λ (l : List ℕ). Some l) e, c ∙ ap (λ (l : List ℕ). last ++ l) e ∙ append-nil last)
+at_end_is (Some past) rest last c e = (ap (λ (l : List ℕ). Some l) e, c ∙ ap (λ (l : List ℕ). last ++ l) e ∙ append-nil last)
 
 -- the line that comes is the first of those that are left
 pub line_comes : (bytes front : List ℕ) (old new : LinesContent) (from to : Option (List ℕ))
@@ -114,12 +114,12 @@ pub line_comes : (bytes front : List ℕ) (old new : LinesContent) (from to : Op
 line_comes bytes front old new from to at ends (inl c) count =
     let k = known_after at.rest new.line (left new to) (subst (λ (o : Option (List ℕ)). Consumes o (left new to) new.line) at.left_is c) in
     let split : at.rest ≡ with_newline ends.front ++ k.0 = k.2 ∙ ap (λ (l : List ℕ). l ++ k.0) ends.parts in
-    let f = first_line ends.front k.0 at.after ends.none (subst (λ (l : List ℕ). HasLines l at.after) split at.behind) in
+    let f = first_line ends.front k.0 at.after ends.none (subst (λ (l : List ℕ). HasLines l at.after) split at.past) in
     (ends.front, ends.parts, gone_to bytes front ends.front old new from to at k.0 f.0 ends.none f.1 f.2 k.1 count)
 line_comes bytes front old new from to at ends (inr c) count =
     let last : List ℕ = c.0 in
     let k = at_end_is (left new to) at.rest last (subst (λ (o : Option (List ℕ)). Consumes o (left new to) last) at.left_is c.3) c.4 in
-    let only = only_line last at.after (last_unbroken last ends c.2) (subst (λ (l : List ℕ). HasLines l at.after) k.1 at.behind) ∙ some_unended last c.1 in
+    let only = only_line last at.after (last_unbroken last ends c.2) (subst (λ (l : List ℕ). HasLines l at.after) k.1 at.past) ∙ some_unended last c.1 in
     (last, c.2, gone_to bytes front last old new from to at [] [] (last_unbroken last ends c.2) only no_lines_left k.0 count)
   where
     last_unbroken : (last : List ℕ) → (ends : EndsLine new.line) → new.line ≡ with_newline last → IsUnbroken last
@@ -129,7 +129,7 @@ line_comes bytes front old new from to at ends (inr c) count =
 pub none_comes : (bytes front : List ℕ) (old : LinesContent) (from : Option (List ℕ)) (number : ℕ) → IsAt bytes front old from → IsAtEnd (left old from) → number ≡ old.count → IsRead bytes front number
 none_comes bytes front old from number at e count =
     let none : at.rest ≡ [] = subst (λ (o : Option (List ℕ)). IsAtEnd o) at.left_is e in
-    let empty : at.after ≡ [] = only_line [] at.after (All-nil (λ (b : ℕ). b ≢ 10)) (subst (λ (l : List ℕ). HasLines l at.after) none at.behind) in
+    let empty : at.after ≡ [] = only_line [] at.after (All-nil (λ (b : ℕ). b ≢ 10)) (subst (λ (l : List ℕ). HasLines l at.after) none at.past) in
     (at.before, subst (HasLines bytes) (ap (λ (l : List (List ℕ)). at.before ++ l) empty ∙ append-nil at.before) at.lines, at.front_is, count ∙ at.counted)
 
 -- ---- a long line
@@ -155,7 +155,7 @@ long_by f r last (y ∷ ys) after whole long all all_last e g =
     let right : joined (y ∷ ys) ++ last ≡ y ++ 10 ∷ (joined ys ++ last) = append_assoc (with_newline y) (joined ys) last ∙ append_assoc y (10 ∷ []) (joined ys ++ last) in
     record { line = y; more = ys ++ unended last; is = g; whole = all 0 y (omega arith); long = omega (arith, long, front_within f y r (joined ys ++ last) whole (e ∙ right)) }
 
-stands_first : (rest f : List ℕ) (behind : Option (List ℕ)) → Consumes (Some rest) behind f → (r : List ℕ) × (rest ≡ f ++ r)
+stands_first : (rest f : List ℕ) (past : Option (List ℕ)) → Consumes (Some rest) past f → (r : List ℕ) × (rest ≡ f ++ r)
 stands_first rest f None c = absurd c
 stands_first rest f (Some r) c = (r, c)
 
@@ -164,7 +164,7 @@ pub long_comes : (bytes front : List ℕ) (old : LinesContent) (from : Option (L
     → IsLong bytes front number
 long_comes bytes front old from f number at first whole long count =
     let r = stands_first at.rest f first.0 (subst (λ (o : Option (List ℕ)). Consumes o first.0 f) at.left_is first.1) in
-    let h = at.behind in
+    let h = at.past in
     let one = long_by f r.0 h.last h.front at.after whole long h.unbroken h.unbroken_last (sym r.1 ∙ h.text) h.all in
     record {
       before = at.before;

@@ -44,7 +44,7 @@ pub record LacksNext (format : Format) (bytes front : List ℕ) (number : ℕ) :
   pub before : List (List ℕ)
   pub rest : List (List ℕ)
   pub lines : HasLines bytes (before ++ rest)
-  pub behind : front ≡ joined before
+  pub past : front ≡ joined before
   pub counted : number ≡ suc (length before)
   pub lacks : BeginsNoItem format rest
 

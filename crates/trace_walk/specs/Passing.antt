@@ -16,7 +16,7 @@ use Rattle.trace_walk.specs.declared.passed.Passed.{Passed}
 use Rattle.trace_walk.specs.declared.passed.Passed.TheVariants.{AsItStands, Swept}
 use Rattle.trace_walk.specs.declared.walk.Walk.{Walk}
 use Rattle.trace_walk.specs.Merging.{AreEntries}
-use Rattle.trace_walk.specs.Walking.{Spot, Walks, spot_behind}
+use Rattle.trace_walk.specs.Walking.{Spot, Walks, spot_after}
 
 -- Whether what was passed is the entry in format 2.
 abbrev pub BecomesBy : State → LimitsRecord → TraceEntry → Passed → Type 0
@@ -36,7 +36,7 @@ pub record HasPassed (b : Spot) (h : Header) (w : Walk) (to : Option (List ℕ))
   pub state : State
   pub is : IsEntry h.format entry
   pub leads : EntryLeads h.format b.state entry state
-  pub walks : Walks (spot_behind b h.limits entry state) w.entry.lines w.store h to
+  pub walks : Walks (spot_after b h.limits entry state) w.entry.lines w.store h to
   pub header : w.header ≡ h
   pub asked : w.entry.text.items ≡ asked_text entry.pass entry.asked
   pub reply : w.reply.items ≡ reply_lines (worded_as entry.asked) entry.reply h.limits

@@ -142,8 +142,8 @@ abbrev pub ReadsAsked : Walk → Option (List ℕ) → Head → Walk → Option 
 ReadsAsked old from head new to asked =
     (new.header ≡ old.header) × ((b : Spot) (pass : ℕ) → HeadsAt b old from pass head → AsksAt b new to pass asked)
 
-abbrev pub FailsBehindHead : Walk → Option (List ℕ) → Head → WalkFault → Type 0
-FailsBehindHead old from head fault = (b : Spot) (pass : ℕ) → HeadsAt b old from pass head → IsFault b.front b.bytes fault
+abbrev pub FailsAfterHead : Walk → Option (List ℕ) → Head → WalkFault → Type 0
+FailsAfterHead old from head fault = (b : Spot) (pass : ℕ) → HeadsAt b old from pass head → IsFault b.front b.bytes fault
 
 -- ---- the reply
 
@@ -177,13 +177,13 @@ pub record HasRefused (old : Walk) (asked : Asked) (new : Walk) (passed : Passed
   pub becomes : IsRefusedAs old.header.format asked passed
 
 -- Whether the walk, after a command, passes the reply.
-abbrev pub GoesBehind : Walk → Option (List ℕ) → ℕ → Asked → Walk → Option (List ℕ) → Passed → Type 0
-GoesBehind old from pass asked new to passed = (b : Spot) → AsksAt b old from pass asked → HasPassed b old.header new to passed
+abbrev pub GoesAfter : Walk → Option (List ℕ) → ℕ → Asked → Walk → Option (List ℕ) → Passed → Type 0
+GoesAfter old from pass asked new to passed = (b : Spot) → AsksAt b old from pass asked → HasPassed b old.header new to passed
 
-abbrev pub FailsBehind : Walk → Option (List ℕ) → ℕ → Asked → WalkFault → Type 0
-FailsBehind old from pass asked fault = (b : Spot) → AsksAt b old from pass asked → IsFault b.front b.bytes fault
+abbrev pub FailsAfter : Walk → Option (List ℕ) → ℕ → Asked → WalkFault → Type 0
+FailsAfter old from pass asked fault = (b : Spot) → AsksAt b old from pass asked → IsFault b.front b.bytes fault
 
--- Like `GoesBehind`, from the first line of the reply.
+-- Like `GoesAfter`, from the first line of the reply.
 abbrev pub GoesPastReply : Walk → Option (List ℕ) → ℕ → Asked → Walk → Option (List ℕ) → Passed → Type 0
 GoesPastReply old from pass asked new to passed = (b : Spot) → HearsAt b old from pass asked → HasPassed b old.header new to passed
 

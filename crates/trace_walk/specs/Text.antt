@@ -91,7 +91,7 @@ MayMerge format i = IsItem i × Carries format i
 
 -- A `>` line, given what follows the pass.
 abbrev pub pass_text : ℕ → List ℕ → List ℕ
-pass_text pass behind = 62 ∷ 32 ∷ (decimal pass ++ 32 ∷ behind)
+pass_text pass past = 62 ∷ 32 ∷ (decimal pass ++ 32 ∷ past)
 
 -- The `>` line of a command, with its newline.
 abbrev pub line_text : ℕ → ScriptCommand → List ℕ

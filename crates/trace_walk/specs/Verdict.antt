@@ -30,7 +30,7 @@ pub record IsWrongAt (bytes : List ℕ) (number : ℕ) (front : List ℕ) : Type
   pub before : List (List ℕ)
   pub rest : List (List ℕ)
   pub lines : HasLines bytes (before ++ rest)
-  pub behind : front ≡ joined before
+  pub past : front ≡ joined before
   pub counted : number ≡ suc (length before)
   pub begins : MayBegin front
   pub fails : Fails front rest

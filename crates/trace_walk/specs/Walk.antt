@@ -20,34 +20,34 @@ use Rattle.trace_walk.specs.Text.{marked, header_text, asked_text, pass_text, me
 use Rattle.trace_walk.specs.Verdict.{IsLegal, MayBegin, WantsReply, Fails}
 
 -- What may follow a trace that led to the state.
-abbrev pub MayComeBehind : Format → LimitsRecord → State → List ℕ → Type 0
-MayComeBehind format limits s text =
+abbrev pub MayComeAfter : Format → LimitsRecord → State → List ℕ → Type 0
+MayComeAfter format limits s text =
     (entries : List TraceEntry) × (last : State) ×
     All (IsEntry format) entries × AllLead format s entries last × (text ≡ flat_map (entry_text limits) entries)
 
 -- Whether the walk is after an entry: the text so far is a legal trace that leads to the state, and every legal trace
 -- that begins with it continues from there.
-pub record IsBehind (front : List ℕ) (h : Header) (s : State) (count : ℕ) : Type 0 where
+pub record IsAfterEntries (front : List ℕ) (h : Header) (s : State) (count : ℕ) : Type 0 where
   pub entries : List TraceEntry
   pub trace : IsTrace front h entries s
   pub counted : length entries ≡ count
   pub traced : IsTraced h.format s
-  pub only : (more : List ℕ) (n : ℕ) → IsLegal (front ++ more) n → MayComeBehind h.format h.limits s more
+  pub only : (more : List ℕ) (n : ℕ) → IsLegal (front ++ more) n → MayComeAfter h.format h.limits s more
 
 -- After an entry, a line that is too long, or isn't the first line of an entry, is wrong.
 abbrev pub BadHeadsAreWrong : Type 0
 BadHeadsAreWrong =
     (front line : List ℕ) (rest : List (List ℕ)) (h : Header) (s : State) (count : ℕ) →
-    IsBehind front h s count → IsUnbroken line → (length (with_newline line) ≤ 4097 → HasNoHead h.format (with_newline line)) →
+    IsAfterEntries front h s count → IsUnbroken line → (length (with_newline line) ≤ 4097 → HasNoHead h.format (with_newline line)) →
     Fails front (line ∷ rest)
 
 -- After an entry, no reply line may follow.
-abbrev pub NoReplyBehindEntries : Type 0
-NoReplyBehindEntries = (front : List ℕ) (h : Header) (s : State) (count : ℕ) → IsBehind front h s count → ¬ WantsReply front
+abbrev pub NoReplyAfterEntries : Type 0
+NoReplyAfterEntries = (front : List ℕ) (h : Header) (s : State) (count : ℕ) → IsAfterEntries front h s count → ¬ WantsReply front
 
 -- A header leads to the state that it opens.
 abbrev pub HeadersBegin : Type 0
-HeadersBegin = (h : Header) → IsHeader h → IsBehind (header_text h) h (opened_by h) 0
+HeadersBegin = (h : Header) → IsHeader h → IsAfterEntries (header_text h) h (opened_by h) 0
 
 -- A first line that isn't a header is wrong.
 abbrev pub BadHeadersAreWrong : Type 0
@@ -57,8 +57,8 @@ BadHeadersAreWrong = (line : List ℕ) (rest : List (List ℕ)) → IsUnbroken l
 abbrev pub EntriesLead : Type 0
 EntriesLead =
     (front : List ℕ) (h : Header) (s t : State) (count : ℕ) (e : TraceEntry) →
-    IsBehind front h s count → IsEntry h.format e → EntryLeads h.format s e t →
-    IsBehind (front ++ entry_text h.limits e) h t (suc count)
+    IsAfterEntries front h s count → IsEntry h.format e → EntryLeads h.format s e t →
+    IsAfterEntries (front ++ entry_text h.limits e) h t (suc count)
 
 -- ---- within an entry
 
@@ -88,7 +88,7 @@ IsPlus format line = (i : Item) × MayMerge format i × (line ≡ plus_text i)
 abbrev pub PlusPlaces : Type 0
 PlusPlaces =
     (front : List ℕ) (h : Header) (s : State) (count pass n : ℕ) (items : List Item) →
-    IsBehind front h s count → pass ≤ 63 → n ≤ most_items → length items < n → All (MayMerge h.format) items →
+    IsAfterEntries front h s count → pass ≤ 63 → n ≤ most_items → length items < n → All (MayMerge h.format) items →
     IsPlaceInEntry front (front ++ (pass_text pass (merge_text n) ++ flat_map plus_text items)) false (IsPlus h.format)
 
 -- Whether some reply to the command begins with the line.
@@ -108,13 +108,13 @@ pub record MayReply (format : Format) (limits : LimitsRecord) (s : State) (asked
 abbrev pub ReplyPlaces : Type 0
 ReplyPlaces =
     (front : List ℕ) (h : Header) (s : State) (count pass : ℕ) (asked : Asked) →
-    IsBehind front h s count → pass ≤ 63 → MayAsk h.format pass asked →
+    IsAfterEntries front h s count → pass ≤ 63 → MayAsk h.format pass asked →
     IsPlaceInEntry front (front ++ asked_text pass asked) true (MayReply h.format h.limits s asked)
 
 -- After some lines of a reply, its next line must follow, since a reply has one text.
 abbrev pub WithinReplies : Type 0
 WithinReplies =
     (front : List ℕ) (h : Header) (s t : State) (count : ℕ) (e : TraceEntry) (given next left : List ℕ) →
-    IsBehind front h s count → IsEntry h.format e → EntryLeads h.format s e t →
+    IsAfterEntries front h s count → IsEntry h.format e → EntryLeads h.format s e t →
     reply_lines (worded_as e.asked) e.reply h.limits ≡ (given ++ 10 ∷ []) ++ (next ++ left) → EndsLine next →
     IsPlaceInEntry front (front ++ (asked_text e.pass e.asked ++ marked (given ++ 10 ∷ []))) true (λ (line : List ℕ). line ≡ 60 ∷ 32 ∷ next)

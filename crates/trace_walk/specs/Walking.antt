@@ -30,7 +30,7 @@ use Rattle.trace_walk.specs.Text.{TraceEntry, MayAsk, asked_text, command_asked,
 use Rattle.trace_walk.specs.Text.{marked, worded_as}
 use Rattle.trace_walk.specs.Upgrade.{BecomesAs}
 use Rattle.trace_walk.specs.Verdict.{IsWrongAt, WantsReply}
-use Rattle.trace_walk.specs.Walk.{IsBehind, IsPlaceInEntry, NoneEnds}
+use Rattle.trace_walk.specs.Walk.{IsAfterEntries, IsPlaceInEntry, NoneEnds}
 use Rattle.trace_walk.specs.declared.fault.WalkFault.{WalkFault}
 use Rattle.trace_walk.specs.declared.fault.WalkFault.TheVariants.{IllegalAt, BadLineAt, ReadFault, NoRoom}
 use Rattle.trace_walk.specs.declared.entry.EntryFault.{EntryFault}
@@ -42,7 +42,7 @@ pub record IsAt (bytes front : List ℕ) (l : LinesContent) (remaining : Option 
   pub after : List (List ℕ)
   pub rest : List ℕ
   pub lines : HasLines bytes (before ++ after)
-  pub behind : HasLines rest after
+  pub past : HasLines rest after
   pub left_is : left l remaining ≡ Some rest
   pub front_is : front ≡ joined before
   pub counted : l.count ≡ length before
@@ -56,14 +56,14 @@ pub record Spot : Type 0 where
   pub count : ℕ
 
 -- The place after one more entry.
-abbrev pub spot_behind : Spot → LimitsRecord → TraceEntry → State → Spot
-spot_behind b limits e t = record { bytes = b.bytes; front = b.front ++ entry_text limits e; state = t; count = suc b.count }
+abbrev pub spot_after : Spot → LimitsRecord → TraceEntry → State → Spot
+spot_after b limits e t = record { bytes = b.bytes; front = b.front ++ entry_text limits e; state = t; count = suc b.count }
 
 -- Whether the walk is at the spot, with a store that stands for its state.
 pub record Walks (b : Spot) (l : LinesContent) (store : ContentRecord) (h : Header) (remaining : Option (List ℕ)) : Type 0 where
   pub at : IsAt b.bytes b.front l remaining
   pub stands : ContentStands store b.state
-  pub behind : IsBehind b.front h b.state b.count
+  pub past : IsAfterEntries b.front h b.state b.count
 
 -- Whether the fault is a verdict on the input, and no legal trace ends after the start and before the wrong line.
 abbrev pub IsFault : (start bytes : List ℕ) → WalkFault → Type 0
@@ -136,7 +136,7 @@ pub record Heads (b : Spot) (l : LinesContent) (store : ContentRecord) (h : Head
     (pass : ℕ) (head : Head) (kept : List ℕ) : Type 0 where
   pub at : IsAt b.bytes (b.front ++ head_text pass head) l remaining
   pub stands : ContentStands store b.state
-  pub behind : IsBehind b.front h b.state b.count
+  pub past : IsAfterEntries b.front h b.state b.count
   pub pass_few : pass ≤ 63
   pub may : MayHead h.format head
   pub short : IsShort (head_text pass head)
@@ -147,7 +147,7 @@ pub record HasAsked (b : Spot) (l : LinesContent) (store : ContentRecord) (h : H
     (pass : ℕ) (asked : Asked) (kept : List ℕ) : Type 0 where
   pub at : IsAt b.bytes (b.front ++ asked_text pass asked) l remaining
   pub stands : ContentStands store b.state
-  pub behind : IsBehind b.front h b.state b.count
+  pub past : IsAfterEntries b.front h b.state b.count
   pub pass_few : pass ≤ 63
   pub may : MayAsk h.format pass asked
   pub kept_is : kept ≡ asked_text pass asked
@@ -159,7 +159,7 @@ pub record Hears (b : Spot) (l : LinesContent) (store : ContentRecord) (h : Head
   pub here : HasLine b.bytes (b.front ++ asked_text pass asked) line l remaining
   pub line_is : l.line ≡ with_newline line
   pub stands : ContentStands store b.state
-  pub behind : IsBehind b.front h b.state b.count
+  pub past : IsAfterEntries b.front h b.state b.count
   pub pass_few : pass ≤ 63
   pub may : MayAsk h.format pass asked
   pub kept_is : kept ≡ asked_text pass asked

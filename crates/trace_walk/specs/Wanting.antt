@@ -53,8 +53,8 @@ wanted_in false = Entry
 abbrev pub WantsFrom : Walk → Option (List ℕ) → Walk → WalkFault → Type 0
 WantsFrom old from new fault = (b : Spot) → WalksAt b old from → IsWanted b.bytes (wanted_in new.in_items) fault
 
-abbrev pub WantsBehindHead : Walk → Option (List ℕ) → Head → Walk → WalkFault → Type 0
-WantsBehindHead old from head new fault =
+abbrev pub WantsAfterHead : Walk → Option (List ℕ) → Head → Walk → WalkFault → Type 0
+WantsAfterHead old from head new fault =
     (b : Spot) (pass : ℕ) → HeadsAt b old from pass head → IsWanted b.bytes (wanted_in new.in_items) fault
 
 -- Whether the fault may come where a reply line must follow: no bad line does.

@@ -64,7 +64,7 @@ pub fn read_head(alloc: Global, line: &[u8], format: Format) -> Result<(u64, Hea
 // Reads `> PASS ` and returns the pass and the rest.
 fn read_pass(line: &[u8]) -> Option<(u64, &[u8])>
     ensures found { IfSome result (λ r. (r.0 ≤ 63) × (line.now ≡ pass_text r.0 r.1.now)) }
-    ensures none { IfNone result ((pass : ℕ) (behind : List ℕ) → pass ≤ 63 → line.now ≢ pass_text pass behind) }
+    ensures none { IfNone result ((pass : ℕ) (after : List ℕ) → pass ≤ 63 → line.now ≢ pass_text pass after) }
 {
     let rest = read_byte(line, b'>')?;
     let rest = read_byte(rest, b' ')?;

@@ -5,7 +5,7 @@ ghost use Rattle.trace_walk.specs.OneReply.{FirstLinesTell, OfferLinesTell, Repl
 ghost use Rattle.trace_walk.specs.Sweep.{TombstonesAreFree, TombstonesAreTaken};
 ghost use Rattle.trace_walk.specs.Upgrade.{UpgradedIsLegal};
 ghost use Rattle.trace_walk.specs.Walk.{HeadersBegin, BadHeadersAreWrong, BadHeadsAreWrong, EntriesLead};
-ghost use Rattle.trace_walk.specs.Walk.{NoReplyBehindEntries, PlusPlaces, ReplyPlaces, WithinReplies};
+ghost use Rattle.trace_walk.specs.Walk.{NoReplyAfterEntries, PlusPlaces, ReplyPlaces, WithinReplies};
 
 /// A law: a header is a legal trace, which continues from the state that it opens, and a first line that isn't a header
 /// is the first wrong line.
@@ -18,7 +18,7 @@ pub fn headers_are_judged()
 /// is the first wrong line.
 pub fn heads_are_judged()
     ensures wrong { BadHeadsAreWrong }
-    ensures place { NoReplyBehindEntries }
+    ensures place { NoReplyAfterEntries }
 {}
 
 /// A law: the first line of a reply determines whether memory ran out and after how many items; an offer's, only

@@ -42,11 +42,11 @@ pub(crate) fn stopped(
     if wants_room(&reply) {
         return Err(WalkFault::NoRoom);
     }
-    stopped_behind(&reply, done, number)
+    stopped_after(&reply, done, number)
 }
 
 // Returns the reply of a Merge that memory stopped after `done` items, from the reply to a Merge of those alone.
-fn stopped_behind(reply: &Reply, done: usize, number: u64) -> Result<Reply, WalkFault>
+fn stopped_after(reply: &Reply, done: usize, number: u64) -> Result<Reply, WalkFault>
     ensures stops { IfOk result (EndsMidway reply.now done) }
     ensures fails { IfErr result (λ fault. (fault ≡ WalkFault.IllegalAt number) × IsUnmerged reply.now) }
 {

@@ -3,8 +3,8 @@
 ghost use Rattle.std.specs.Prelude.{◌≡◌, IfOk, IfErr, IfSome, IfNone};
 ghost use Rattle.trace_walk.specs.Reads.{Advances, BeginsReading, CountsOn};
 ghost use Rattle.trace_walk.specs.Steps.{BeginsKnown, IsFaultOfKnown, GoesPast, EndsThere, FailsFrom, ReadsHead};
-ghost use Rattle.trace_walk.specs.Steps.{ReadsAsked, FailsBehindHead};
-ghost use Rattle.trace_walk.specs.Wanting.{IsWantedOfKnown, WantsFrom, WantsBehindHead};
+ghost use Rattle.trace_walk.specs.Steps.{ReadsAsked, FailsAfterHead};
+ghost use Rattle.trace_walk.specs.Wanting.{IsWantedOfKnown, WantsFrom, WantsAfterHead};
 ghost use Rattle.trace_walk.specs.declared.wrong_line.Wanted.TheVariants as wanteds;
 
 mod judging;
@@ -125,8 +125,8 @@ impl Walk {
     // Reads the rest of a command: the items of a Merge.
     fn asked<R: Source>(&mut self, reader: &mut R, head: Head) -> Result<Asked, WalkFault>
         ensures goes { IfOk result (ReadsAsked self.old (R.remaining reader.old) head self.new (R.remaining reader.new)) }
-        ensures fails { IfErr result (FailsBehindHead self.old (R.remaining reader.old) head) }
-        ensures wanted { IfErr result (WantsBehindHead self.old (R.remaining reader.old) head self.new) }
+        ensures fails { IfErr result (FailsAfterHead self.old (R.remaining reader.old) head) }
+        ensures wanted { IfErr result (WantsAfterHead self.old (R.remaining reader.old) head self.new) }
         ensures reads { Advances R.Source result self.old.entry.lines reader.old self.new.entry.lines reader.new }
     {
         self.in_items = true;

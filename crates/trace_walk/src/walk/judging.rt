@@ -4,7 +4,7 @@ ghost use Rattle.std.specs.Prelude.{◌≡◌, ◌≢◌, ◌<◌, length, None,
 ghost use Rattle.trace_walk.specs.declared.asked.Asked.TheVariants as askeds;
 ghost use Rattle.trace_walk.specs.Noroom.{noroom_line, stopped_line};
 ghost use Rattle.trace_walk.specs.Reads.{Advances};
-ghost use Rattle.trace_walk.specs.Steps.{GoesBehind, FailsBehind, GoesPastReply, FailsAtReply, HasRefused, PassesLine};
+ghost use Rattle.trace_walk.specs.Steps.{GoesAfter, FailsAfter, GoesPastReply, FailsAtReply, HasRefused, PassesLine};
 ghost use Rattle.trace_walk.specs.Steps.{PassesSweep, PassesMerge, FailsAtMerge, PassesPlain, FailsAtPlain};
 ghost use Rattle.trace_walk.specs.Steps.{PassesFor, FailsFor, SaysReply, FailsToSay, swept_line};
 ghost use Rattle.trace_walk.specs.Sweeping.{older_of};
@@ -36,8 +36,8 @@ impl Walk {
         pass: u64,
         asked: Asked,
     ) -> Result<Passed, WalkFault>
-        ensures goes { IfOk result (GoesBehind self.old (R.remaining reader.old) pass asked self.new (R.remaining reader.new)) }
-        ensures fails { IfErr result (FailsBehind self.old (R.remaining reader.old) pass asked) }
+        ensures goes { IfOk result (GoesAfter self.old (R.remaining reader.old) pass asked self.new (R.remaining reader.new)) }
+        ensures fails { IfErr result (FailsAfter self.old (R.remaining reader.old) pass asked) }
         ensures kind { IfErr result IsOfReply }
         ensures reads { Advances R.Source result self.old.entry.lines reader.old self.new.entry.lines reader.new }
     {

@@ -1,7 +1,7 @@
 use Rattle.std.proofs.Common.{◌≡◌, ℕ, List, ◌+◌, ◌++◌, ◌∙◌, sym, ap, length, take, drop, map, arith, length-append}
 use Rattle.std.specs.List.{concat}
 use Rattle.ds_line.specs.ItemSpelling.{item_spelling}
-use Rattle.c_values.proofs.GivingLemmas.{one_more, put_behind, all_given}
+use Rattle.c_values.proofs.GivingLemmas.{one_more, put_after, all_given}
 use Rattle.c_values.proofs.giving.give_lines.Goals as goal
 
 pub loop-count-preserved : goal.loop-count-preserved
@@ -12,7 +12,7 @@ loop-count-preserved c =
     let line : c.append_item.new.buffer.items ≡ p = c.in-Ok.ensures.written ∙ ap (λ l. l ++ p) c.clear.ensures.items in
     let bytes : c.as_slice-bytes.result.now ≡ p = c.as_slice-bytes.ensures.value ∙ line in
     let count : length c.as_slice-bytes.result.now ≡ length p = ap length bytes in
-    let there = put_behind front c.args.room.now k.room c.put.new.room p k.taken k.invariant.taken k.invariant.room (rw bytes at c.put.ensures) in
+    let there = put_after front c.args.room.now k.room c.put.new.room p k.taken k.invariant.taken k.invariant.room (rw bytes at c.put.ensures) in
     record {
       taken = omega (arith, k.invariant.taken, count, ap length more, length-append front p);
       fits = omega (arith, count);

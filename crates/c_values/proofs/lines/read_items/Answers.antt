@@ -9,13 +9,13 @@ use Rattle.ds_entry.specs.declared.item.Item.{Item}
 use Rattle.ds_entry.specs.declared.item.Item.TheVariants.{Change as Changed}
 use Rattle.ds_line.specs.ItemFault.{HasNoItem}
 use Rattle.ds_line.specs.ItemSpelling.{item_spelling}
-use Rattle.c_values.proofs.ItemsLemmas.{lines_with, none_behind, begins_with}
+use Rattle.c_values.proofs.ItemsLemmas.{lines_with, none_after, begins_with}
 use Rattle.c_values.proofs.lines.read_items.Goals as goal
 
 pub returns-in-Err-BadLine : goal.returns-in-Err-BadLine
 returns-in-Err-BadLine c is are =
     let none : HasNoItem c.loop-rest.rest.now = (rw c.in-Err-BadLine.field-0-is at c.in-Err-BadLine.ensures.fault).none in
-    none_behind c.args.text.now c.loop-rest.rest.now c.loop-rest.items is c.loop-rest.invariant.each c.loop-rest.invariant.so_far (grind (arith, nat_tests)) none are
+    none_after c.args.text.now c.loop-rest.rest.now c.loop-rest.items is c.loop-rest.invariant.each c.loop-rest.invariant.so_far (grind (arith, nat_tests)) none are
 
 -- no room for the value of the item whose line comes next
 pub returns-in-Err-NoRoom : goal.returns-in-Err-NoRoom

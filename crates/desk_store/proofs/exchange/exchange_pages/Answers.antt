@@ -100,7 +100,7 @@ loop-preserved g c =
       tt,
       c.in_ok-items.ensures.same ∙ l.invariant.2,
       c.in_ok-given.ensures.only.0 ∙ l.invariant.3,
-      subst (λ (k : Option Key). GoesByPages p q r s k (Some c.unwrap_or-from.result) (l.done + c.len-count.result) (l.taken + given)) (sym c.go_behind.ensures)
+      subst (λ (k : Option Key). GoesByPages p q r s k (Some c.unwrap_or-from.result) (l.done + c.len-count.result) (l.taken + given)) (sym c.go_past.ensures)
           (subst (λ (n : ℕ). GoesByPages p q r s (last_key l.after page.items) (Some c.unwrap_or-from.result) (l.done + n) (l.taken + given)) (sym c.len-count.ensures)
           (subst (λ (x : Cursor). GoesByPages p q r s (last_key l.after page.items) (Some x) (l.done + length page.items) (l.taken + given)) (sym c.unwrap_or-from.ensures) more)),
     )

@@ -1,4 +1,4 @@
-use Rattle.desk_store.proofs.PassLemmas.{behind_is, is_in_turns, sees_by_calls, sees_by_looks, sees_by_notes}
+use Rattle.desk_store.proofs.PassLemmas.{after_is, is_in_turns, sees_by_calls, sees_by_looks, sees_by_notes}
 use Rattle.desk_store.proofs.RecordLemmas.{made_sees_more, seen_more_again}
 use Rattle.desk_store.proofs.pass_laws.passes_see_more.Goals as goal
 
@@ -10,5 +10,5 @@ returns c = let p = c.args.pass.now in record {
   made = made_sees_more;
   again = seen_more_again;
   turns = is_in_turns p;
-  places = behind_is p;
+  places = after_is p;
 }

@@ -7,7 +7,7 @@ use Rattle.ds_entry.specs.Change.{ChangeRecord}
 use Rattle.ds_join.specs.Reading.{comes_after}
 use Rattle.ds_join.proofs.NextLemmas.{after_partitioned}
 use Rattle.ds_held.specs.Kept.{keyed}
-use Rattle.ds_held.proofs.AfterLemmas.{all_behind}
+use Rattle.ds_held.proofs.AfterLemmas.{all_after}
 use Rattle.ds_held.proofs.SearchLemmas.{rising_order, passed_upto, failed_from}
 use Rattle.ds_held.proofs.order.begin_after.Goals as goal
 
@@ -44,5 +44,5 @@ returns-clause-begin c =
     let after = option_copied c.args.after in
     let xs = c.args.changes.now in
     let i = c.loop-low.invariant in
-    all_behind (comes_after after) xs c.loop-low.low
+    all_after (comes_after after) xs c.loop-low.low
     (i.2, subst (λ n. AllWithin (λ (x : ChangeRecord). not (comes_after after x) ≡ false) xs n (length xs)) {x = c.loop-low.high} {y = c.loop-low.low} (omega (arith, i.0, c.loop-low-test.false)) i.3)

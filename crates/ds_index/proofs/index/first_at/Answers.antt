@@ -3,7 +3,7 @@ use Rattle.std.specs.Prelude.{slice_get}
 use Rattle.std.specs.Option.{option_copied}
 use Rattle.std.proofs.lemmas.Bool.{not-true}
 use Rattle.ds_index.specs.Named.{holds_endpoint}
-use Rattle.ds_index.proofs.NamedLemmas.{passes_nth, first_at_front, first_behind_other}
+use Rattle.ds_index.proofs.NamedLemmas.{passes_nth, first_at_front, first_after_other}
 use Rattle.ds_index.proofs.index.first_at.Goals as goal
 use Rattle.ds_index.proofs.index.first_at.Goals.{then-index-eq0, else-index-eq0}
 
@@ -18,5 +18,5 @@ returns-then-not-is_of_nth c =
       | then-index-eq0 w ↦ first_at_front e xs c.requires p of c.args.index (omega (arith, w.if-index-eq0.true)) here
       | else-index-eq0 w ↦
           (let other : passes_nth (holds_endpoint e) xs (c.args.index - 1) ≡ false = sym w.is_of_nth.ensures ∙ not-true w.is_of_nth.result (sym w.value-is ∙ c.if-not-is_of_nth.true) in
-          first_behind_other e xs c.requires p of c.args.index (c.args.index - 1) (omega (arith, w.if-index-eq0.false)) here other)
+          first_after_other e xs c.requires p of c.args.index (c.args.index - 1) (omega (arith, w.if-index-eq0.false)) here other)
     ]

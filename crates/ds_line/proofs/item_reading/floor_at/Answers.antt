@@ -21,8 +21,8 @@ pub returns-in_default-read_byte-2 : goal.returns-in_default-read_byte-2
 returns-in_default-read_byte-2 c =
     let at = c.in-Some-read_byte.at.now in
     let owner = c.in-Some-name_at.owner in
-    let name = subst (λ (t : List ℕ). Begins is_name_byte at owner t) (sym c.behind_name-rest.ensures) c.in-Some-name_at.ensures.found in
-    generation_space_missing owner c.args.bytes.now c.in-Some.rest.now at c.behind_name-rest.result.now c.stop_at-in_default-read_byte-2.result
+    let name = subst (λ (t : List ℕ). Begins is_name_byte at owner t) (sym c.after_name-rest.ensures) c.in-Some-name_at.ensures.found in
+    generation_space_missing owner c.args.bytes.now c.in-Some.rest.now at c.after_name-rest.result.now c.stop_at-in_default-read_byte-2.result
     c.stop_at-in_default-read_byte-2.ensures c.in-Some.ensures.found c.in-Some-read_byte.ensures.found
     c.in-Some-name_at.ensures.name name c.in_default-read_byte-2.ensures.none
 
@@ -30,16 +30,16 @@ pub returns-in_default-read_decimal : goal.returns-in_default-read_decimal
 returns-in_default-read_decimal c =
     let at = c.in-Some-read_byte.at.now in
     let owner = c.in-Some-name_at.owner in
-    let name = subst (λ (t : List ℕ). Begins is_name_byte at owner t) (sym c.behind_name-rest.ensures) c.in-Some-name_at.ensures.found in
-    generation_missing owner c.args.bytes.now c.in-Some.rest.now at c.behind_name-rest.result.now c.in-Some-read_byte-2.at.now c.stop_at-in_default-read_decimal.result c.stop_at-in_default-read_decimal.ensures c.in-Some.ensures.found
+    let name = subst (λ (t : List ℕ). Begins is_name_byte at owner t) (sym c.after_name-rest.ensures) c.in-Some-name_at.ensures.found in
+    generation_missing owner c.args.bytes.now c.in-Some.rest.now at c.after_name-rest.result.now c.in-Some-read_byte-2.at.now c.stop_at-in_default-read_decimal.result c.stop_at-in_default-read_decimal.ensures c.in-Some.ensures.found
     c.in-Some-read_byte.ensures.found c.in-Some-name_at.ensures.name name c.in-Some-read_byte-2.ensures.found c.in_default-read_decimal.ensures.none
 
 pub returns-in_default-read_byte-3 : goal.returns-in_default-read_byte-3
 returns-in_default-read_byte-3 c =
     let at = c.in-Some-read_byte.at.now in
     let owner = c.in-Some-name_at.owner in
-    let name = subst (λ (t : List ℕ). Begins is_name_byte at owner t) (sym c.behind_name-rest.ensures) c.in-Some-name_at.ensures.found in
-    newline_missing owner c.in-Some-read_decimal.number c.args.bytes.now c.in-Some.rest.now at c.behind_name-rest.result.now c.in-Some-read_byte-2.at.now c.in-Some-read_decimal.rest.now c.stop_at-in_default-read_byte-3.result
+    let name = subst (λ (t : List ℕ). Begins is_name_byte at owner t) (sym c.after_name-rest.ensures) c.in-Some-name_at.ensures.found in
+    newline_missing owner c.in-Some-read_decimal.number c.args.bytes.now c.in-Some.rest.now at c.after_name-rest.result.now c.in-Some-read_byte-2.at.now c.in-Some-read_decimal.rest.now c.stop_at-in_default-read_byte-3.result
     c.stop_at-in_default-read_byte-3.ensures c.in-Some.ensures.found c.in-Some-read_byte.ensures.found c.in-Some-name_at.ensures.name name c.in-Some-read_byte-2.ensures.found
     c.in-Some-read_decimal.ensures.limit c.in-Some-read_decimal.ensures.found
     c.in_default-read_byte-3.ensures.none

@@ -5,4 +5,4 @@ pub returns-in_default : goal.returns-in_default
 returns-in_default c = change_line c.args.bytes.now c.change_into.result c.change_into.new.slot c.in_default.ensures.none c.change_into.ensures
 
 pub floor_into-requires : goal.floor_into-requires
-floor_into-requires c = (c.in-Some._behind.now, c.in-Some.ensures.found)
+floor_into-requires c = (c.in-Some._after.now, c.in-Some.ensures.found)

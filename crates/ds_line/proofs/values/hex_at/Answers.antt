@@ -12,7 +12,7 @@ returns-else-ends_digits-clause-none c =
 
 pub loop-len-preserved : goal.loop-len-preserved
 loop-len-preserved c =
-    paired_more c.args.bytes.now c.loop-len.block c.loop-len.rest.now c.in-Some.behind.now c.loop-len.len c.in-Some.byte c.loop-len.invariant c.loop-len-test.true c.in-Some.ensures.found c.in-Some.ensures.byte
+    paired_more c.args.bytes.now c.loop-len.block c.loop-len.rest.now c.in-Some.after.now c.loop-len.len c.in-Some.byte c.loop-len.invariant c.loop-len-test.true c.in-Some.ensures.found c.in-Some.ensures.byte
 
 pub returns-then-ends_digits-2-clause-found : goal.returns-then-ends_digits-2-clause-found
 returns-then-ends_digits-2-clause-found c =

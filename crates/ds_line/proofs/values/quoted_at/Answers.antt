@@ -6,7 +6,7 @@ pub loop-len-init : goal.loop-len-init
 loop-len-init c = open_first c.args.bytes.now c.args.block.now c.in-Some.text.now c.in-Some.ensures.found c.told-block
 
 pub returns-in-Some-read_byte-clause-found : goal.returns-in-Some-read_byte-clause-found
-returns-in-Some-read_byte-clause-found c = open_closes c.args.bytes.now c.loop-len.block c.loop-len.rest.now c.in-Some-read_byte.behind.now c.loop-len.len c.loop-len.invariant c.in-Some-read_byte.ensures.found
+returns-in-Some-read_byte-clause-found c = open_closes c.args.bytes.now c.loop-len.block c.loop-len.rest.now c.in-Some-read_byte.after.now c.loop-len.len c.loop-len.invariant c.in-Some-read_byte.ensures.found
 
 pub returns-in-Some-read_byte-clause-valid : goal.returns-in-Some-read_byte-clause-valid
 returns-in-Some-read_byte-clause-valid c = open_text c.args.bytes.now c.loop-len.block c.loop-len.rest.now c.loop-len.len c.loop-len.invariant (omega (arith, c.loop-len-test.true))
@@ -20,7 +20,7 @@ returns-in_default-text_byte_at-clause-none c =
 
 pub loop-len-preserved : goal.loop-len-preserved
 loop-len-preserved c =
-    open_more c.args.bytes.now c.loop-len.block c.loop-len.rest.now c.in-Some-text_byte_at.behind.now c.loop-len.len c.in-Some-text_byte_at.byte c.loop-len.invariant
+    open_more c.args.bytes.now c.loop-len.block c.loop-len.rest.now c.in-Some-text_byte_at.after.now c.loop-len.len c.in-Some-text_byte_at.byte c.loop-len.invariant
     c.loop-len-test.true c.in-Some-text_byte_at.ensures.found c.in-Some-text_byte_at.ensures.valid
 
 pub returns-in_default-read_byte-2-clause-none : goal.returns-in_default-read_byte-2-clause-none

@@ -9,7 +9,7 @@ pub loop-first-init : goal.loop-first-init
 loop-first-init c = record { kept = ([], sym (append-nil c.args.buffer.now.items)); written = refl }
 
 pub split_at-requires : goal.split_at-requires
-split_at-requires c = rw c.plain_len.ensures (prefix_len-le-length is_plain c.in-Some.behind.now)
+split_at-requires c = rw c.plain_len.ensures (prefix_len-le-length is_plain c.in-Some.after.now)
 
 pub returns-in-Err-clause-unchanged : goal.returns-in-Err-clause-unchanged
 returns-in-Err-clause-unchanged c =
@@ -19,12 +19,12 @@ returns-in-Err-clause-unchanged c =
 
 pub loop-first-preserved : goal.loop-first-preserved
 loop-first-preserved c =
-    let front = c.split_at.ensures.front ∙ ap (λ n. take n c.in-Some.behind.now) c.plain_len.ensures in
-    let back = c.split_at.ensures.back ∙ ap (λ n. drop n c.in-Some.behind.now) c.plain_len.ensures in
+    let front = c.split_at.ensures.front ∙ ap (λ n. take n c.in-Some.after.now) c.plain_len.ensures in
+    let back = c.split_at.ensures.back ∙ ap (λ n. drop n c.in-Some.after.now) c.plain_len.ensures in
     let plain = c.split_at.result.0.now in
     let more = c.split_at.result.1.now in
     let first = c.in-Some.first.now in
-    let one = run_written c.loop-first.rest.now first c.in-Some.behind.now plain more c.in-Some.ensures.cases.0 front back in
+    let one = run_written c.loop-first.rest.now first c.in-Some.after.now plain more c.in-Some.ensures.cases.0 front back in
     let from = c.spelled_from.result in
     let spelled : take (2 - from) (drop from (92 ∷ first ∷ [])) ≡ escaped_byte first = take_all (2 - from) (drop from (92 ∷ first ∷ [])) (omega (arith, length-drop from (92 ∷ first ∷ []))) ∙ c.spelled_from.ensures.spelled in
     let is : c.append_all.new.buffer.items ≡ c.loop-first.buffer.items ++ (escaped_byte first ++ plain) = c.in-Ok.ensures.written ∙

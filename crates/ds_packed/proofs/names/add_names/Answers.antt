@@ -1,5 +1,5 @@
 use Rattle.std.proofs.Common.{rules, length, ap}
-use Rattle.ds_packed.proofs.NamesLemmas.{inside, behind}
+use Rattle.ds_packed.proofs.NamesLemmas.{inside, past}
 use Rattle.ds_packed.proofs.names.add_names.Goals as goal
 
 pub returns-then-starts_with-clause-added : goal.returns-then-starts_with-clause-added
@@ -8,4 +8,4 @@ returns-then-starts_with-clause-added c =
 
 pub returns-clause-added : goal.returns-clause-added
 returns-clause-added c =
-    behind c.args.change.now c.args.names.now.items c.extend_from_slice-2.new.self.items (length c.bytes-name.result.now) (length c.bytes-owner.result.now) (ap length (search rules)) (ap length (search rules)) (search rules)
+    past c.args.change.now c.args.names.now.items c.extend_from_slice-2.new.self.items (length c.bytes-name.result.now) (length c.bytes-owner.result.now) (ap length (search rules)) (ap length (search rules)) (search rules)

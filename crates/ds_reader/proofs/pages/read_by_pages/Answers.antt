@@ -45,10 +45,10 @@ loop-question-preserved g c = (
       in
       let on = paged_on c.laws.ensures (g.A.Asks.stands q.asked) s reading q.items q.after q.from q._question k a.0 there.1 given is next
       a.2 c.if-given.false in
-      subst (λ (l : List Item). Paging next s reading l c.go_behind.new.key (Some c.unwrap_or-first.result) (q._question + 1))
+      subst (λ (l : List Item). Paging next s reading l c.go_past.new.key (Some c.unwrap_or-first.result) (q._question + 1))
       (sym c.in_ok-append_copies.ensures.added)
       (subst (λ (x : Option Key). Paging next s reading (q.items ++ given.items) x (Some c.unwrap_or-first.result) (q._question + 1))
-      (sym c.go_behind.ensures)
+      (sym c.go_past.ensures)
       (subst (λ (x : Cursor). Paging next s reading (q.items ++ given.items) (last_key q.after given.items) (Some x) (q._question + 1))
       (sym c.unwrap_or-first.ensures) on))),
 )

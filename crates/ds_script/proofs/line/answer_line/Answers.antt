@@ -2,29 +2,29 @@ use Rattle.std.proofs.Common.{◌≡◌, Ok, Err, sym, ◌∙◌, arith}
 use Rattle.std.proofs.lemmas.Bool.{false≢true}
 use Rattle.std.proofs.lemmas.Result.{IfErr-weaker}
 use Rattle.script_answers.proofs.ResultLemmas.{on_ok}
-use Rattle.ds_script.proofs.LineLemmas.{line_behind, offer_line, answered_behind, unread_behind, unread_fault, keeps}
+use Rattle.ds_script.proofs.LineLemmas.{line_after, offer_line, answered_after, unread_after, unread_fault, keeps}
 use Rattle.ds_script.proofs.line.answer_line.Goals as goal
 
 pub returns-in-Ok-answer_command-clause-ok : goal.returns-in-Ok-answer_command-clause-ok
 returns-in-Ok-answer_command-clause-ok c =
-    let read = line_behind c.args.before c.args.line.now (Ok c.in-Ok.command) c.in-Ok.ensures.first c.in-Ok.ensures.later in
+    let read = line_after c.args.before c.args.line.now (Ok c.in-Ok.command) c.in-Ok.ensures.first c.in-Ok.ensures.later in
     let a = (c.in-Ok-answer_command.ensures).answered in (
       a.0,
       a.1,
-      answered_behind c.args.before c.args.line.now a.0 c.in-Ok.command c.args.session.now c.answer_command.new.session (omega (arith, c.if-line.false)) read a.2,
+      answered_after c.args.before c.args.line.now a.0 c.in-Ok.command c.args.session.now c.answer_command.new.session (omega (arith, c.if-line.false)) read a.2,
     )
 
 pub returns-in-Err-clause-ok : goal.returns-in-Err-clause-ok
 returns-in-Err-clause-ok c =
     let line = c.args.line.now in
-    let read = line_behind c.args.before line (Err c.in-Err.fault) c.in-Err.ensures.first c.in-Err.ensures.later in
-    on_ok c.answer_unread.result (unread_behind c.args.before line c.args.output.now.items c.answer_unread.new.output.items c.in-Err.fault c.args.session.now (omega (arith, c.if-line.false)) read)
+    let read = line_after c.args.before line (Err c.in-Err.fault) c.in-Err.ensures.first c.in-Err.ensures.later in
+    on_ok c.answer_unread.result (unread_after c.args.before line c.args.output.now.items c.answer_unread.new.output.items c.in-Err.fault c.args.session.now (omega (arith, c.if-line.false)) read)
     c.answer_unread.ensures.answered
 
 pub returns-in-Err-clause-fault : goal.returns-in-Err-clause-fault
 returns-in-Err-clause-fault c =
     let line = c.args.line.now in
-    let read = line_behind c.args.before line (Err c.in-Err.fault) c.in-Err.ensures.first c.in-Err.ensures.later in
+    let read = line_after c.args.before line (Err c.in-Err.fault) c.in-Err.ensures.first c.in-Err.ensures.later in
     IfErr-weaker c.answer_unread.result (λ told. told ≡ c.in-Err.fault) _ (λ told same. unread_fault c.args.before c.in-Err.fault told line (omega (arith, c.if-line.false)) read same) c.answer_unread.ensures.told
 
 pub returns-in-Err-clause-kept : goal.returns-in-Err-clause-kept
@@ -50,5 +50,5 @@ returns-then-is_retrieve-clause-fault c = IfErr-weaker c.fast_retrieve.result _ 
 
 pub answer_command-requires-clause-other : goal.answer_command-requires-clause-other
 answer_command-requires-clause-other c =
-    offer_line c.args.before c.args.line.now c.in-Ok.command (line_behind c.args.before c.args.line.now (Ok c.in-Ok.command) c.in-Ok.ensures.first c.in-Ok.ensures.later)
+    offer_line c.args.before c.args.line.now c.in-Ok.command (line_after c.args.before c.args.line.now (Ok c.in-Ok.command) c.in-Ok.ensures.first c.in-Ok.ensures.later)
     (λ offer. false≢true (sym c.if-is_offer.false ∙ c.is_offer.ensures.1 offer))

@@ -15,8 +15,8 @@ loop-turn-preserved g c =
     let b = g.W.Sink.contents c.loop-turn.writer in
     let d = g.W.Sink.contents c.write_once.new.writer in (
       i.0 ++ take count rest,
-      i.1 ∙ ap (λ l. i.0 ++ l) (sym (take-append-drop count rest) ∙ ap (λ l. take count rest ++ l) (sym c.behind-rest.ensures))
-          ∙ sym (append_assoc i.0 (take count rest) c.behind-rest.result.now),
+      i.1 ∙ ap (λ l. i.0 ++ l) (sym (take-append-drop count rest) ∙ ap (λ l. take count rest ++ l) (sym c.past-rest.ensures))
+          ∙ sym (append_assoc i.0 (take count rest) c.past-rest.result.now),
       Appends-trans a b d i.0 (take count rest) i.2 (c.in-Ok.ensures).ok.1,
       leads_more g.W.Sink.writes c.loop-turn._turn c.args.writer.now c.loop-turn.writer c.write_once.new.writer i.3 (c.in-Ok.ensures).led,
     )

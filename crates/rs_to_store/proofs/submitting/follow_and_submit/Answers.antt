@@ -5,7 +5,7 @@ use Rattle.driver_tables.specs.Room.{RequestTakesMemory}
 use Rattle.driver_tables.specs.Run.{one_move}
 use Rattle.driver_tables.proofs.CallLemmas.{submit_step}
 use Rattle.rs_to_store.specs.Following.{HasFollowed}
-use Rattle.rs_to_store.proofs.SubmitLemmas.{ended_before, taken_behind, one_lacks}
+use Rattle.rs_to_store.proofs.SubmitLemmas.{ended_before, taken_after, one_lacks}
 use Rattle.rs_to_store.proofs.submitting.follow_and_submit.Goals as goal
 
 pub returns-in-Some : goal.returns-in-Some
@@ -24,7 +24,7 @@ returns-in-None g c =
     let new = g.T.Drivers.kept c.submit.new.self in
     let before = c.args.rounds.now.items in
     let after = c.follow.new.rounds.items in
-    taken_behind held c.args.id c.args.unit old mid new before after (one_move c.submit.result)
+    taken_after held c.args.id c.args.unit old mid new before after (one_move c.submit.result)
     (subst (λ (o : Option TableFault). HasFollowed held old mid before after o) c.in-None.is c.follow.ensures)
     (λ t stands. submit_step mid new t stands c.args.id c.args.unit c.submit.result c.submit.ensures.answer c.submit.ensures.after c.submit.ensures.unchanged)
     (λ t stands. one_lacks (RequestTakesMemory t c.args.id c.args.unit) c.submit.result (c.submit.ensures.room t stands))

@@ -4,8 +4,8 @@ use Rattle.script_commands.proofs.FrontLemmas.{begins}
 use Rattle.script_commands.proofs.OfferLineLemmas.{offer_line, offer_later}
 use Rattle.script_commands.proofs.fast.fast_offer.Goals as goal
 
-pub fault_behind_word-requires-clause-stop : goal.fault_behind_word-requires-clause-stop
-fault_behind_word-requires-clause-stop c =
+pub fault_after_word-requires-clause-stop : goal.fault_after_word-requires-clause-stop
+fault_after_word-requires-clause-stop c =
     let front = begins words.Offer c.args.line.now c.split_at.result.1.now c.requires.offer c.split_at.ensures.back in
     (words.Offer, c.split_at.result.1.now, front, c.in-Err.ensures)
 
@@ -23,5 +23,5 @@ returns-in-Ok-clause-later c =
 pub returns-in-Err-clause-later : goal.returns-in-Err-clause-later
 returns-in-Err-clause-later c =
     let front = begins words.Offer c.args.line.now c.split_at.result.1.now c.requires.offer c.split_at.ensures.back in
-    offer_later c.args.line.now c.split_at.result.1.now (Err c.fault_behind_word.result) c.item_at.new.slot front
-    c.fault_behind_word.ensures
+    offer_later c.args.line.now c.split_at.result.1.now (Err c.fault_after_word.result) c.item_at.new.slot front
+    c.fault_after_word.ensures

@@ -4,8 +4,8 @@ use Rattle.script_commands.specs.declared.word.Word.TheVariants as words
 use Rattle.script_commands.proofs.FrontLemmas.{begins, front_later, reads_front}
 use Rattle.script_commands.proofs.fast.fast_publish.Goals as goal
 
-pub fault_behind_word-requires-clause-stop : goal.fault_behind_word-requires-clause-stop
-fault_behind_word-requires-clause-stop c =
+pub fault_after_word-requires-clause-stop : goal.fault_after_word-requires-clause-stop
+fault_after_word-requires-clause-stop c =
     let front = begins words.Publish c.args.line.now c.split_at.result.1.now c.requires.publish c.split_at.ensures.back in
     (words.Publish, c.split_at.result.1.now, front, c.in-Err.ensures)
 
@@ -23,5 +23,5 @@ returns-in-Ok-clause-later c =
 pub returns-in-Err-clause-later : goal.returns-in-Err-clause-later
 returns-in-Err-clause-later c =
     let front = begins words.Publish c.args.line.now c.split_at.result.1.now c.requires.publish c.split_at.ensures.back in
-    front_later words.Publish c.args.line.now c.split_at.result.1.now (Err c.fault_behind_word.result) (λ same. absurd (cc)) front
-    c.fault_behind_word.ensures
+    front_later words.Publish c.args.line.now c.split_at.result.1.now (Err c.fault_after_word.result) (λ same. absurd (cc)) front
+    c.fault_after_word.ensures

@@ -6,7 +6,7 @@ use Rattle.script_commands.proofs.QueryLemmas.{left_more, left_last, unescaped_i
 use Rattle.script_commands.proofs.query.unescape.Goals as goal
 
 pub loop-byte-preserved : goal.loop-byte-preserved
-loop-byte-preserved c = rw c.in_ok-push.ensures.items (left_more c.args.written.now c.loop-byte.text.items c.loop-byte.rest.now c.in-Some.behind.now c.in-Some.byte c.loop-byte.invariant c.in-Some.ensures.found)
+loop-byte-preserved c = rw c.in_ok-push.ensures.items (left_more c.args.written.now c.loop-byte.text.items c.loop-byte.rest.now c.in-Some.after.now c.in-Some.byte c.loop-byte.invariant c.in-Some.ensures.found)
 
 pub returns : goal.returns
 returns c =

@@ -5,8 +5,8 @@ use Rattle.script_commands.proofs.reading.read_line.Goals as goal
 pub returns-in_default : goal.returns-in_default
 returns-in_default c = unknown_word c.args.line.now c.in_default.ensures.none
 
-pub fault_behind_word-requires-clause-stop : goal.fault_behind_word-requires-clause-stop
-fault_behind_word-requires-clause-stop c = (c.in-Some.word, c.in-Some.bytes.now, c.in-Some.ensures.found, c.in-Err.ensures)
+pub fault_after_word-requires-clause-stop : goal.fault_after_word-requires-clause-stop
+fault_after_word-requires-clause-stop c = (c.in-Some.word, c.in-Some.bytes.now, c.in-Some.ensures.found, c.in-Err.ensures)
 
 pub returns : goal.returns
 returns c =

@@ -4,7 +4,7 @@ use Rattle.trace_walk.specs.declared.verdict.Verdict.TheVariants.{Legal}
 use Rattle.trace_walk.specs.Verdict.{IsVerdict}
 use Rattle.trace_walk.specs.declared.passed.Passed.{Passed}
 use Rattle.trace_walk.specs.Steps.{EndsThere, GoesPast}
-use Rattle.trace_walk.specs.Walking.{Spot, Walks, spot_behind}
+use Rattle.trace_walk.specs.Walking.{Spot, Walks, spot_after}
 use Rattle.trace_walk.proofs.BeginLemmas.{legal_at_end, said_for}
 use Rattle.trace_walk.proofs.FaultLemmas.{some_at}
 use Rattle.trace_walk.proofs.ReadLemmas.{on_and_on, stays}
@@ -32,7 +32,7 @@ loop-length-preserved g c =
       walks = λ b w none.
           let k = l.invariant.walks b w none in
           let p = some_at c.in-Ok-Some.field-0 _ (GoesPast old from new to) c.in-Ok-Some.field-0-is c.in-Ok-Some.ensures.goes k.0 k.3 in
-          let next : Spot = spot_behind k.0 old.header.limits p.entry p.state in
+          let next : Spot = spot_after k.0 old.header.limits p.entry p.state in
           (next, k.1, omega (arith, k.2), subst (λ (h : Header). Walks next new.entry.lines new.store h to) (sym p.header) p.walks);
       reads = on_and_on g.R.Source c.args.walk.now.entry.lines old.entry.lines new.entry.lines c.args.reader.now l.reader c.next.new.reader l.invariant.reads c.in-Ok-Some.ensures.reads;
       counted = omega (arith, l.invariant.counted, more.1);

@@ -1,7 +1,7 @@
 use Rattle.std.proofs.Common.{arith}
 use Rattle.trace_walk.specs.declared.header.Format.TheVariants.{One}
 use Rattle.trace_walk.proofs.NumberLemmas.{some_left}
-use Rattle.trace_walk.proofs.HeaderLemmas.{no_first, no_ring, empty_ring, more_behind}
+use Rattle.trace_walk.proofs.HeaderLemmas.{no_first, no_ring, empty_ring, more_after}
 use Rattle.trace_walk.proofs.header.first_header.Goals as goal
 
 pub returns-in_err-first-clause-none : goal.returns-in_err-first-clause-none
@@ -26,7 +26,7 @@ returns-then-ring-eq0-clause-none c =
 pub returns-then-not-is_empty-clause-none : goal.returns-then-not-is_empty-clause-none
 returns-then-not-is_empty-clause-none c =
     let some = some_left c.in_ok-ring.rest.now c.if-not-is_empty.ensures in
-    more_behind c.args.bytes.now c.in_ok-incarnation.rest.now c.in_ok-first.rest.now c.in_ok-ring.rest.now c.in_ok-incarnation.incarnation
+    more_after c.args.bytes.now c.in_ok-incarnation.rest.now c.in_ok-first.rest.now c.in_ok-ring.rest.now c.in_ok-incarnation.incarnation
     c.in_ok-first.first c.in_ok-ring.ring (omega (arith, c.in_ok-incarnation.ensures.limit))
     (omega (arith, c.in_ok-first.ensures.limit)) (omega (arith, c.in_ok-ring.ensures.limit)) some c.in_ok-incarnation.ensures.found
     c.in_ok-first.ensures.found c.in_ok-ring.ensures.found

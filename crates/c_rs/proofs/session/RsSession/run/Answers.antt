@@ -1,6 +1,6 @@
 use Rattle.std.proofs.Common.{◌<◌, length, take, inr, ◌∙◌, arith}
 use Rattle.std.proofs.lemmas.List.{length-set, take_more_set}
-use Rattle.c_rs.proofs.RunningLemmas.{calls_next, silent_next, behind_next}
+use Rattle.c_rs.proofs.RunningLemmas.{calls_next, silent_next, after_next}
 use Rattle.c_rs.proofs.session.RsSession.run.Goals as goal
 use Rattle.c_rs.proofs.session.RsSession.run.Goals.{then-requests-answers, else-requests-answers}
 
@@ -20,7 +20,7 @@ returns-then-answer-gt0 c =
     record {
       within = (omega (arith, asks), omega (arith, places));
       calls = calls_next c.args.texts.now rs k.answers c.args.self.now k.self c.call.new.self k.index _ a asks here k.invariant.calls c.call.ensures;
-      behind = behind_next k.answers place k.index a k.invariant.behind;
+      past = after_next k.answers place k.index a k.invariant.past;
       ended = inr (take k.index k.answers, a, take_more_set k.answers k.index a here, k.invariant.silent, omega (arith, c.if-answer-gt0.true));
     }
 
@@ -40,6 +40,6 @@ loop-index-preserved c =
     record {
       calls = calls_next c.args.texts.now rs k.answers c.args.self.now k.self c.call.new.self k.index _ a asks here k.invariant.calls c.call.ensures;
       silent = silent_next k.answers k.index a here k.invariant.silent (omega (arith, c.if-answer-gt0.false));
-      behind = behind_next k.answers place k.index a k.invariant.behind;
+      past = after_next k.answers place k.index a k.invariant.past;
       many = length-set k.answers k.index a ∙ k.invariant.many;
     }

@@ -22,8 +22,8 @@ none_told false None e = absurd (cc)
 none_told true (Some key) e = absurd (cc)
 none_told false (Some key) e = refl
 
-behind : (after : Option Key) (cs : List ChangeRecord) (o : Option Key) (xs : List ChangeRecord) → o ≡ after → xs ≡ filter (comes_after o) cs → xs ≡ filter (comes_after after) cs
-behind after cs o xs same is = is ∙ ap (λ (k : Option Key). filter (comes_after k) cs) same
+past : (after : Option Key) (cs : List ChangeRecord) (o : Option Key) (xs : List ChangeRecord) → o ≡ after → xs ≡ filter (comes_after o) cs → xs ≡ filter (comes_after after) cs
+past after cs o xs same is = is ∙ ap (λ (k : Option Key). filter (comes_after k) cs) same
 
 pub returns-clause-given : goal.returns-clause-given
 returns-clause-given g c =
@@ -32,11 +32,11 @@ returns-clause-given g c =
     page_is keep h c.args.after c.args.max c.cursor.result c.add_changes.new.items c.in_ok-last.last
     (c.in_ok-last.ensures.added
     ∙ ap (λ (l : List ChangeRecord). c.in_ok-items.items ++ map change_item (take c.args.max (admitted keep l)))
-    (behind c.args.after (held_changes h) _ (drop c.begin_after-first.result (held_changes h)) c.as_ref.ensures.value c.begin_after-first.ensures.begin)
+    (past c.args.after (held_changes h) _ (drop c.begin_after-first.result (held_changes h)) c.as_ref.ensures.value c.begin_after-first.ensures.begin)
     ∙ ap (λ (l : List Item). l ++ map change_item (take c.args.max (to_come keep c.args.after (held_changes h))))
     (c.in_ok-items.ensures ∙ ap (λ (b : Bool). cond b (map floored (held_floors h)) []) (none_told c.is_none.result c.args.after c.is_none.ensures)))
     (c.in_ok-last.ensures.last ∙ ap (λ (l : List ChangeRecord). nat_le (length (admitted keep l)) c.args.max)
-    (behind c.args.after (held_changes h) _ (drop c.begin_after-first.result (held_changes h)) c.as_ref.ensures.value c.begin_after-first.ensures.begin))
+    (past c.args.after (held_changes h) _ (drop c.begin_after-first.result (held_changes h)) c.as_ref.ensures.value c.begin_after-first.ensures.begin))
     ∙ ap (λ (x : Holding). page_of (passes keep) c.args.after c.args.max (held_items x) c.cursor.result) c.held-held.ensures.value
     ∙ ap (λ (k : Cursor). page_of (passes keep) c.args.after c.args.max (held_items c.self.inside.held.held) k) c.cursor.ensures.value
     ∙ ap (λ (v : ContentRecord). page_of (passes keep) c.args.after c.args.max v.held (cursor_of v.journal)) c.self.view_is
@@ -48,11 +48,11 @@ returns-clause-stands g c = λ s stands.
     page_is keep h c.args.after c.args.max c.cursor.result c.add_changes.new.items c.in_ok-last.last
     (c.in_ok-last.ensures.added
     ∙ ap (λ (l : List ChangeRecord). c.in_ok-items.items ++ map change_item (take c.args.max (admitted keep l)))
-    (behind c.args.after (held_changes h) _ (drop c.begin_after-first.result (held_changes h)) c.as_ref.ensures.value c.begin_after-first.ensures.begin)
+    (past c.args.after (held_changes h) _ (drop c.begin_after-first.result (held_changes h)) c.as_ref.ensures.value c.begin_after-first.ensures.begin)
     ∙ ap (λ (l : List Item). l ++ map change_item (take c.args.max (to_come keep c.args.after (held_changes h))))
     (c.in_ok-items.ensures ∙ ap (λ (b : Bool). cond b (map floored (held_floors h)) []) (none_told c.is_none.result c.args.after c.is_none.ensures)))
     (c.in_ok-last.ensures.last ∙ ap (λ (l : List ChangeRecord). nat_le (length (admitted keep l)) c.args.max)
-    (behind c.args.after (held_changes h) _ (drop c.begin_after-first.result (held_changes h)) c.as_ref.ensures.value c.begin_after-first.ensures.begin))
+    (past c.args.after (held_changes h) _ (drop c.begin_after-first.result (held_changes h)) c.as_ref.ensures.value c.begin_after-first.ensures.begin))
     ∙ ap (λ (x : Holding). page_of (passes keep) c.args.after c.args.max (held_items x) c.cursor.result) c.held-held.ensures.value
     ∙ ap (λ (k : Cursor). page_of (passes keep) c.args.after c.args.max (held_items c.self.inside.held.held) k) c.cursor.ensures.value
     ∙ ap (λ (v : ContentRecord). page_of (passes keep) c.args.after c.args.max v.held (cursor_of v.journal)) c.self.view_is

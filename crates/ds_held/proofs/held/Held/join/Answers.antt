@@ -4,7 +4,7 @@ use Rattle.ds_held.specs.Held.{held_items, change_item}
 use Rattle.ds_held.specs.Join.{AreMerged, IsJoinStopped}
 use Rattle.ds_held.specs.Kept.{floored}
 use Rattle.ds_held.proofs.KeptLemmas.{items_are}
-use Rattle.ds_held.proofs.JoinLemmas.{join_if_ok, join_if_stopped, sound_behind}
+use Rattle.ds_held.proofs.JoinLemmas.{join_if_ok, join_if_stopped, sound_then}
 use Rattle.ds_held.proofs.held.Held.join.Goals as goal
 
 pub returns-clause-each : goal.returns-clause-each
@@ -38,4 +38,4 @@ returns-clause-kept c =
     (subst (λ l. IfErr c.join_into.result (IsJoinStopped c.args.self.now l c.join_into.new.held)) items c.join_into.ensures.stopped)
 
 pub returns-clause-sound : goal.returns-clause-sound
-returns-clause-sound c = sound_behind c.join_into.result c.args.self.now _ c.join_into.new.held c.len-count.ensures.sound c.join_into.ensures.merged c.join_into.ensures.stopped
+returns-clause-sound c = sound_then c.join_into.result c.args.self.now _ c.join_into.new.held c.len-count.ensures.sound c.join_into.ensures.merged c.join_into.ensures.stopped

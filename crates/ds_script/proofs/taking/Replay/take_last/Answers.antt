@@ -3,7 +3,7 @@ use Rattle.std.proofs.lemmas.Result.{err_from_is_err_and}
 use Rattle.line_io.specs.Lines.{unended}
 use Rattle.ds_script.specs.Progress.{Reached}
 use Rattle.ds_script.specs.Taking.{reached}
-use Rattle.ds_script.proofs.ProgressLemmas.{takes_written, takes_behind}
+use Rattle.ds_script.proofs.ProgressLemmas.{takes_written, takes_after}
 use Rattle.ds_script.proofs.RunLemmas.{last_unsent}
 use Rattle.ds_script.proofs.taking.Replay.take_last.Goals as goal
 
@@ -34,4 +34,4 @@ returns-clause-takes g c =
     let a = g.W.Sink.contents c.args.self.now.writer.now in
     let b = g.W.Sink.contents c.take_unended.new.self.writer.now in
     let d = g.W.Sink.contents c.send.new.writer in
-    (takes_behind a b d (reached c.args.self.now) mid new (unended c.args.lines.now.rest) (c.in_ok-take_unended.ensures).takes (takes_written b d mid c.send.new.output.items s.0 s.1), s.1)
+    (takes_after a b d (reached c.args.self.now) mid new (unended c.args.lines.now.rest) (c.in_ok-take_unended.ensures).takes (takes_written b d mid c.send.new.output.items s.0 s.1), s.1)

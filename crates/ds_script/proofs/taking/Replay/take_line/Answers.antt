@@ -2,7 +2,7 @@ use Rattle.std.proofs.Common.{◌≡◌, ◌++◌, ◌∙◌, ◌+◌, ◌∷◌
 use Rattle.std.proofs.lemmas.Result.{err_from_is_err_and}
 use Rattle.ds_script.specs.Progress.{Reached, TakesLines}
 use Rattle.ds_script.specs.Taking.{reached}
-use Rattle.ds_script.proofs.ProgressLemmas.{waits, takes_kept, takes_sent, takes_line, takes_then, line_behind, where_both}
+use Rattle.ds_script.proofs.ProgressLemmas.{waits, takes_kept, takes_sent, takes_line, takes_then, line_after, where_both}
 use Rattle.ds_script.proofs.taking.Replay.take_line.Goals as goal
 
 pub returns-in_err-send_full-clause-takes : goal.returns-in_err-send_full-clause-takes
@@ -43,7 +43,7 @@ returns-in-Err-BadLine-clause-takes g c =
     (λ fault stops. (
       stops.0,
       λ text is.
-          line_behind fault had has last old mid text c.take_bad.new.self.output.items kept (stops.1 text (rw c.in-Err-BadLine.field-0-is at (e.fault text is))),
+          line_after fault had has last old mid text c.take_bad.new.self.output.items kept (stops.1 text (rw c.in-Err-BadLine.field-0-is at (e.fault text is))),
     ))
     c.take_bad.ensures.takes
 

@@ -3,7 +3,7 @@ use Rattle.std.proofs.lemmas.Result.{err_from_is_err_and}
 use Rattle.ds_script.specs.Progress.{Reached, TakesLines}
 use Rattle.ds_script.specs.Taking.{reached, written}
 use Rattle.ds_script.proofs.ProgressLemmas.{waits, takes_written, where_both}
-use Rattle.ds_script.proofs.RunLemmas.{turn_unsent, turns_behind, turn_stops_behind}
+use Rattle.ds_script.proofs.RunLemmas.{turn_unsent, turns_after, turn_stops_after}
 use Rattle.ds_script.proofs.taking.Replay.take_turn.Goals as goal
 
 pub returns-in_err-send-clause-turns : goal.returns-in_err-send-clause-turns
@@ -29,6 +29,6 @@ returns-clause-turns g c =
     let pending = c.args.lines.now.rest in
     let sent : TakesLines a b old [] mid = takes_written a b old c.send.new.output.items s.0 s.1 in
     where_both c.take_read.result
-    (λ more t. (t.0, turns_behind more from to a b d old mid new pending c.take_read.new.lines.rest sent t.1))
-    (λ fault t. (t.0, turn_stops_behind fault from to a b d old mid pending c.take_read.new.self.output.items sent t.1))
+    (λ more t. (t.0, turns_after more from to a b d old mid new pending c.take_read.new.lines.rest sent t.1))
+    (λ fault t. (t.0, turn_stops_after fault from to a b d old mid pending c.take_read.new.self.output.items sent t.1))
     c.take_read.ensures.turns

@@ -2,7 +2,7 @@ use Rattle.std.proofs.Common.{◌≡◌, sym, ◌∙◌}
 use Rattle.std.proofs.lemmas.Bool.{false≢true}
 use Rattle.script_commands.specs.Page.{no_key}
 use Rattle.script_commands.specs.Reads.{ReadsOr}
-use Rattle.script_commands.proofs.RangeLemmas.{NoKind, range_name_stops, range_follow_stops, follow_max_stops, follow_kind_stops, follow_behind_stops, key_found}
+use Rattle.script_commands.proofs.RangeLemmas.{NoKind, range_name_stops, range_follow_stops, follow_max_stops, follow_kind_stops, follow_after_stops, key_found}
 use Rattle.script_commands.proofs.ReadsLemmas.{exits, finds}
 use Rattle.script_commands.proofs.pieces.Rest.range.Goals.{else-is_dash-via-then-is_dash+else-not-is_before_kind, else-is_dash-via-else-is_dash}
 use Rattle.script_commands.proofs.pieces.Rest.range.Goals as goal
@@ -38,7 +38,7 @@ unfolding ReadsOr
 returns-in_err-max-2 c =
     exits _ _ _ _ c.from_residual-in_err-max-2.ensures.1 c.in_err-max-2.ensures.room
     (range_follow_stops c.in_ok-name.name c.in_err-max-2.field-0.0 c.args.self.now.bytes.now c.name.new.self.bytes.now c.in_ok-name.ensures.found
-    (follow_behind_stops c.in_ok-name.name c.in_ok-kind.kind c.in_err-max-2.field-0.0 c.name.new.self.bytes.now _ c.in_ok-kind.ensures.found c.in_err-max-2.ensures.room
+    (follow_after_stops c.in_ok-name.name c.in_ok-kind.kind c.in_err-max-2.field-0.0 c.name.new.self.bytes.now _ c.in_ok-kind.ensures.found c.in_err-max-2.ensures.room
     c.in_err-max-2.ensures.stop))
 
 pub returns : goal.returns

@@ -1,4 +1,4 @@
-use Rattle.script_commands.proofs.PieceLemmas.{no_first_space, no_mark, no_second_space, behind_mark, value_stops, value_wants, no_want}
+use Rattle.script_commands.proofs.PieceLemmas.{no_first_space, no_mark, no_second_space, after_mark, value_stops, value_wants, no_want}
 use Rattle.script_commands.proofs.ReadsLemmas.{exits, misses}
 use Rattle.script_commands.proofs.pieces.Rest.value.Goals as goal
 
@@ -20,4 +20,4 @@ returns-in_err-byte-3 c =
 pub returns-in-Err : goal.returns-in-Err
 returns-in-Err c =
     misses _ _ _ (value_wants c.args.kind c.in-Err.stop c.args.self.now.bytes.now _ _ _ c.in_ok-byte.ensures.found c.in_ok-byte-2.ensures.found c.in_ok-byte-3.ensures.found c.in-Err.ensures.stop)
-    (behind_mark c.args.kind c.in-Err.stop c.args.self.now.bytes.now _ _ _ c.in_ok-byte.ensures.found c.in_ok-byte-2.ensures.found c.in_ok-byte-3.ensures.found (value_stops c.args.kind c.in-Err.stop _ c.in-Err.ensures.stop))
+    (after_mark c.args.kind c.in-Err.stop c.args.self.now.bytes.now _ _ _ c.in_ok-byte.ensures.found c.in_ok-byte-2.ensures.found c.in_ok-byte-3.ensures.found (value_stops c.args.kind c.in-Err.stop _ c.in-Err.ensures.stop))

@@ -1,7 +1,7 @@
 use Rattle.std.proofs.Common.{◌≡◌, List, [], ℕ, refl, sym, subst, ◌∙◌}
 use Rattle.line_io.specs.Lines.{with_newline}
 use Rattle.trace_walk.specs.Text.{HasNoHeader, header_text}
-use Rattle.trace_walk.proofs.WalkLemmas.{header_behind}
+use Rattle.trace_walk.proofs.WalkLemmas.{header_after}
 use Rattle.trace_walk.specs.Reads.{BeginsReading}
 use Rattle.trace_walk.specs.Walking.{IsAt, of_entry}
 use Rattle.trace_walk.proofs.BeginLemmas.{first_fails, input_empty, line_wrong, at_start, by_known}
@@ -38,7 +38,7 @@ returns-clause-begins g c =
     record {
       at = subst (λ (f : List ℕ). IsAt bytes f c.next_line.new.lines (g.R.Source.remaining c.next_line.new.reader)) (sym text) l.2.then;
       stands = c.in-Ok.ensures.opened;
-      behind = header_behind h c.in-Some.ensures.found.0;
+      past = header_after h c.in-Some.ensures.found.0;
     })
 
 -- ---- the line that must be there

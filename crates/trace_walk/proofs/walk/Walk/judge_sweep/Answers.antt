@@ -28,7 +28,7 @@ returns-clause-goes g c =
     let from = g.R.Source.remaining c.args.reader.now in
     let swept = c.args.swept in
     let reply = c.in_ok-reply.reply in
-    let traced = subst (λ (f : Format). IsTraced f b.state) c.requires.format x.behind.traced in
+    let traced = subst (λ (f : Format). IsTraced f b.state) c.requires.format x.past.traced in
     let r = c.in_ok-reply.ensures.0 b.state x.stands traced in
     let step = sweep_step old.header.format b.state swept.caller swept.owner swept.generation reply c.requires.format r.0 in
     let last = (older_sweep b.state swept.caller swept.owner swept.generation).1 in
@@ -45,7 +45,7 @@ returns-clause-fails g c =
     let from = g.R.Source.remaining c.args.reader.now in
     let swept = c.args.swept in
     let reply = c.in_ok-reply.reply in
-    let traced = subst (λ (f : Format). IsTraced f b.state) c.requires.format x.behind.traced in
+    let traced = subst (λ (f : Format). IsTraced f b.state) c.requires.format x.past.traced in
     let r = c.in_ok-reply.ensures.0 b.state x.stands traced in
     answered_fails b old.entry.lines old.store old.header from c.args.pass (swept_line swept) old.entry.text.items x
     (Sweep swept.caller swept.owner swept.generation) refl reply (older_sweep b.state swept.caller swept.owner swept.generation).1

@@ -1,5 +1,5 @@
 use Rattle.std.proofs.Common.{refl}
-use Rattle.trace_walk.proofs.stopping.stopped_behind.Goals as goal
+use Rattle.trace_walk.proofs.stopping.stopped_after.Goals as goal
 
 pub returns-in-Merged-clause-stops : goal.returns-in-Merged-clause-stops
 returns-in-Merged-clause-stops c = let m = c.in-Merged in (m.done, m.taken, m.stale, m.owed, m.is, refl)

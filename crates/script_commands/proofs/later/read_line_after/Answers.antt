@@ -1,8 +1,8 @@
 use Rattle.std.proofs.Common.{arith, sym, ◌∙◌}
 use Rattle.std.proofs.lemmas.Bool.{false≢true}
 use Rattle.script_commands.proofs.LaterLemmas.{ring_is_bad, reads_later}
-use Rattle.script_commands.proofs.later.read_line_behind.Goals as goal
-use Rattle.script_commands.proofs.later.read_line_behind.Goals.{else-before-gt0-via-then-before-gt0+else-has_ring, else-before-gt0-via-else-before-gt0}
+use Rattle.script_commands.proofs.later.read_line_after.Goals as goal
+use Rattle.script_commands.proofs.later.read_line_after.Goals.{else-before-gt0-via-then-before-gt0+else-has_ring, else-before-gt0-via-else-before-gt0}
 
 pub returns-then-has_ring-clause-later : goal.returns-then-has_ring-clause-later
 returns-then-has_ring-clause-later c = λ later.

@@ -8,7 +8,7 @@ use Rattle.trace_walk.specs.Upgrade.{upgraded}
 use Rattle.trace_walk.specs.Steps.{first_spot}
 use Rattle.trace_walk.proofs.FaultLemmas.{carried}
 use Rattle.trace_check.proofs.UpgradingLemmas.{begins_two, header_upgrades, nothing_yet, stops_in_header}
-use Rattle.trace_check.proofs.upgrading.upgrade_behind_header.Goals as goal
+use Rattle.trace_check.proofs.upgrading.upgrade_after_header.Goals as goal
 
 pub returns-in-Two-clause-stopped : goal.returns-in-Two-clause-stopped
 returns-in-Two-clause-stopped g c bytes walks =
