@@ -57,11 +57,11 @@ LineIsBad bytes old answer new =
     (place : ℕ) × IsBadIn bytes place × SessionDoes (λ s a t. Rests s (told_bad_line place) Nothing a t) old answer new
 
 -- Whether the bytes are the line of a command, and memory for it runs out.
-abbrev pub LineWantsRoom : List ℕ → RsSession → Answer → RsSession → Type 0
-LineWantsRoom bytes old answer new =
+abbrev pub LineTakesMemory : List ℕ → RsSession → Answer → RsSession → Type 0
+LineTakesMemory bytes old answer new =
     ((command : ScriptCommand) × IsCommandIn bytes command × CommandTakesMemory command) × SessionDoes RestsForRoom old answer new
 
 -- Whether the bytes are carried out, or rejected by one of these two.
 abbrev pub CallsRsLine : List ℕ → RsSession → Answer → RsSession → Type 0
 CallsRsLine bytes old answer new =
-    CarriesOutLine bytes old answer new ⊎ (LineIsBad bytes old answer new ⊎ LineWantsRoom bytes old answer new)
+    CarriesOutLine bytes old answer new ⊎ (LineIsBad bytes old answer new ⊎ LineTakesMemory bytes old answer new)

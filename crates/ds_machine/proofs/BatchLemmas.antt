@@ -26,7 +26,7 @@ use Rattle.ds_machine.proofs.SaysLemmas.{owed_tells}
 use Rattle.ds_machine.specs.Batches.{AreFree, FreeInParts, FreeAreAnswered, OwedInParts}
 use Rattle.ds_machine.specs.OneStep.{room_wanted}
 use Rattle.ds_machine.specs.Taken.{all_taken}
-use Rattle.ds_machine.proofs.OneStepLemmas.{steps_one, outcomes_want_none}
+use Rattle.ds_machine.proofs.OneStepLemmas.{steps_one, outcomes_take_none}
 use Rattle.ds_machine.proofs.TakenLemmas.{free_are_taken}
 use Rattle.ds_machine.proofs.ReachedLemmas.{with_accepted}
 
@@ -49,7 +49,7 @@ none_stands n l = ap (λ (b : Bool). cond (not b) (Some refusals.TooMany) None) 
 
 pub free_are_answered : FreeAreAnswered
 free_are_answered s t items done taken stale mask free few step =
-    let none : room_wanted (outcome s (Merge items)).0 ≡ None = outcomes_want_none s (Merge items) in
+    let none : room_wanted (outcome s (Merge items)).0 ≡ None = outcomes_take_none s (Merge items) in
     let one = steps_one s t (outcome s (Merge items)).1 (Merge items) (Merged done taken stale mask) (outcome s (Merge items)).0 step (inl (inl (record { reply_is = refl; state_is = refl }))) (sym none) in
     let all : course s items ≡ all_taken s items = free_are_taken s items free in
     let out : outcome s (Merge items) ≡ (Merged (length items) (length items) 0 (owed s items), takes_effect s items) =

@@ -29,7 +29,7 @@ use Rattle.ds_machine.specs.declared.command.Command.TheVariants.{Publish, Delet
 use Rattle.ds_machine.specs.declared.reply.Reply.{Reply}
 use Rattle.ds_machine.specs.declared.reply.Reply.TheVariants.{Found, Named, Merged, MergeStopped, Refused}
 use Rattle.ds_machine.proofs.PartLemmas.{found}
-use Rattle.ds_machine.specs.OneStep.{is_noroom, room_wanted, OutcomesWantNone, StepsAreOne, OneItemWantsAlike}
+use Rattle.ds_machine.specs.OneStep.{is_noroom, room_wanted, OutcomesTakeNone, StepsAreOne, OneItemWantsAlike}
 
 -- ---- no cause is lack of memory
 
@@ -135,23 +135,23 @@ merge_none s items None none = by_stop (course s items).stop (course_well items 
 
 -- ---- all commands
 
-pub outcomes_want_none : OutcomesWantNone
-outcomes_want_none s (Publish caller key version value overwrite) =
+pub outcomes_take_none : OutcomesTakeNone
+outcomes_take_none s (Publish caller key version value overwrite) =
     let a : AskedChange = published caller key version overwrite in
     none_or s (cause_against s a (Put value)) answer_for _ _ (λ c e. asked_none s c (change_cause a.version (against_asked (standing_of s (asked_in s a (Put value))) (name_of (held s) a.caller) a (Put value)) c e)) refl
-outcomes_want_none s (Delete caller key version) =
+outcomes_take_none s (Delete caller key version) =
     let a : AskedChange = deleted caller key version in
     none_or s (cause_against s a Gone) answer_for _ _ (λ c e. asked_none s c (change_cause a.version (against_asked (standing_of s (asked_in s a Gone)) (name_of (held s) a.caller) a Gone) c e)) refl
-outcomes_want_none s (Sweep caller owner generation) =
+outcomes_take_none s (Sweep caller owner generation) =
     none_or s (sweep_cause s caller (floor_of owner generation)) sweep_answer _ _ (λ c e. swept_none s c (floor_cause (against_sweep (floor_standing_of s (floor_of owner generation)) caller (floor_of owner generation)) c e)) refl
-outcomes_want_none s (Retrieve key) = found_none s (live_at s key)
-outcomes_want_none s (NameOf endpoint) = named_none s (name_of (held s) endpoint)
-outcomes_want_none s (Subscribe sub query initial overwrite) = refusal_or s (against_subscribe (subscribe_case s sub query overwrite)) _ _ refl
-outcomes_want_none s (Check sub max) = check_none s sub max (subscription_at s sub)
-outcomes_want_none s (Since scope at max) = refusal_or s (against_since s.feed scope at max) _ _ refl
-outcomes_want_none s (Snapshot scope) = refusal_or s (against_scope scope) _ _ refl
-outcomes_want_none s (Page scope after max) = refusal_or s (against_page scope max) _ _ refl
-outcomes_want_none s (Merge items) = merge_none s items (first_refusal (against_merge (length items))) (λ r e. other_cause (against_merge (length items)) r e)
+outcomes_take_none s (Retrieve key) = found_none s (live_at s key)
+outcomes_take_none s (NameOf endpoint) = named_none s (name_of (held s) endpoint)
+outcomes_take_none s (Subscribe sub query initial overwrite) = refusal_or s (against_subscribe (subscribe_case s sub query overwrite)) _ _ refl
+outcomes_take_none s (Check sub max) = check_none s sub max (subscription_at s sub)
+outcomes_take_none s (Since scope at max) = refusal_or s (against_since s.feed scope at max) _ _ refl
+outcomes_take_none s (Snapshot scope) = refusal_or s (against_scope scope) _ _ refl
+outcomes_take_none s (Page scope after max) = refusal_or s (against_page scope max) _ _ refl
+outcomes_take_none s (Merge items) = merge_none s items (first_refusal (against_merge (length items))) (λ r e. other_cause (against_merge (length items)) r e)
 
 -- ---- one step
 
@@ -208,19 +208,19 @@ none_done n e = false≢true (ap (λ (o : Option (Option ℕ)). option_map_or (�
 pub steps_one : StepsAreOne
 steps_one s t u command reply other (inl (inl a)) (inl (inl b)) e = (a.reply_is ∙ sym b.reply_is, a.state_is ∙ sym b.state_is)
 steps_one s t u command reply other (inl (inl a)) (inl (inr w)) e =
-    absurd (none_some None (sym (ap room_wanted a.reply_is ∙ outcomes_want_none s command) ∙ e ∙ ap room_wanted w.reply_is))
+    absurd (none_some None (sym (ap room_wanted a.reply_is ∙ outcomes_take_none s command) ∙ e ∙ ap room_wanted w.reply_is))
 steps_one s t u command reply other (inl (inl a)) (inr w) e =
     let d = some_done s u command other w in
-    absurd (none_some (Some d.0) (sym (ap room_wanted a.reply_is ∙ outcomes_want_none s command) ∙ e ∙ d.1))
+    absurd (none_some (Some d.0) (sym (ap room_wanted a.reply_is ∙ outcomes_take_none s command) ∙ e ∙ d.1))
 steps_one s t u command reply other (inl (inr v)) (inl (inl b)) e =
-    absurd (none_some None (sym (ap room_wanted b.reply_is ∙ outcomes_want_none s command) ∙ sym e ∙ ap room_wanted v.reply_is))
+    absurd (none_some None (sym (ap room_wanted b.reply_is ∙ outcomes_take_none s command) ∙ sym e ∙ ap room_wanted v.reply_is))
 steps_one s t u command reply other (inl (inr v)) (inl (inr w)) e = (v.reply_is ∙ sym w.reply_is, v.state_is ∙ sym w.state_is)
 steps_one s t u command reply other (inl (inr v)) (inr w) e =
     let d = some_done s u command other w in
     absurd (none_done d.0 (sym (ap room_wanted v.reply_is) ∙ e ∙ d.1))
 steps_one s t u command reply other (inr v) (inl (inl b)) e =
     let d = some_done s t command reply v in
-    absurd (none_some (Some d.0) (sym (ap room_wanted b.reply_is ∙ outcomes_want_none s command) ∙ sym e ∙ d.1))
+    absurd (none_some (Some d.0) (sym (ap room_wanted b.reply_is ∙ outcomes_take_none s command) ∙ sym e ∙ d.1))
 steps_one s t u command reply other (inr v) (inl (inr w)) e =
     let d = some_done s t command reply v in
     absurd (none_done d.0 (sym (ap room_wanted w.reply_is) ∙ sym e ∙ d.1))
@@ -244,6 +244,6 @@ none_done_yet s t i reply done z w = (
 )
 
 pub one_item : OneItemWantsAlike
-one_item s t i reply (inl (inl a)) e = absurd (false≢true (sym (ap is_some (ap room_wanted a.reply_is ∙ outcomes_want_none s (Merge (i ∷ [])))) ∙ e))
+one_item s t i reply (inl (inl a)) e = absurd (false≢true (sym (ap is_some (ap room_wanted a.reply_is ∙ outcomes_take_none s (Merge (i ∷ [])))) ∙ e))
 one_item s t i reply (inl (inr w)) e = (w.state_is, ap owed_by w.reply_is)
 one_item s t i reply (inr w) e = none_done_yet s t i reply w.0 (omega (arith, w.1.some_left)) w.1

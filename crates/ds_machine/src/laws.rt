@@ -6,7 +6,7 @@ ghost use Rattle.ds_machine.specs.Effect.{GoesOnLater, StepsGoOn, RunsGoOn, Held
 ghost use Rattle.ds_machine.specs.Examples.{PublishRow, SweepRow, RingRow, PageRow, ChangingPagesRow, LastPlaceRow};
 ghost use Rattle.ds_machine.specs.FloorLaws.{AcceptedFloorStands, FloorStandsOverRuns};
 ghost use Rattle.ds_machine.specs.Given.{GivenWasAccepted, FewAreDone};
-ghost use Rattle.ds_machine.specs.OneStep.{StepsAreOne, OutcomesWantNone, OneItemWantsAlike};
+ghost use Rattle.ds_machine.specs.OneStep.{StepsAreOne, OutcomesTakeNone, OneItemWantsAlike};
 ghost use Rattle.ds_machine.specs.Says.{RefusedSays, ChangedSays, FoundSays, NamedSays, SweptSays};
 ghost use Rattle.ds_machine.specs.Says.{SubscribedSays, CheckedSays, JournaledSays, SnappedSays, PagedSays};
 ghost use Rattle.ds_machine.specs.Says.{MergedSays, MergeStoppedSays, OwedFits, OwedTells, RepliesFit};
@@ -108,7 +108,7 @@ pub fn rows_are_answered()
 /// either form of reply.
 pub fn steps_are_one()
     ensures one { StepsAreOne }
-    ensures outcome { OutcomesWantNone }
+    ensures outcome { OutcomesTakeNone }
     ensures single { OneItemWantsAlike }
 {}
 

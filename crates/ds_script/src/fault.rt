@@ -42,9 +42,9 @@ impl From<NoRoom> for ReplayFault {
     ghost use Rattle.std.specs.Prelude.{◌≡◌};
     ghost use Rattle.ds_script.specs.declared.fault.ReplayFault.TheVariants as faults;
 
-    ghost from_gives = { λ wanting fault. fault ≡ faults.NoRoom };
+    ghost from_gives = { λ no_room fault. fault ≡ faults.NoRoom };
 
-    fn from(_wanting: NoRoom) -> ReplayFault {
+    fn from(_no_room: NoRoom) -> ReplayFault {
         ReplayFault::NoRoom
     }
 }

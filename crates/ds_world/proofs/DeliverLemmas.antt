@@ -23,7 +23,7 @@ use Rattle.ds_replica.specs.World.{MapState, World, store_at, with_state}
 use Rattle.ds_replica.specs.Happens.{count_of, delivery_fault, tally_outcome, Happens, Delivers}
 use Rattle.ds_world.specs.World.{WorldRecord, map_state, kept_items, WorldStands}
 use Rattle.ds_world.specs.Run.{EventLeads}
-use Rattle.ds_world.specs.Told.{IsMapTold, IsStoreTold, IsTold, IsWantLast}
+use Rattle.ds_world.specs.Told.{IsMapTold, IsStoreTold, IsTold, IsNoRoomLast}
 use Rattle.ds_world.specs.Steps.{ItemsAreTaken}
 use Rattle.ds_world.proofs.StandLemmas.{map_is, message_is, lt_false}
 use Rattle.std.proofs.lemmas.Bool.{lt-ltb}
@@ -89,7 +89,7 @@ module _ (value : WorldRecord) (k : ℕ) (count : Option ℕ) where
       abbrev pub Led : Side → WorldRecord → Type 0
       Led side new =
           (w : World) → WorldStands value w → (after : World) × Happens w (Deliver k (Store side) count) (tally_outcome tally tally.stop) after
-          × IsWantLast (take (count_of count items) items) tally.count.done tally.stop (store_at after side) × WorldStands new after
+          × IsNoRoomLast (take (count_of count items) items) tally.count.done tally.stop (store_at after side) × WorldStands new after
 
       pub to_a : (new : ContentRecord) → ItemsAreTaken value.a (take (count_of count items) items) tally new
           → Led A (record value { a = new })
@@ -130,7 +130,7 @@ module _ (value : WorldRecord) (k : ℕ) (count : Option ℕ) where
 
           by_stop : (o : Option Refusal)
               → ((w : World) → WorldStands value w → (after : World) × Happens w (Deliver k (Store side) count) (tally_outcome tally o) after
-              × IsWantLast (take (count_of count items) items) tally.count.done o (store_at after side) × WorldStands new after)
+              × IsNoRoomLast (take (count_of count items) items) tally.count.done o (store_at after side) × WorldStands new after)
               → IsStoreTold (Deliver k (Store side) count) side (take (count_of count items) items) (tally_outcome tally o) value new
           by_stop None to = tt
           by_stop (Some fault) to = λ w s. (let at = to w s in (at.0, (at.1, at.2), at.3))

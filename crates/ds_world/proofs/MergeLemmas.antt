@@ -34,7 +34,7 @@ use Rattle.ds_content.specs.Stands.{ContentStands}
 use Rattle.ds_replica.specs.Delivery.{Tally, counting, ended, added, OthersFollow, GroupsAreMerged, StoreTakes}
 use Rattle.ds_world.specs.Steps.{ItemsAreTaken}
 use Rattle.ds_world.specs.Tally.{both_tallied, CanJoin, CountsOf, IsCounted}
-use Rattle.ds_world.specs.Told.{IsWantLast}
+use Rattle.ds_world.specs.Told.{IsNoRoomLast}
 use Rattle.ds_names.specs.Limits.{most_items}
 
 -- each item as a group of its own
@@ -196,7 +196,7 @@ module _ (s t : State) (items : List Item) (done owes : ℕ) where
       w.1.state_is ∙ ap (λ d. (course s (take d items)).state) same
 
 -- of a Merge
-one_want : (s t : State) (group : List Item) (reply : Reply) → IsCounted (length group) reply → Step s (Merge group) reply t → IsLast s (Merge group) reply → IsWantLast group (merge_tally reply).count.done (merge_tally reply).stop t
+one_want : (s t : State) (group : List Item) (reply : Reply) → IsCounted (length group) reply → Step s (Merge group) reply t → IsLast s (Merge group) reply → IsNoRoomLast group (merge_tally reply).count.done (merge_tally reply).stop t
 one_want s t group (Merged done taken stale owed) c step last = tt
 one_want s t group (MergeStopped done NoRoom owes) c step last =
     record { item = last.item; is_next = last.is_next; lacks = subst (λ (x : State). MayLackItem x last.item) (sym (stopped_for_room s t group done owes step)) last.lacks }
@@ -206,13 +206,13 @@ one_want s t group (Refused _) c step last = tt
 one_want s t group _ c step last = absurd c
 
 -- of the items in front
-front_want : (xs ys : List Item) (done : ℕ) (stop : Option Refusal) (t : State) → IsWantLast xs done stop t → IsWantLast (xs ++ ys) done stop t
+front_want : (xs ys : List Item) (done : ℕ) (stop : Option Refusal) (t : State) → IsNoRoomLast xs done stop t → IsNoRoomLast (xs ++ ys) done stop t
 front_want xs ys done None t w = tt
 front_want xs ys done (Some NoRoom) t w = record { item = w.item; is_next = in_front xs ys done w.item w.is_next; lacks = w.lacks }
 front_want xs ys done (Some _) t w = tt
 
 -- of the others after a group
-later_want : (group rest : List Item) (done : ℕ) (stop : Option Refusal) (t : State) → IsWantLast rest done stop t → IsWantLast (group ++ rest) (length group + done) stop t
+later_want : (group rest : List Item) (done : ℕ) (stop : Option Refusal) (t : State) → IsNoRoomLast rest done stop t → IsNoRoomLast (group ++ rest) (length group + done) stop t
 later_want group rest done None t w = tt
 later_want group rest done (Some NoRoom) t w = record { item = w.item; is_next = past group rest done ∙ w.is_next; lacks = w.lacks }
 later_want group rest done (Some _) t w = tt
@@ -267,7 +267,7 @@ module _ (old mid new : ContentRecord) (items left group others : List Item) (t 
               b.0,
               takes_append s a.0 b.0 d.front group t u a.1 none b.1,
               b.2,
-              subst (λ n. IsWantLast (d.front ++ group) n u.stop b.0) (omega (arith, d.counts.all none)) (later_want d.front group u.count.done u.stop b.0 b.3),
+              subst (λ n. IsNoRoomLast (d.front ++ group) n u.stop b.0) (omega (arith, d.counts.all none)) (later_want d.front group u.count.done u.stop b.0 b.3),
             ));
         counts = record {
           all = λ n. omega (arith, d.counts.all none, counts.all n, length-append d.front group);

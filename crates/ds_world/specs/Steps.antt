@@ -11,7 +11,7 @@ use Rattle.ds_content.specs.Stands.{ContentStands}
 use Rattle.ds_replica.specs.declared.event.Side.{Side}
 use Rattle.ds_replica.specs.Delivery.{Tally, StoreTakes}
 use Rattle.ds_replica.specs.World.{World, store_at, with_state}
-use Rattle.ds_world.specs.Told.{IsWantLast}
+use Rattle.ds_world.specs.Told.{IsNoRoomLast}
 
 -- Whether the store of the side made a step with this reply, in each world that the old contents stand for.
 abbrev pub StoreSteps : ContentRecord → ContentRecord → ContentRecord → ContentRecord → Side → Command → Reply → Type 0
@@ -28,4 +28,4 @@ LastOf a b side command reply = (w : World) → ContentStands a w.a → ContentS
 abbrev pub ItemsAreTaken : ContentRecord → List Item → Tally → ContentRecord → Type 0
 ItemsAreTaken old items tally new =
     (s : State) → ContentStands old s →
-    (t : State) × StoreTakes s items tally t × ContentStands new t × IsWantLast items tally.count.done tally.stop t
+    (t : State) × StoreTakes s items tally t × ContentStands new t × IsNoRoomLast items tally.count.done tally.stop t

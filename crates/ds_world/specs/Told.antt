@@ -35,14 +35,14 @@ pub record WouldTake (s : State) (items : List Item) (done : ℕ) : Type 0 where
 
 -- Whether lack of memory comes last: if it stopped the items, the next one would take effect in the state that they
 -- left, and takes memory.
-abbrev pub IsWantLast : List Item → ℕ → Option Refusal → State → Type 0
-IsWantLast items done (Some NoRoom) s = WouldTake s items done
-IsWantLast items done _ s = Unit {0}
+abbrev pub IsNoRoomLast : List Item → ℕ → Option Refusal → State → Type 0
+IsNoRoomLast items done (Some NoRoom) s = WouldTake s items done
+IsNoRoomLast items done _ s = Unit {0}
 
 -- Whether a stopped delivery to a store leads to a world in which lack of memory comes last for that store.
 abbrev pub IsStoreTold : Event → Side → List Item → Outcome → WorldRecord → WorldRecord → Type 0
 IsStoreTold event side items (Stopped done fault owed) old new =
-    Leads (λ w after. Happens w event (Stopped done fault owed) after × IsWantLast items done (Some fault) (store_at after side)) old new
+    Leads (λ w after. Happens w event (Stopped done fault owed) after × IsNoRoomLast items done (Some fault) (store_at after side)) old new
 IsStoreTold event side items outcome old new = Unit {0}
 
 -- Whether the map took all items, with this count; or took the first ones and refuses the next by this fault, as the

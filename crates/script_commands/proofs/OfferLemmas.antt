@@ -16,7 +16,7 @@ use Rattle.ds_line.proofs.PieceLemmas.{byte_found, byte_stops, stand_texts}
 use Rattle.script_commands.specs.Fast.{OfPlaced}
 use Rattle.script_commands.specs.declared.command.ScriptCommand.TheVariants.{Offer}
 use Rattle.script_commands.specs.declared.word.Word.TheVariants as words
-use Rattle.script_commands.specs.Row.{ItemWantsRoom, TakesRow}
+use Rattle.script_commands.specs.Row.{ItemTakesMemory, TakesRow}
 use Rattle.script_commands.specs.Table.{an_item}
 use Rattle.script_commands.proofs.PieceLemmas.{no_byte, no_want}
 use Rattle.script_commands.proofs.ReadsLemmas.{finds, misses}
@@ -40,7 +40,7 @@ no_item bytes text place space fault =
     )
 
 -- the item can't be read, or memory runs out for it
-offer_stops : (bytes : List ℕ) (stop : PartFault) → (stop ≡ NoRoom → ItemWantsRoom bytes) → StopsIn an_item stop bytes
+offer_stops : (bytes : List ℕ) (stop : PartFault) → (stop ≡ NoRoom → ItemTakesMemory bytes) → StopsIn an_item stop bytes
     → TakesRow words.Offer bytes (Err stop)
 unfolding TakesRow
 offer_stops bytes stop room s = (Err stop, bytes, misses an_item bytes bytes room s, refl)
@@ -79,7 +79,7 @@ pub offer_found : (bytes text : List ℕ) (i : Item) (n : ℕ) → bytes ≡ 32 
 unfolding TakesRow
 offer_found bytes text i n space line is =
     let found = item_found bytes text (drop n text) i space line (sym (take-append-drop n text) ∙ ap (λ (t : List ℕ). t ++ drop n text) is) in
-    (Ok i, drop n text, finds (ItemWantsRoom bytes) found, refl)
+    (Ok i, drop n text, finds (ItemTakesMemory bytes) found, refl)
 
 -- memory runs out for the item
 pub offer_no_room : (bytes text : List ℕ) → bytes ≡ 32 ∷ text → LineTakesRoom text → TakesRow words.Offer bytes (Err NoRoom)

@@ -19,7 +19,7 @@ use Rattle.ds_line.proofs.LabelLemmas.{rs_is_name, some_value}
 use Rattle.ds_line.proofs.PartLemmas.{part_one}
 use Rattle.ds_line.proofs.OpeningLemmas.{text_at, word_is_word, word_one, key_is, version_is}
 use Rattle.ds_line.proofs.PieceLemmas.{past, Fixed, One, one_by, Views, view_stops, first_stops, then_stops, after_byte, part_missing, byte_missing, byte_found, byte_stops, stops_from}
-use Rattle.script_commands.specs.Pieces.{an_endpoint, an_initial, a_mode, a_name, a_kind, a_key, a_generation, a_seq, a_version, a_number, a_place, a_kinds, a_value, ValueWantsRoom, initial_word, mode_word}
+use Rattle.script_commands.specs.Pieces.{an_endpoint, an_initial, a_mode, a_name, a_kind, a_key, a_generation, a_seq, a_version, a_number, a_place, a_kinds, a_value, ValueTakesMemory, initial_word, mode_word}
 use Rattle.ds_line.proofs.LastValueLemmas.{some_value_of}
 
 -- ---- a byte, followed by one part
@@ -237,7 +237,7 @@ pub no_want : (stop : PartFault) (left : ℕ) → stop ≡ BadPart left → stop
 no_want stop left is room = let same : BadPart left ≡ NoRoom = sym is ∙ room in cc
 
 -- memory runs out for the value
-pub value_wants : (kind : Kind) (stop : PartFault) (bytes r1 r2 r3 : List ℕ) → bytes ≡ 32 ∷ r1 → r1 ≡ 61 ∷ r2 → r2 ≡ 32 ∷ r3 → StopsValue kind stop r3 → stop ≡ NoRoom → ValueWantsRoom kind bytes
+pub value_wants : (kind : Kind) (stop : PartFault) (bytes r1 r2 r3 : List ℕ) → bytes ≡ 32 ∷ r1 → r1 ≡ 61 ∷ r2 → r2 ≡ 32 ∷ r3 → StopsValue kind stop r3 → stop ≡ NoRoom → ValueTakesMemory kind bytes
 value_wants kind stop bytes r1 r2 r3 is1 is2 is3 s room =
     let k = subst (λ (x : PartFault). StopsValue kind x r3) room s in (
       k.0,

@@ -90,8 +90,8 @@ abbrev pub a_value : Kind → Piece
 a_value kind = record { Of = Value; Can = IsValueOf kind; parts = λ (value : Value). space ∷ body_parts (Put value) }
 
 -- A value of the kind that takes memory comes next, with its `=` and the newline.
-abbrev pub ValueWantsRoom : Kind → List ℕ → Type 0
-ValueWantsRoom kind bytes = (value : Value) × (rest : List ℕ) × Found (a_value kind) value bytes rest × ¬ IsInPlace value
+abbrev pub ValueTakesMemory : Kind → List ℕ → Type 0
+ValueTakesMemory kind bytes = (value : Value) × (rest : List ℕ) × Found (a_value kind) value bytes rest × ¬ IsInPlace value
 
 -- The newline.
 abbrev pub an_end : Piece

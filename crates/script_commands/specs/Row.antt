@@ -19,7 +19,7 @@ use Rattle.script_commands.specs.declared.slot.Slot.TheVariants as slots
 use Rattle.script_commands.specs.declared.word.Word.{Word}
 use Rattle.script_commands.specs.declared.word.Word.TheVariants as words
 use Rattle.script_commands.specs.Command.{CommandTakesMemory}
-use Rattle.script_commands.specs.Pieces.{ValueWantsRoom}
+use Rattle.script_commands.specs.Pieces.{ValueTakesMemory}
 use Rattle.script_commands.specs.Reads.{ReadsOr}
 use Rattle.script_commands.specs.Table.{an_item, slots_of, piece_of, kind_after, row_of, line_of}
 
@@ -59,13 +59,13 @@ command_in words.Reply x = Reply x.0 x.1.0 x.1.1.0
 -- ---- slot by slot
 
 -- An item that takes memory comes next.
-abbrev pub ItemWantsRoom : List ℕ → Type 0
-ItemWantsRoom bytes = (i : Item) × (rest : List ℕ) × Found an_item i bytes rest × ¬ IsItemInPlace i
+abbrev pub ItemTakesMemory : List ℕ → Type 0
+ItemTakesMemory bytes = (i : Item) × (rest : List ℕ) × Found an_item i bytes rest × ¬ IsItemInPlace i
 
 -- What comes next if memory runs out for the slot.
 abbrev pub slot_wants : Kind → Slot → List ℕ → Type 0
-slot_wants k slots.Item bytes = ItemWantsRoom bytes
-slot_wants k slots.Value bytes = ValueWantsRoom k bytes
+slot_wants k slots.Item bytes = ItemTakesMemory bytes
+slot_wants k slots.Value bytes = ValueTakesMemory k bytes
 slot_wants k s bytes = ⊥
 
 -- Whether the slots are read in order, up to the first bad one, and `done` holds of their contents, or `failed` of the

@@ -5,7 +5,7 @@
 ghost use Rattle.std.specs.Prelude.{◌≡◌, ◌≢◌, ◌∷◌, List, ℕ, Bool, length, IfErr, OnOk, IfSome, IfNone};
 ghost use Rattle.ds_line.specs.declared.part_fault.PartFault.TheVariants.{BadPart};
 ghost use Rattle.script_commands.specs.Pieces.{an_endpoint, an_initial, a_mode, a_name, a_kind, a_key, a_generation, a_seq, a_version};
-ghost use Rattle.script_commands.specs.Pieces.{a_number, a_place, a_kinds, a_value, ValueWantsRoom, an_end, initial_word, mode_word};
+ghost use Rattle.script_commands.specs.Pieces.{a_number, a_place, a_kinds, a_value, ValueTakesMemory, an_end, initial_word, mode_word};
 ghost use Rattle.script_commands.specs.Reads.{Reads, ReadsOr};
 
 use ds_entry::Value;
@@ -204,7 +204,7 @@ impl Rest<'_> {
     /// Reads `=`, a value of the kind, and the newline.
     #[inline(always)]
     pub fn value(&mut self, alloc: Global, kind: Kind) -> Result<Value, PartFault>
-        ensures { ReadsOr (ValueWantsRoom kind self.old.bytes.now) (a_value kind) self.old.bytes.now result self.new.bytes.now }
+        ensures { ReadsOr (ValueTakesMemory kind self.old.bytes.now) (a_value kind) self.old.bytes.now result self.new.bytes.now }
     {
         self.byte(b' ', Expected::Space)?;
         self.byte(b'=', Expected::Equals)?;

@@ -10,7 +10,7 @@ pub enum Failure {
     /// A line that can't be read.
     BadLine,
     /// A call's answer was wrong.
-    NotAsWanted,
+    Unexpected,
     /// Out of memory.
     NoRoom,
     /// Reading failed.
@@ -25,7 +25,7 @@ impl Failure {
     /// Returns the word for standard error; `None` if the program ends with status 1.
     pub fn word(self) -> Option<&'static str> {
         match self {
-            Failure::BadLine | Failure::NotAsWanted => None,
+            Failure::BadLine | Failure::Unexpected => None,
             Failure::NoRoom => Some("noroom"),
             Failure::ReadFault => Some("readfault"),
             Failure::WriteFault => Some("writefault"),

@@ -125,12 +125,12 @@ fn merge_a_label<R: Print + Wait>(
 }
 
 fn name_of(text: &[u8]) -> Result<Name, Failure> {
-    Name::read(text).map_err(|_| Failure::NotAsWanted)
+    Name::read(text).map_err(|_| Failure::Unexpected)
 }
 
 fn endpoint_of(generation: u32, slot: u16) -> Result<Endpoint, Failure> {
-    let generation = Generation::of(generation).ok_or(Failure::NotAsWanted)?;
-    Endpoint::of(generation, slot).ok_or(Failure::NotAsWanted)
+    let generation = Generation::of(generation).ok_or(Failure::Unexpected)?;
+    Endpoint::of(generation, slot).ok_or(Failure::Unexpected)
 }
 
 // Tells RS of an event, and prints its place.

@@ -166,14 +166,14 @@ fn follow<R: Print + Wait>(
     let _pass = seat.leave();
     match fresh {
         Ok(Fresh::UpTo(place)) => tell_label(rt, follower, place),
-        Ok(Fresh::More) => Err(Failure::NotAsWanted),
+        Ok(Fresh::More) => Err(Failure::Unexpected),
         Err(_) => Err(Failure::NoRoom),
     }
 }
 
 // Prints the generation of the label's endpoint in the map, or 0 if it has none.
 fn tell_label(rt: &impl Print, follower: &Follower, place: u64) -> Result<(), Failure> {
-    let name = Name::read(b"disk").map_err(|_| Failure::NotAsWanted)?;
+    let name = Name::read(b"disk").map_err(|_| Failure::Unexpected)?;
     let generation = match follower.map().label(&name) {
         Some(endpoint) => endpoint.generation().number(),
         None => 0,

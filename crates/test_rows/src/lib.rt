@@ -65,7 +65,7 @@ const ALL: [Rows; 11] = [
 /// Prints all rows. Ends early if a call's answer is wrong, or if memory or writing fails.
 pub fn answer(rt: &(impl Runtime + AllocGlobal)) -> Result<(), Failure> {
     let mut text = Vec::new(rt.alloc());
-    print_all(rt, rt.alloc(), &mut text).ok_or(Failure::NotAsWanted)
+    print_all(rt, rt.alloc(), &mut text).ok_or(Failure::Unexpected)
 }
 
 fn print_all(rt: &impl Runtime, alloc: Global, text: &mut Vec<u8>) -> Option<()> {

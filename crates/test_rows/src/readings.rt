@@ -76,7 +76,7 @@ fn tell_driven(text: &mut Vec<u8>, alloc: Global, ring: u32, way: Way) -> Option
 fn tell_overtaken(text: &mut Vec<u8>, alloc: Global, sub: u32) -> Option<()> {
     let others = Rival {
         sub,
-        is_wanting: false,
+        is_out_of_memory: false,
     };
     let store = begun(alloc, RING)?;
     let mut among = Among { store, others };
@@ -86,7 +86,7 @@ fn tell_overtaken(text: &mut Vec<u8>, alloc: Global, sub: u32) -> Option<()> {
         questions: 4,
     };
     read(text, alloc, &mut among, way)?;
-    (!among.others.is_wanting).then_some(())
+    (!among.others.is_out_of_memory).then_some(())
 }
 
 // Nobody else calls the store, and one question is enough.

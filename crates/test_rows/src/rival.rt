@@ -10,7 +10,7 @@ pub(crate) struct Rival {
     /// The subscription's number.
     pub sub: u32,
     /// Whether memory ran out for one of its checks.
-    pub is_wanting: bool,
+    pub is_out_of_memory: bool,
 }
 
 impl Others for Rival {
@@ -19,6 +19,6 @@ impl Others for Rival {
             sub: self.sub,
             max: 1,
         });
-        self.is_wanting |= matches!(reply, Reply::Refused(Refusal::NoRoom));
+        self.is_out_of_memory |= matches!(reply, Reply::Refused(Refusal::NoRoom));
     }
 }

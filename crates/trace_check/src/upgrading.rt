@@ -65,9 +65,9 @@ impl From<NoRoom> for UpgradeFault {
     ghost use Rattle.std.specs.Prelude.{◌≡◌};
     ghost use Rattle.trace_check.specs.declared.upgrading.UpgradeFault.TheVariants as faults;
 
-    ghost from_gives = { λ wanting given. given ≡ faults.NoRoom };
+    ghost from_gives = { λ no_room given. given ≡ faults.NoRoom };
 
-    fn from(_wanting: NoRoom) -> UpgradeFault {
+    fn from(_no_room: NoRoom) -> UpgradeFault {
         UpgradeFault::NoRoom
     }
 }

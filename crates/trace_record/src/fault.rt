@@ -55,9 +55,9 @@ impl From<NoRoom> for RecordFault {
     ghost use Rattle.std.specs.Prelude.{◌≡◌};
     ghost use Rattle.trace_record.specs.declared.fault.RecordFault.TheVariants as faults;
 
-    ghost from_gives = { λ wanting fault. fault ≡ faults.NoRoom };
+    ghost from_gives = { λ no_room fault. fault ≡ faults.NoRoom };
 
-    fn from(_wanting: NoRoom) -> RecordFault {
+    fn from(_no_room: NoRoom) -> RecordFault {
         RecordFault::NoRoom
     }
 }
@@ -66,9 +66,9 @@ impl From<AllocError> for RecordFault {
     ghost use Rattle.std.specs.Prelude.{◌≡◌};
     ghost use Rattle.trace_record.specs.declared.fault.RecordFault.TheVariants as faults;
 
-    ghost from_gives = { λ wanting fault. fault ≡ faults.NoRoom };
+    ghost from_gives = { λ no_room fault. fault ≡ faults.NoRoom };
 
-    fn from(_wanting: AllocError) -> RecordFault {
+    fn from(_failed: AllocError) -> RecordFault {
         RecordFault::NoRoom
     }
 }

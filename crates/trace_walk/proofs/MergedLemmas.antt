@@ -14,7 +14,7 @@ use Rattle.ds_machine.specs.declared.reply.Reply.TheVariants.{Merged, MergeStopp
 use Rattle.ds_machine.specs.OneStep.{room_wanted}
 use Rattle.trace_walk.proofs.OneReplyLemmas.{none_of}
 use Rattle.ds_machine.proofs.BatchLemmas.{none_stands}
-use Rattle.ds_machine.proofs.OneStepLemmas.{steps_one, outcomes_want_none}
+use Rattle.ds_machine.proofs.OneStepLemmas.{steps_one, outcomes_take_none}
 
 -- a step of few items for which memory lasted took its course
 pub by_course : (s t : State) (items : List Item) (reply : Reply)
@@ -24,7 +24,7 @@ by_course s t items reply few room step =
     let one =
     steps_one s t (outcome s (commands.Merge items)).1 (commands.Merge items) reply (outcome s (commands.Merge items)).0 step
     (inl (inl (record { reply_is = refl; state_is = refl })))
-    (none_of (room_wanted reply) room ∙ sym (outcomes_want_none s (commands.Merge items))) in
+    (none_of (room_wanted reply) room ∙ sym (outcomes_take_none s (commands.Merge items))) in
     let out : outcome s (commands.Merge items) ≡ (merge_reply s (course s items), (course s items).state) = ap (λ (o : Option Refusal). merging s items o) (none_stands (length items) few) in
     (one.0 ∙ ap (λ (o : Reply × State). o.0) out, one.1 ∙ ap (λ (o : Reply × State). o.1) out)
 

@@ -24,7 +24,7 @@ use Rattle.script_commands.specs.declared.command.ScriptCommand.TheVariants as l
 use Rattle.script_answers.specs.declared.wording.Wording.{Wording}
 use Rattle.script_answers.specs.declared.wording.Wording.TheVariants.{AsOffer, AsMerge}
 use Rattle.ds_machine.specs.OneStep.{is_noroom, room_wanted}
-use Rattle.ds_machine.proofs.OneStepLemmas.{done_same, none_done, none_some, outcomes_want_none, whole_command}
+use Rattle.ds_machine.proofs.OneStepLemmas.{done_same, none_done, none_some, outcomes_take_none, whole_command}
 use Rattle.trace_walk.specs.declared.asked.Asked.{Asked}
 use Rattle.trace_walk.specs.declared.asked.Asked.TheVariants as askeds
 use Rattle.trace_walk.specs.declared.header.Format.{Format}
@@ -76,7 +76,7 @@ by_merge s t (commands.Merge items) reply done w e =
 by_merge s t _ reply done w e = absurd w
 
 by_step : (s t : State) (command : Command) (reply : Reply) (done : ℕ) → Step s command reply t → room_wanted reply ≡ Some (Some done) → IsStop s command reply t done
-by_step s t command reply done (inl (inl a)) e = absurd (none_some (Some done) (sym (outcomes_want_none s command) ∙ sym (ap room_wanted a.reply_is) ∙ e))
+by_step s t command reply done (inl (inl a)) e = absurd (none_some (Some done) (sym (outcomes_take_none s command) ∙ sym (ap room_wanted a.reply_is) ∙ e))
 by_step s t command reply done (inl (inr w)) e = absurd (none_done done (sym (ap room_wanted w.reply_is) ∙ e))
 by_step s t command reply done (inr w) e = by_merge s t command reply done w e
 

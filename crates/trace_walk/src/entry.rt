@@ -29,9 +29,9 @@ impl From<NoRoom> for EntryFault {
     ghost use Rattle.std.specs.Prelude.{◌≡◌};
     ghost use Rattle.trace_walk.specs.declared.entry.EntryFault.TheVariants as faults;
 
-    ghost from_gives = { λ wanting fault. fault ≡ faults.NoRoom };
+    ghost from_gives = { λ no_room fault. fault ≡ faults.NoRoom };
 
-    fn from(_wanting: NoRoom) -> EntryFault {
+    fn from(_no_room: NoRoom) -> EntryFault {
         EntryFault::NoRoom
     }
 }

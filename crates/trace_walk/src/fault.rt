@@ -76,9 +76,9 @@ impl From<NoRoom> for WalkFault {
     ghost use Rattle.std.specs.Prelude.{◌≡◌};
     ghost use Rattle.trace_walk.specs.declared.fault.WalkFault.TheVariants as faults;
 
-    ghost from_gives = { λ wanting fault. fault ≡ faults.NoRoom };
+    ghost from_gives = { λ no_room fault. fault ≡ faults.NoRoom };
 
-    fn from(_wanting: NoRoom) -> WalkFault {
+    fn from(_no_room: NoRoom) -> WalkFault {
         WalkFault::NoRoom
     }
 }
@@ -87,9 +87,9 @@ impl From<AllocError> for WalkFault {
     ghost use Rattle.std.specs.Prelude.{◌≡◌};
     ghost use Rattle.trace_walk.specs.declared.fault.WalkFault.TheVariants as faults;
 
-    ghost from_gives = { λ wanting fault. fault ≡ faults.NoRoom };
+    ghost from_gives = { λ no_room fault. fault ≡ faults.NoRoom };
 
-    fn from(_wanting: AllocError) -> WalkFault {
+    fn from(_failed: AllocError) -> WalkFault {
         WalkFault::NoRoom
     }
 }
