@@ -1,6 +1,6 @@
 //! Explains a line that can't be read: which part was expected.
 
-use crate::bad_part::BadPart;
+use crate::bad_part::{BadPart, say_at, say_kind_at};
 use crate::found::Found;
 use crate::kind::TextKind;
 use ds_line::{Expected, word_at};
@@ -69,7 +69,7 @@ fn explain_kind(rt: &impl Runtime, bad: &BadLine<'_>, kind: Option<TextKind>) ->
     ));
     match of_line.or(kind.filter(|_| number == 1)) {
         Some(kind) if kind != TextKind::Script => {
-            let _ = eprintln!(rt; "dsctl: line {number}, byte 0: a command was expected; {kind}");
+            say_kind_at(rt, number, kind);
             true
         }
         _ => false,
@@ -85,6 +85,8 @@ const NOTE_AFTER_SPACE: &str = "\
 
 const ONLY_SPACES: &str =
     "a command was expected; only spaces were found: an empty line has none, after `script 2` as the first line";
+
+const ONLY_SCRIPT_2: &str = "only `script 2` is allowed, as the first line";
 
 // Returns a sentence about a comment, or an empty line, that isn't where format 2 has them.
 fn note_at(bad: &BadLine<'_>) -> Option<&'static str> {
@@ -154,11 +156,7 @@ fn explain_script(rt: &impl Runtime, number: u64, text: &[u8]) {
                 "dsctl: line {number}, byte 0: `script 2` was expected, and the end of the line; {found} was found after it"
             );
         }
-        _ => {
-            let _ = eprintln!(rt;
-                "dsctl: line {number}, byte 0: only `script 2` is allowed, as the first line"
-            );
-        }
+        _ => say_at(rt, number, 0, ONLY_SCRIPT_2),
     }
 }
 

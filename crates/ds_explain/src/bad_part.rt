@@ -1,6 +1,7 @@
 //! Explains the first bad part of a command, wherever in a line the command begins.
 
 use crate::found::Found;
+use crate::kind::TextKind;
 use crate::stray::stray_at;
 use crate::wanted::{part, wanted};
 use ds_line::Expected;
@@ -78,13 +79,8 @@ impl<'a> BadPart<'a> {
     fn explain_space(&self, rt: &(impl Runtime + AllocGlobal)) {
         match self.part_after(rt.alloc()) {
             Some(expected) => {
-                let number = self.number;
                 let place = self.place_in_line();
-                let part = part(expected);
-                let found = Found(self.rest());
-                let _ = eprintln!(rt;
-                    "dsctl: line {number}, byte {place}: a space was expected, and then {part}; {found} was found"
-                );
+                say_space_at(rt, self.number, place, part(expected), self.rest());
             }
             None => self.say_found(rt, wanted(Expected::Space)),
         }
@@ -129,6 +125,19 @@ pub(crate) fn say_at(rt: &impl Runtime, number: u64, place: usize, said: &str) {
 pub(crate) fn say_found_at(rt: &impl Runtime, number: u64, place: usize, said: &str, rest: &[u8]) {
     let found = Found(rest);
     let _ = eprintln!(rt; "dsctl: line {number}, byte {place}: {said}; {found} was found");
+}
+
+/// Writes that a space is missing at a byte of a line, the part that comes after the space, and what was found.
+pub(crate) fn say_space_at(rt: &impl Runtime, number: u64, place: usize, part: &str, rest: &[u8]) {
+    let found = Found(rest);
+    let _ = eprintln!(rt;
+        "dsctl: line {number}, byte {place}: a space was expected, and then {part}; {found} was found"
+    );
+}
+
+/// Writes that a line of another kind of text isn't a command.
+pub(crate) fn say_kind_at(rt: &impl Runtime, number: u64, kind: TextKind) {
+    let _ = eprintln!(rt; "dsctl: line {number}, byte 0: a command was expected; {kind}");
 }
 
 fn expected_of(read: &Result<ScriptCommand, CommandFault>) -> Option<Expected> {

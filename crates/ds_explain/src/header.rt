@@ -1,6 +1,6 @@
 //! Explains the first line of a trace: which part of it is bad.
 
-use crate::bad_part::{say_at, say_found_at};
+use crate::bad_part::{say_at, say_found_at, say_space_at};
 use crate::found::Found;
 use ds_names::limits::{LARGEST_RING, LAST_PLACE};
 use ds_names::{read_byte, read_decimal};
@@ -146,11 +146,7 @@ fn after_front<'a>(rt: &impl Runtime, line: &[u8], numbers: &'a [u8]) -> Option<
 fn after_space<'a>(rt: &impl Runtime, line: &[u8], rest: &'a [u8], name: &str) -> Option<&'a [u8]> {
     let text = read_byte(rest, b' ');
     if text.is_none() {
-        let place = place_of(line, rest);
-        let found = Found(rest);
-        let _ = eprintln!(rt;
-            "dsctl: line 1, byte {place}: a space was expected, and then {name}; {found} was found"
-        );
+        say_space_at(rt, 1, place_of(line, rest), name, rest);
     }
     text
 }

@@ -1,6 +1,6 @@
 //! Explains where a recording or an upgrade ended before its input did.
 
-use crate::bad_part::{say_at, say_found_at};
+use crate::bad_part::{say_at, say_found_at, say_kind_at};
 use crate::header::Formats;
 use crate::kind::TextKind;
 use crate::trace_fault::explain_wrong;
@@ -20,6 +20,10 @@ const ITEM_WANTED: &str =
 
 const ITEM_MISSING: &str = "an item was expected, `+ CHANGE` or `+ FLOOR`";
 
+const ITEM_MISSING_AT_END: &str = "an item was expected, `+ CHANGE` or `+ FLOOR`; the input ended";
+
+const TOO_LONG: &str = "a trace's line has at most 4096 bytes";
+
 const COMMENT: &str = "a command was expected; a comment was found, and commands have none";
 
 const PASS_WANTED: &str =
@@ -38,17 +42,12 @@ pub fn explain_recorded(
         _ => None,
     };
     let Some(text) = first_line(text) else {
-        let _ = eprintln!(rt;
-            "dsctl: line {number}, byte {place}: an item was expected, `+ CHANGE` or `+ FLOOR`; the input ended"
-        );
-        return;
+        return say_at(rt, number, place, ITEM_MISSING_AT_END);
     };
     if place == 0 {
         explain_front(rt, number, text, kind);
     } else if text.len() > LONGEST_LINE + 1 || !explain_line(rt, number, place, text) {
-        let _ = eprintln!(rt;
-            "dsctl: line {number}, byte {place}: a trace's line has at most 4096 bytes"
-        );
+        say_at(rt, number, place, TOO_LONG);
     }
 }
 
@@ -60,8 +59,8 @@ fn explain_front(
     kind: Option<TextKind>,
 ) {
     match kind {
-        Some(kind @ (TextKind::Trace | TextKind::Settings)) => say_kind(rt, kind),
-        Some(kind @ TextKind::Script) if text.starts_with(b"script ") => say_kind(rt, kind),
+        Some(kind @ (TextKind::Trace | TextKind::Settings)) => say_kind_at(rt, 1, kind),
+        Some(kind @ TextKind::Script) if text.starts_with(b"script ") => say_kind_at(rt, 1, kind),
         _ if text.starts_with(b"#") => say_at(rt, number, 0, COMMENT),
         _ if text.starts_with(b"+") => say_found_at(rt, number, 0, ITEM_WANTED, text),
         _ if after_pass(text).is_some() || begins_command(text) => {
@@ -74,10 +73,6 @@ fn explain_front(
             let _ = explain_asked(rt, number, text, 0);
         }
     }
-}
-
-fn say_kind(rt: &impl Runtime, kind: TextKind) {
-    let _ = eprintln!(rt; "dsctl: line 1, byte 0: a command was expected; {kind}");
 }
 
 // Returns the first line of a text, with its newline.
