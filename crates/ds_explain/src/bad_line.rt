@@ -2,11 +2,10 @@
 
 use crate::bad_part::{BadPart, say_at, say_kind_at};
 use crate::found::Found;
-use crate::kind::TextKind;
 use ds_line::{Expected, word_at};
 use ds_script::BadLine;
 use std::rt::Runtime;
-use typed_words::{COMMANDS, Meant, Plain, nearest};
+use typed_text::{COMMANDS, Meant, Plain, TextKind, nearest};
 
 /// How many bytes of a line are shown before the bad place.
 const BEFORE: usize = 48;

@@ -1,7 +1,6 @@
 //! Explains the first bad part of a command, wherever in a line the command begins.
 
 use crate::found::Found;
-use crate::kind::TextKind;
 use crate::stray::stray_at;
 use crate::wanted::{part, wanted};
 use ds_line::Expected;
@@ -10,6 +9,7 @@ use line_io::{LONGEST_LINE, split_line};
 use script_commands::{CommandFault, ScriptCommand, read_line};
 use std::alloc::Global;
 use std::rt::Runtime;
+use typed_text::TextKind;
 
 /// The most bytes of a name.
 const LONGEST_NAME: usize = 64;

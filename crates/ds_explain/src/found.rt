@@ -2,7 +2,7 @@
 
 use crate::stray::BYTE_ORDER_MARK;
 use std::fmt;
-use typed_words::Plain;
+use typed_text::Plain;
 
 /// How many bytes of a word are shown.
 const SHOWN: usize = 28;

@@ -2,7 +2,6 @@
 
 use crate::bad_part::{say_at, say_found_at, say_kind_at};
 use crate::header::Formats;
-use crate::kind::TextKind;
 use crate::trace_fault::explain_wrong;
 use crate::trace_line::{
     begins_command, explain_asked, explain_command, explain_item, is_of_no_store,
@@ -11,6 +10,7 @@ use ds_names::{read_byte, read_decimal};
 use line_io::LONGEST_LINE;
 use std::rt::Runtime;
 use trace_check::{Stands, UpgradeFault, Wanted, WrongLine};
+use typed_text::TextKind;
 
 /// The greatest pass.
 const LAST_PASS: u64 = 63;

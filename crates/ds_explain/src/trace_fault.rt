@@ -2,13 +2,12 @@
 
 use crate::found::Found;
 use crate::header::{Formats, explain_header};
-use crate::kind::TextKind;
 use crate::stray::BYTE_ORDER_MARK;
 use crate::trace_line::{explain_marked, without_newline};
 use std::fmt;
 use std::rt::Runtime;
 use trace_check::{Stands, Wanted, WrongLine};
-use typed_words::Plain;
+use typed_text::{Plain, TextKind};
 
 /// Writes to standard error which line a trace was expected to have, and which it has. For a header, and for a line with the expected
 /// mark of an entry or of an item, it writes which part is bad instead. `kind` is the kind of the whole text, if known; only the

@@ -9,7 +9,7 @@ use line_io::{LONGEST_LINE, split_line};
 use script_commands::{CommandFault, ScriptCommand, read_line};
 use std::rt::Runtime;
 use trace_check::{Stands, Wanted, WrongLine};
-use typed_words::{COMMANDS, Meant, Plain, nearest};
+use typed_text::{COMMANDS, Meant, Plain, nearest};
 
 /// The commands of a store.
 const ASKED: [&str; 12] = [

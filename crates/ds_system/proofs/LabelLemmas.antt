@@ -106,8 +106,8 @@ module _ (held : List Item) (label : List ℕ) (c : ChangeRecord) (there : held_
       cut : CutAt held t None u label
       cut = at_label held labels t rounds u label i f
 
-      behind : Went (table_past held cut.x label) u
-      past = follow_went cut.back (table_past held cut.x label) cut.later None u cut.past
+      later_went : Went (table_past held cut.x label) u
+      later_went = follow_went cut.back (table_past held cut.x label) cut.later None u cut.past
 
       has_then : has_label cut.x.units label ≡ true
       has_then = ap (λ (z : List (ℕ × Driver)). has_label z label) (follows_keep_units held cut.front t cut.x cut.first None cut.before).0 ∙ has
@@ -120,12 +120,12 @@ module _ (held : List Item) (label : List ℕ) (c : ChangeRecord) (there : held_
           ∙ ap (λ (d : ChangeRecord). endpoint_in d.body) (same_some n.change c (sym n.there ∙ there))))
 
       by : Went t cut.x → Skips held cut.x label ⊎ Notes held cut.x label → Settled t u
-      by (inl p) (inl s) = elim (subst (λ (z : DriverTable). Went z u) s.past behind) [
+      by (inl p) (inl s) = elim (subst (λ (z : DriverTable). Went z u) s.past later_went) [
         | inl q ↦ inr (sym (passed_same t cut.x p) ∙ s.why c there has_then, as_twice t cut.x u p q)
         | inr q ↦ inl q.1
       ]
-      by (inr p) (inl s) = from_now t cut.x u p.1 (subst (λ (z : DriverTable). Went z u) s.past behind)
-      by w (inr n) = from_now t (table_past held cut.x label) u (now_then n) behind
+      by (inr p) (inl s) = from_now t cut.x u p.1 (subst (λ (z : DriverTable). Went z u) s.past later_went)
+      by w (inr n) = from_now t (table_past held cut.x label) u (now_then n) later_went
 
 abbrev labels_in : List (ℕ × Driver) → List (List ℕ)
 labels_in units = map (λ (u : ℕ × Driver). u.1.label) units

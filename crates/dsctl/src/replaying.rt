@@ -1,7 +1,7 @@
 //! Answers a script.
 
 use crate::stepped::{LineNumber, Stepped};
-use ds_explain::{Audience, TextKind, explain};
+use ds_explain::{Audience, explain};
 use ds_script::{
     BadLine, BadLines, ReplayFault, Replayed, Report, replay_reporting, replay_without_notes,
 };
@@ -10,6 +10,7 @@ use line_io::Plain;
 use std::io::{self, Read};
 use std::process::ExitCode;
 use std::rt::Runtime;
+use typed_text::TextKind;
 
 // Returns what happens at bad lines: what the command line says, else a script ends there and a terminal continues.
 fn bad_lines(go_on: Option<bool>, terminals: Terminals) -> BadLines {

@@ -1,11 +1,11 @@
 //! Shows a settings text, or its first fault.
 
-use ds_explain::{explain_settings, script_line, write_settings};
 use dsctl_cli::{Failure, Greeting, Input, Terminals, greet};
 use rs_settings::{Settings, SettingsCause, SettingsFault, read};
 use std::io::{self, BufWriter, ErrorKind, Read};
 use std::process::ExitCode;
 use std::rt::Runtime;
+use typed_text::{explain_settings, script_line, write_settings};
 
 /// Parses settings, and prints their services, or them as a line of a script, or their first fault. Nothing is printed
 /// before the whole text is judged.

@@ -2,13 +2,14 @@
 
 use crate::front::WithFront;
 use crate::tail::WithTail;
-use ds_explain::{TextKind, explain_trace, explain_upgrade};
+use ds_explain::{explain_trace, explain_upgrade};
 use dsctl_cli::{Answers, Failure, Greeting, Input, Terminals, Typed, greet};
 use line_io::Plain;
 use std::io;
 use std::process::ExitCode;
 use std::rt::Runtime;
 use trace_check::{Judged, Stands, UpgradeFault, Verdict, Wanted, WrongLine, judge, upgrade};
+use typed_text::TextKind;
 
 /// Judges a trace, and prints the verdict. If the trace isn't legal, standard error gets what was expected in the first
 /// wrong line. Greets a user at a terminal.

@@ -5,7 +5,7 @@ use crate::refusals::all_refusals;
 use crate::rows::{between, word_of_row};
 use std::io;
 use std::rt::Runtime;
-use typed_words::{Meant, Plain, Search};
+use typed_text::{Meant, Plain, Search};
 
 // The texts before the rows of each sort, which must be in the help exactly so, and the text after any of them.
 const LINES_BEGIN: &str = "Lines of a script:\n";

@@ -3,7 +3,7 @@
 use std::fs;
 use std::io::{self, Read};
 use std::rt::Runtime;
-use typed_words::{IfNear, nearest};
+use typed_text::{IfNear, nearest};
 
 /// Standard input, or an open file.
 #[derive(Drop)]

@@ -1,8 +1,8 @@
 //! What a field of settings has.
 
+use crate::shown::Plain;
 use std::fmt;
 use toml::{Table, Value};
-use typed_words::Plain;
 
 /// How many bytes of a text are shown.
 const SHOWN: usize = 64;

@@ -4,9 +4,9 @@ use crate::faults::Faults;
 use crate::field::{is_network, is_server};
 use crate::given::{service_at, service_count, text_in};
 use crate::settings_fault::Document;
+use crate::shown::Plain;
 use ds_names::NoRoom;
 use toml::{Table, Value};
-use typed_words::Plain;
 
 /// Adds what each service shares with one before it: labels, units and names.
 pub(crate) fn add_shared(faults: &mut Faults, document: Document<'_>) -> Result<(), NoRoom> {

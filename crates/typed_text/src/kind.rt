@@ -1,8 +1,8 @@
 //! The kind of a text that was given where another kind is read.
 
+use crate::meant::COMMANDS;
 use ds_names::{is_name_byte, read_decimal};
 use std::fmt;
-use typed_words::COMMANDS;
 
 /// The kinds of texts that `dsctl` reads.
 #[derive(Clone, Copy, Debug, PartialEq, Eq)]
@@ -48,7 +48,7 @@ impl TextKind {
     }
 
     /// Returns the kind of the text that begins with this line, if that can be said.
-    pub(crate) fn of_line(line: &[u8]) -> Option<TextKind> {
+    pub fn of_line(line: &[u8]) -> Option<TextKind> {
         let (word, rest) = word_at(line);
         if word == b"trace".as_slice() && rest.starts_with(b" ") {
             return Some(TextKind::Trace);

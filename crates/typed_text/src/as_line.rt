@@ -1,10 +1,10 @@
 //! Valid settings as a line of a script.
 
 use crate::settings_lines::class_word;
+use crate::shown::Plain;
 use ds_names::NoRoom;
 use rs_settings::{Names, Service, Settings};
 use std::alloc::Global;
-use typed_words::Plain;
 
 /// The number of slots without a field for it.
 const SLOTS: u32 = 64;

@@ -5,13 +5,14 @@ use crate::faults::Faults;
 use crate::field::{OF_SERVICE, fields_known, is_needed, is_valid, wanted_in};
 use crate::given::{Given, service_at, service_count, text_in};
 use crate::kind::{TextKind, is_note};
+use crate::known::{IfNear, nearest};
 use crate::place::{field_line, line_at, service_line};
 use crate::shared::add_shared;
+use crate::shown::Plain;
 use ds_names::NoRoom;
 use std::fmt;
 use std::rt::Runtime;
 use toml::Table;
-use typed_words::{IfNear, Plain, nearest};
 
 /// A settings text, and the document that it is.
 #[derive(Clone, Copy)]

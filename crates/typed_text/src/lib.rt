@@ -1,0 +1,27 @@
+//! Texts that a user typed or wrote: which kind one is of, the known word nearest to a word, and settings, as lines and
+//! with sentences about their faults.
+//!
+//! The reader of settings reports a cause and a service; here the text is searched for the field and its line.
+//! `ds_explain` and `dsctl_cli` use the words, `dsctl` the settings. This project's.
+#![tactic(auto)]
+
+mod as_line;
+mod faults;
+mod field;
+mod given;
+mod kind;
+mod known;
+mod meant;
+mod place;
+mod settings_fault;
+mod settings_lines;
+mod shared;
+mod shown;
+
+pub use as_line::script_line;
+pub use kind::TextKind;
+pub use known::{IfNear, Search, nearest};
+pub use meant::{COMMANDS, Meant};
+pub use settings_fault::explain_settings;
+pub use settings_lines::write_settings;
+pub use shown::Plain;
