@@ -1,4 +1,4 @@
-/* beacon SOCKET: a service for bench/recovery. It sends its number to a datagram socket, and waits to be killed. */
+/* beacon SOCKET: a service for bench/recovery. It sends its pid to a datagram socket, and waits to be killed. */
 #include <stdio.h>
 #include <string.h>
 #include <sys/socket.h>

@@ -1,7 +1,7 @@
 /* calls WHAT COUNT: makes COUNT calls of a kind to a store with 16 drivers, each with its label, a number and 1024 bytes. line-WHAT makes them
  * by lines, told-WHAT also fetches the text of each answer, and bare-WHAT does so for lines without a newline. memory retrieves the bytes.
- * calls.rs and calls.py make the calls that aren't lines. check checks a subscription that was shown everything. beat, start and submit are
- * of RS and of a driver table: heartbeats, at most 64 starts, and requests with their replies. See bench/README.md. */
+ * calls.rs and calls.py make the calls that aren't lines. check checks a subscription that was shown everything. beat, start and submit
+ * call RS and a driver table: heartbeats, at most 64 starts, and requests with their replies. See bench/README.md. */
 #include "ds.h"
 #include <stdio.h>
 #include <stdlib.h>
@@ -40,7 +40,7 @@ static unsigned long called(const struct ds_request *ask) {
     return said.value;
 }
 
-/* The bytes that a driver published, fetched. */
+/* Fetches the bytes that a driver published, and returns the last one. */
 static unsigned long fetched(const struct ds_request *ask) {
     static char room[BYTES];
     struct ds_given given;
@@ -49,7 +49,7 @@ static unsigned long fetched(const struct ds_request *ask) {
     return (unsigned char)room[BYTES - 1];
 }
 
-/* A line without its newline. Numbers of changes begin at 100000, so that they keep their width. */
+/* Returns a line without its newline. Numbers of changes begin at 100000, so that they keep their width. */
 static struct line line_of(const char *what, uint32_t d) {
     struct line it = {.length = 0};
     if (strstr(what, "publish")) {
@@ -62,7 +62,7 @@ static struct line line_of(const char *what, uint32_t d) {
     return it;
 }
 
-/* The next number of the driver's changes. */
+/* Raises the number of the driver's changes by one. */
 static void step(char *digit) {
     while (*digit == '9') *digit-- = '0';
     ++*digit;
@@ -74,7 +74,7 @@ static unsigned long called_by(const struct line *line) {
     return said.value;
 }
 
-/* The text of the last answer. */
+/* Fetches the text of the last answer, and returns its length. */
 static unsigned long told(void) {
     struct ds_given given;
     char room[128];
@@ -82,7 +82,7 @@ static unsigned long told(void) {
     return given.length;
 }
 
-/* Opens RS with 64 services, and starts this many of them. */
+/* Opens RS with 64 services, and starts `count` of them. */
 static int start(unsigned long count) {
     static char settings[64 * 64];
     static struct ds_rs_event ups[64];
@@ -100,7 +100,7 @@ static int start(unsigned long count) {
     return 1;
 }
 
-/* Heartbeats of one instance, each a tick after the last. */
+/* Sends heartbeats of one instance, each a tick after the last. */
 static int beat(unsigned long count) {
     struct ds_answer said;
     struct ds_rs_event event = {.kind = DS_RS_BEAT, .generation = 1, .slot = 16};
@@ -110,7 +110,7 @@ static int beat(unsigned long count) {
     return 1;
 }
 
-/* Requests to one block driver, each answered before the next. */
+/* Submits requests to one block driver, each answered before the next. */
 static int submit(unsigned long count) {
     static const char label[] = "disk label rs 4.0 = 4/16\n";
     struct ds_map drivers = DS_CLOSED;
@@ -127,7 +127,7 @@ static int submit(unsigned long count) {
     return 1;
 }
 
-/* Subscribes to everything from now on, and lets each driver's call be a check, which finds nothing. */
+/* Subscribes to everything from now on, and makes each driver's call a check, which finds nothing. */
 static int subscribe(void) {
     static const char all[] = ".*";
     struct ds_request ask = {.command = DS_SUBSCRIBE, .kinds = 15, .text_length = sizeof all - 1};
@@ -137,7 +137,7 @@ static int subscribe(void) {
     return 1;
 }
 
-/* Opens the store, and writes what its drivers published. */
+/* Opens the store, and publishes what its drivers have. */
 static int prepare(const char *what, int fetches) {
     static const char bytes[BYTES];
     struct ds_answer said;

@@ -1,4 +1,4 @@
-"""calls.py WHAT COUNT: what bench/calls.c does, by the package for Python; all publishes by one call for every 256."""
+"""calls.py WHAT COUNT: does what bench/calls.c does, with the package for Python. all publishes 256 values by each call."""
 import sys
 
 from pengtawis import RS, Endpoint, Store

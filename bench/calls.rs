@@ -1,4 +1,4 @@
-//! `calls WHAT COUNT`: what bench/calls.c does, by the crate for Rust.
+//! `calls WHAT COUNT`: does what bench/calls.c does, with the crate for Rust.
 
 use pengtawis::{Endpoint, Error, Store, Version, RS};
 

@@ -1,7 +1,7 @@
 """A model of a fleet of ten thousand hosts, with costs that were measured. Used by bench/fleet.
 
 Hosts are in groups of GROUP, a stream for each group. READERS more hosts follow every stream. Streams are divided among servers. A server does
-one thing at a time, in the order in which it comes. A host's bridges do so, too.
+one thing at a time, in the order of arrival, and so do a host's bridges.
 """
 import heapq
 import random
@@ -9,17 +9,17 @@ from dataclasses import dataclass
 
 GROUP = 64
 READERS = 10
-OTHERS = GROUP - 1 + READERS  # bridges that get an entry of one
+OTHERS = GROUP - 1 + READERS  # bridges that get the entry of another one
 HOSTS = 10_000
 KEYS = 4096  # a full store
 BATCH = 256  # items of an entry
 CONNECTIONS = 2  # of a bridge
 MAXCLIENTS = 10_000  # a server's, if nothing else is set
-TRIP = 0.0002  # seconds of a question and its answer on the way
+TRIP = 0.0002  # seconds that a question and its answer travel
 PAUSES = (0.025, 1.0)  # seconds before a bridge calls a server again
 BUSY = 0.7  # of a processor, at most
-RECOVERY = 30  # seconds in which a fleet is to be in step after a failover
-SECONDS = 5  # that are simulated
+RECOVERY = 30  # seconds after a failover in which a fleet must be in step
+SECONDS = 5  # of simulated time
 RATES = (0.1, 1, 10)  # changes a second of each host
 
 
@@ -27,7 +27,7 @@ RATES = (0.1, 1, 10)  # changes a second of each host
 class Costs:
     """Seconds of processor time, and bytes."""
 
-    join: float  # of the server, for a bridge that comes
+    join: float  # of the server, for a bridge that connects
     rest: float  # of the server, for a bridge in a second, alone on its stream
     rest_other: float  # and for each other one on the stream
     add: float  # of the server, for an entry of one item
@@ -42,11 +42,11 @@ class Costs:
     memory: float  # of the server, for a bridge
 
     def at_rest(self):
-        """Of the server, for a bridge of a group in a second."""
+        """Returns the server's cost of a resting bridge of a group, in a second."""
         return self.rest + OTHERS * self.rest_other
 
     def change(self):
-        """Of the server, for a change in a group."""
+        """Returns the server's cost of a change in a group."""
         return self.add + OTHERS * self.push
 
     def own_at_rest(self):
@@ -63,20 +63,20 @@ class Costs:
 
 
 class Server:
-    """Does one thing at a time."""
+    """A server, which does one thing at a time."""
 
     def __init__(self):
         self.free_at = self.busy = 0.0
 
     def does(self, time, cost):
-        """When something is done that comes at this time."""
+        """Returns when a request that arrives at this time is done."""
         self.free_at = max(self.free_at, time) + cost
         self.busy += cost
         return self.free_at
 
 
 def at_work(costs, hosts, rate, draw):
-    """How busy a server of so many hosts is, and the times until changes are answered, rising."""
+    """Returns how busy a server of `hosts` hosts is, and the times until changes are answered, sorted."""
     streams = max(1, round(hosts / GROUP))
     bridges = hosts + streams * READERS
     change = costs.change()
@@ -93,7 +93,7 @@ def at_work(costs, hosts, rate, draw):
 
 
 def failover(costs, hosts, draw):
-    """How long after a failover all of a server's hosts are in step. Each reads the snapshot, and tells one entry of what was lost."""
+    """Returns how long after a failover all of a server's hosts are in step. Each reads the snapshot, and sends one entry that was lost."""
     streams = max(1, round(hosts / GROUP))
     batches = KEYS // BATCH
     whole, telling = batches * costs.push_batch, costs.change()
@@ -109,7 +109,7 @@ def failover(costs, hosts, draw):
 
 
 def breaking(costs, rate):
-    """For each limit of one server, or of one host, how many hosts it allows."""
+    """Yields each limit of one server, or of one host, and how many hosts it allows."""
     each = 1 + READERS / GROUP  # bridges for each host
     yield "the server's maxclients", MAXCLIENTS / (CONNECTIONS * each)
     yield "the server's processor", BUSY / (each * costs.at_rest() + rate * costs.change())
@@ -122,7 +122,7 @@ def breaking(costs, rate):
 
 
 def report(costs, seed):
-    """Prints what becomes of HOSTS hosts."""
+    """Prints how a fleet of HOSTS hosts fares."""
     draw = random.Random(seed)
     print(costs)
     for rate in RATES:

@@ -1,6 +1,6 @@
-/* fleet_stores URL STORES BATCHES: one store that is told items, and others, each in a process of its own, that follow it over a
- * stream. It prints items a second by batches of 256, and singly; how long one change takes until the last of the others has it,
- * beside a PING; and how long until all agree behind the last batch. Used by bench/fleet. */
+/* fleet_stores URL STORES BATCHES: one store that merges items, and others, each in a process of its own, that follow it over a
+ * stream. It prints items a second by batches of 256, and singly; how long a change takes to reach the last of the others, beside
+ * a PING; and how long after the last batch all agree. Used by bench/fleet. */
 #include "ds_fleet.h"
 #include <hiredis/hiredis.h>
 #include <poll.h>
@@ -18,7 +18,7 @@
 
 enum { MOST = 64, BATCH = 256, NAMES = 4000, SINGLES = 2000, PINGS = 2000 };
 
-/* What the others say of themselves: how many items took effect in each. */
+/* What the others report: how many items took effect in each. */
 struct board { _Atomic uint64_t position[MOST]; _Atomic int ready, ended; };
 
 static double now(void) {
@@ -41,7 +41,7 @@ static struct ds_fleet *joined(struct ds_handle *store, const char *url) {
     return fleet;
 }
 
-/* A follower steps whenever the bell rings, and says how far it is. */
+/* A follower steps whenever the bell rings, and reports its position. */
 static void follow(struct board *board, int number, const char *url) {
     struct ds_handle store = DS_CLOSED;
     struct ds_fleet *fleet = joined(&store, url);
@@ -81,13 +81,13 @@ static int rising(const void *a, const void *b) {
     return x < y ? -1 : x > y;
 }
 
-/* The middle one of as many times. */
+/* Returns the median of `count` times. */
 static double median(double *times, int count) {
     qsort(times, (size_t)count, sizeof *times, rising);
     return times[count / 2];
 }
 
-/* How long the server takes to answer a command. */
+/* Returns how long the server takes to answer a command. */
 static double asked(int port, const char *command) {
     redisContext *redis = redisConnect("127.0.0.1", port);
     if (!redis || redis->err) fail("no server");
@@ -101,7 +101,7 @@ static double asked(int port, const char *command) {
     return median(took, PINGS);
 }
 
-/* Processor time of this process. */
+/* Returns the processor time of this process. */
 static double spent(void) {
     struct rusage it;
     getrusage(RUSAGE_SELF, &it);
@@ -110,7 +110,7 @@ static double spent(void) {
 
 struct teller { struct ds_handle store; struct ds_fleet *fleet; unsigned seq; uint64_t items; char text[BATCH * 64]; };
 
-/* So many items, each a newer version of one of NAMES. */
+/* Merges `count` items, each a newer version of one of NAMES. */
 static void put(struct teller *it, int count) {
     size_t length = 0;
     for (int i = 0; i < count; i++, it->seq++)
@@ -155,7 +155,7 @@ static void singly(struct teller *it, struct board *board, int others, int port)
            until_seen / ping, entry * 1e6, until_answered / entry, until_seen / entry);
 }
 
-/* Single changes one after the other, each told before the next, while the others follow as they can. */
+/* Makes single changes, each sent before the next, while the others follow as they can. */
 static void in_a_row(struct teller *it, struct board *board, int others) {
     double begun = now();
     for (int i = 0; i < SINGLES; i++) {

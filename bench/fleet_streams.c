@@ -1,12 +1,12 @@
 /* fleet_streams URL STREAMS READERS: streams of one server, each with a store that is changed and READERS that follow it. The stores that are
  * changed are in this process, the others in a second one. Each line of standard input is a phase, and is answered by a line
- * `COUNT SECONDS TELLERS FOLLOWERS MEDIAN`: how many entries were told, in how long, the processor time of both processes, and the time of one
+ * `COUNT SECONDS TELLERS FOLLOWERS MEDIAN`: how many entries were sent, in how long, the processor time of both processes, and the time of one
  * change until it was answered, all in seconds:
  *
  *   rest SECONDS       nothing is changed
  *   singles ROUNDS     in each round one item of each stream
  *   batches ROUNDS     in each round 256 items of each stream, as one entry
- *   alone CHANGES      single items of the first stream, one after the other
+ *   alone CHANGES      single items of the first stream, each after the last one
  *
  * Used by bench/fleet. */
 #include "ds_fleet.h"
@@ -24,7 +24,7 @@
 
 enum { BATCH = 256, NAMES = 4000, LINE = 64, EVENTS = 64, PATIENCE = 60 /* seconds */, MOST_TIMES = 10000 };
 
-/* What the following process says of itself. */
+/* What the process of the followers reports. */
 struct board { _Atomic uint64_t position; _Atomic double spent; _Atomic int is_ready, is_ended; };
 
 struct store { struct ds_handle handle; struct ds_fleet *fleet; unsigned seq; uint64_t position; };
@@ -37,7 +37,7 @@ static double now(void) {
     return (double)it.tv_sec + (double)it.tv_nsec / 1e9;
 }
 
-/* Processor time of this process. */
+/* Returns the processor time of this process. */
 static double spent(void) {
     struct rusage it;
     getrusage(RUSAGE_SELF, &it);
@@ -78,7 +78,7 @@ static void step(struct stores *stores, struct store *store) {
     store->position = state.position;
 }
 
-/* Steps each store whose bell rings within so many milliseconds. */
+/* Steps each store whose bell rings within `patience` milliseconds. */
 static void turn(struct stores *stores, int patience) {
     struct epoll_event events[EVENTS];
     int count = epoll_wait(stores->epoll, events, EVENTS, patience);
@@ -96,7 +96,7 @@ static void follow(struct board *board, const char *url, int streams, int reader
     _exit(0);
 }
 
-/* Changes so many items, each a newer version of one of NAMES, and begins to tell them. */
+/* Changes `count` items, each a newer version of one of NAMES, and begins to send them. */
 static void change(struct store *store, int count) {
     static char text[BATCH * LINE];
     struct ds_answer answer;

@@ -1,4 +1,4 @@
-"""What the time, the memory and the instructions of one run are."""
+"""Measures the time, the memory and the instructions of one run."""
 import os
 import re
 import subprocess
@@ -7,7 +7,7 @@ import time
 
 
 def timed(words, path):
-    """Seconds of processor time of one run of a command."""
+    """Returns the seconds of processor time of one run of a command."""
     with open(path) as given:
         started = subprocess.Popen(words, stdin=given, stdout=subprocess.DEVNULL)
         _, status, used = os.wait4(started.pid, 0)
@@ -18,20 +18,20 @@ def timed(words, path):
 
 
 def held(words, path):
-    """The most memory of one run of a command, in KiB, as the kernel tells it every few milliseconds until the end."""
+    """Returns the most memory of one run of a command, in KiB, as the kernel reports it every few milliseconds."""
     most = 0
     with open(path) as given:
         started = subprocess.Popen(words, stdin=given, stdout=subprocess.DEVNULL)
         while started.poll() is None:
             with open(f"/proc/{started.pid}/status") as status:
-                told = re.search(r"VmHWM:\s+([0-9]+)", status.read())
-            most = max(most, int(told[1])) if told else most
+                found = re.search(r"VmHWM:\s+([0-9]+)", status.read())
+            most = max(most, int(found[1])) if found else most
             time.sleep(0.002)
     return most
 
 
 def instructions(program, path):
-    """The instructions of one run, which no other load on the machine disturbs."""
+    """Returns the instructions of one run, which no other load on the machine disturbs."""
     tool = ["valgrind", "--tool=cachegrind", "--cache-sim=no", "--cachegrind-out-file=/dev/null", program]
     with open(path) as given:
         ran = subprocess.run(tool, stdin=given, stdout=subprocess.DEVNULL, stderr=subprocess.PIPE, text=True, check=True)
@@ -39,6 +39,6 @@ def instructions(program, path):
 
 
 def answers(program, path):
-    """What a program prints for a script."""
+    """Returns what a program prints for a script."""
     with open(path) as given:
         return subprocess.run([program], stdin=given, stdout=subprocess.PIPE, check=True).stdout

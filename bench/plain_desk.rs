@@ -1,7 +1,7 @@
 //! `plain_desk`: a plain, fast, unproved store behind a `Mutex`, to compare a desk over a store with.
 //!
 //! Each line of standard input is `overwrite THREADS CALLS`, as `test_desk` has it: threads that overwrite a label each,
-//! under one subscription; or `load COUNT`: so many loads of an atomic word. The store keeps what is held in an ordered map
+//! under one subscription; or `load COUNT`: COUNT loads of an atomic word. The store keeps what is held in an ordered map
 //! with the subscriptions that each key is under, the floors of owners, the names of endpoints, and the last 256 changes;
 //! notices are bits of 16 atomic words. `rustc -O` builds it.
 use std::collections::{BTreeMap, BTreeSet, VecDeque};
@@ -110,7 +110,7 @@ impl Store {
         Reply::Changed { owed }
     }
 
-    /// A number that depends on all that is kept, so that nothing is left out.
+    /// Returns a number that depends on all that is kept, so that no work is optimized away.
     fn sum(&self) -> u64 {
         let held = self.held.values().map(|it| {
             u64::from(it.endpoint.generation) + u64::from(it.endpoint.slot) + it.unshown as u64

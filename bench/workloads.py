@@ -1,6 +1,6 @@
-"""The workloads of bench/measure: scripts of so many lines, the same bytes each time, most with all that is held at the end.
+"""The workloads of bench/measure: scripts of a number of lines, the same bytes each time. Most show all that is held at the end.
 
-Each yields first what has to be there, and then the lines that are measured.
+Each yields first what must be there, and then the lines that are measured.
 """
 import random
 
@@ -12,38 +12,38 @@ ESCAPED = [{'"': '\\"', "\\": "\\\\"}.get(chr(byte), chr(byte)) for byte in rang
 
 
 def owner(at):
-    """The driver that has the key of this number."""
+    """Returns the driver that has the key with this number."""
     return DRIVERS[at % len(DRIVERS)]
 
 
 def generation(at):
-    """The generation of that driver."""
+    """Returns the generation of that driver."""
     return 3 + at % len(DRIVERS)
 
 
 def endpoint(at):
-    """Its endpoint."""
+    """Returns its endpoint."""
     return f"{generation(at)}/{16 + at % len(DRIVERS)}"
 
 
 def offer(at, seq, value, kind="u32"):
-    """An offer of the entry of this number."""
+    """Returns an offer of the entry with this number."""
     return f"offer {owner(at)}.entry-{at} {kind} {owner(at)} {generation(at)}.{seq} = {value}\n"
 
 
 def publish(mode, at, seq, value, kind="u32"):
-    """Its publication by its driver."""
+    """Returns its publication by its driver."""
     return f"publish {endpoint(at)} {mode} {owner(at)}.entry-{at} {kind} {generation(at)}.{seq} = {value}\n"
 
 
 def drivers():
-    """RS publishes the drivers' labels."""
+    """Yields RS's publications of the drivers' labels."""
     for at, name in enumerate(DRIVERS):
         yield f"publish 0/2 new {name} label {generation(at)}.0 = {endpoint(at)}\n"
 
 
 def rising(lines, chance, line):
-    """So many lines, each of a key by chance, with numbers that rise from 1 on for each key."""
+    """Yields `lines` lines, each of a random key, with numbers that rise from 1 for each key."""
     numbers = [0] * NAMES
     for _ in range(lines):
         at = chance.randrange(NAMES)
@@ -52,17 +52,17 @@ def rising(lines, chance, line):
 
 
 def labels(lines, chance):
-    """Offers of labels with rising generations: all taken."""
+    """Yields offers of labels with rising generations: all taken."""
     yield from rising(lines, chance, lambda at, number: f"offer service-{at} label rs {number}.0 = {number}/{at}\n")
 
 
 def offers_hot(lines, chance):
-    """Offers of numbers with rising versions: all taken."""
+    """Yields offers of numbers with rising versions: all taken."""
     yield from rising(lines, chance, lambda at, number: offer(at, number, chance.getrandbits(32)))
 
 
 def offers_cold(lines, chance):
-    """Offers of which nine in ten are known or stale."""
+    """Yields offers of which nine in ten are known or stale."""
     seqs = [1000] * NAMES
     for at in range(NAMES):
         yield offer(at, 1000, 1000)
@@ -74,7 +74,7 @@ def offers_cold(lines, chance):
 
 
 def publishes(lines, chance):
-    """Overwrites by sixteen live drivers."""
+    """Yields overwrites by sixteen live drivers."""
     yield from drivers()
     for at in range(NAMES):
         yield publish("new", at, 0, 0)
@@ -82,7 +82,7 @@ def publishes(lines, chance):
 
 
 def retrieves(lines, chance):
-    """Questions, of which one in twenty is for a key that isn't there."""
+    """Yields questions, of which one in twenty is for a key that isn't there."""
     for at in range(NAMES):
         yield offer(at, 0, at)
     for _ in range(lines):
@@ -91,7 +91,7 @@ def retrieves(lines, chance):
 
 
 def watch(lines, chance):
-    """Overwrites under 64 subscriptions, each tenth line a check of up to 32 changes by the next of them."""
+    """Yields overwrites under 64 subscriptions. Each tenth line is a check of up to 32 changes by the next subscription."""
     yield from drivers()
     patterns = [".*"] * 4 + [f"{name}\\\\..*" for name in DRIVERS] * 2 + [f"driver-{first}.*" for first in range(1, 10)] * 2
     patterns += [f"{owner(at)}\\\\.entry-{at}" for at in range(0, NAMES, 100)]
@@ -105,7 +105,7 @@ def watch(lines, chance):
 
 
 def long(lines, chance):
-    """Offers, publications and questions of strings of up to 256 bytes and memory of up to 1024."""
+    """Yields offers, publications and questions of strings of up to 256 bytes and memory of up to 1024."""
     yield from drivers()
     seqs = [0] * NAMES
 
@@ -127,7 +127,7 @@ def long(lines, chance):
 
 
 def catchup(lines, chance):
-    """Offers; behind each 64th a reader asks the journal for its last 256 items, and every 1,024th time one reads pages of 256."""
+    """Yields offers. After each 64th a reader queries the journal for its last 256 items; after each 1,024th one reads pages of 256."""
     for at in range(NAMES):
         yield offer(at, 0, 0)
     names = sorted(f"{owner(at)}.entry-{at}" for at in range(NAMES))
@@ -138,11 +138,11 @@ def catchup(lines, chance):
             yield f"since * 1 {NAMES + number - 256} 256\n"
         if number % 1024 == 0:
             yield "page * - 256\n"
-            yield from (f"page * {behind} u32 256\n" for behind in names[255::256])
+            yield from (f"page * {after} u32 256\n" for after in names[255::256])
 
 
 def newkeys(lines, chance):
-    """Offers of new keys, in an order by chance, into an empty store."""
+    """Yields offers of new keys, in random order, into an empty store."""
     keys = list(range(MOST_KEYS))
     chance.shuffle(keys)
     for at in keys[:lines]:
@@ -150,7 +150,7 @@ def newkeys(lines, chance):
 
 
 def churn(lines, chance):
-    """Drivers that come and go: each new generation of a driver is swept of the one before, and publishes entries of new names."""
+    """Yields drivers that come and go. Each new generation of a driver sweeps the last one, and publishes entries of new names."""
     entries = 14  # of a generation, beside its label and its sweep
     for start in range((lines + entries + 1) // (entries + 2)):
         name, slot, epoch = DRIVERS[start % len(DRIVERS)], 16 + start % len(DRIVERS), 3 + start // len(DRIVERS)
@@ -162,7 +162,7 @@ def churn(lines, chance):
 
 
 def resync(lines, chance):
-    """A map that is cleared, and filled by pages of all keys that a store holds."""
+    """Yields a map that is cleared, and filled by pages of all keys that a store holds."""
     names = sorted(f"{owner(at)}.entry-{at}" for at in range(MOST_KEYS))
     for at in range(MOST_KEYS):
         yield offer(at, 0, chance.getrandbits(32))
@@ -187,15 +187,15 @@ ALL = {
     "churn": churn,
     "resync": resync,
 }
-PART = {"watch": 100, "resync": 100}  # a slow workload is measured at one in so many of its lines
-MOST = {"newkeys": MOST_KEYS}  # a workload that ends has at most so many lines
+PART = {"watch": 100, "resync": 100}  # a slow workload has its number of lines divided by this
+MOST = {"newkeys": MOST_KEYS}  # the most lines of a workload that ends
 
 
-# Lines at the end, `all` where none are named. Floors are left out of `show`; a line for each new key would count as the key's.
+# The lines at the end, by default `all`. `show` leaves out floors. For `newkeys`, a line for each new key would count as the key's.
 END = {"churn": "show\n", "newkeys": ""}
 
 
 def script(name, lines):
-    """The lines of a workload, and what is held at the end."""
+    """Yields the lines of a workload, and those that show what is held at the end."""
     yield from ALL[name](lines, random.Random(1))
     yield END.get(name, "all\n")

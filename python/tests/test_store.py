@@ -377,15 +377,19 @@ class Closing(unittest.TestCase):
         """Frees its memory when Python drops it: 500 stores of 200 kB would be 100 MB."""
         program = """if True:
             import resource, pengtawis
-            for _ in range(500):
+            def most_memory():
+                return resource.getrusage(resource.RUSAGE_SELF).ru_maxrss
+            for number in range(550):
+                if number == 50:
+                    before = most_memory()
                 store = pengtawis.Store()
                 store.publish(pengtawis.RS, "eth0", pengtawis.Endpoint(1, 16), (1, 0))
                 for at in range(100):
                     store.publish((1, 16), f"m{at}", bytes(1024), (1, 0))
-            print(resource.getrusage(resource.RUSAGE_SELF).ru_maxrss)"""
+            print(most_memory() - before)"""
         environment = {**os.environ, "PYTHONPATH": str(support.ROOT / "python")}
         ran = subprocess.run([sys.executable, "-c", program], env=environment, capture_output=True, text=True, check=True)
-        self.assertLess(int(ran.stdout), 60000)
+        self.assertLess(int(ran.stdout), 20000)
 
     def test_each_has_another_incarnation(self):
         with Store() as one, Store() as other:

@@ -1,5 +1,5 @@
-/* calls URL NOBODY: the calls of ds_fleet.h, in good order and misused; each line of what it prints is one that calls.out has. NOBODY is
- * an address at which nobody listens. */
+/* calls URL NOBODY: makes the calls of ds_fleet.h, correctly and misused. It prints the lines of calls.out. NOBODY is an address on which
+ * nothing listens. */
 #include "ds_fleet.h"
 #include <errno.h>
 #include <netinet/in.h>
@@ -30,7 +30,7 @@ static void opens(const char *what, struct ds_handle *store, struct ds_fleet_opt
     ds_fleet_close(fleet);
 }
 
-/* The word of a step, and whether it took about as long as it was to. */
+/* Prints the word of a step, and whether it took less or more time than it should. */
 static void steps(const char *what, struct ds_fleet *fleet, unsigned patience) {
     long begun = milliseconds();
     const char *word = ds_fleet_word(ds_fleet_step(fleet, patience));
@@ -75,7 +75,7 @@ static void misuse(struct ds_handle *store, const char *url) {
     ds_fleet_close(NULL);
 }
 
-/* With fewer descriptors than a fleet wants, from none to all but one, errno says why. */
+/* Opens a fleet with too few descriptors, from none to one less than it needs: errno has the reason. */
 static void out_of_descriptors(struct ds_handle *store, const char *url) {
     struct rlimit before, few;
     struct ds_fleet *fleet;
@@ -94,7 +94,7 @@ static void out_of_descriptors(struct ds_handle *store, const char *url) {
     }
 }
 
-/* A server that isn't there, and one that answers nothing: a step takes no longer than it is to. */
+/* Steps with a server that isn't there, and with one that answers nothing, take no longer than they should. */
 static void waits(struct ds_handle *store, const char *nobody) {
     struct sockaddr_in address = {.sin_family = AF_INET, .sin_addr = {htonl(INADDR_LOOPBACK)}};
     socklen_t length = sizeof address;
@@ -113,7 +113,7 @@ static void waits(struct ds_handle *store, const char *nobody) {
     close(mute);
 }
 
-/* Steps when the bell rings, until the other's items are there. */
+/* Steps when the bell rings, until the other store's items are there. */
 static void rung(struct ds_fleet *fleet, struct ds_handle *store, uint64_t wanted) {
     struct pollfd bell = {.fd = ds_fleet_bell(fleet), .events = POLLIN};
     for (int times = 0; times < 100 && held(store) < wanted; times++)
@@ -155,7 +155,7 @@ static void shares(struct ds_handle *one, struct ds_handle *two, const char *url
     printf("the store is open still: %llu held\n", (unsigned long long)held(one));
 }
 
-/* The stream that was shared has no scope of this kind. */
+/* A fleet of another scope than the stream's is refused. */
 static void of_another_scope(struct ds_handle *store, const char *url) {
     struct ds_fleet_options options = {.url = url, .pattern = "a.*", .kinds = DS_U32};
     struct ds_fleet_state state;

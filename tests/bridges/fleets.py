@@ -1,6 +1,6 @@
-"""A redis server, bridges and clients for tests/fleet: how they are started, asked, paused, killed and meddled with.
+"""A redis server, bridges and clients for tests/fleet: how they are started, queried, paused, killed and meddled with.
 
-Each server is a process of its own in a folder of its own, on a free port of the loopback; each bridge is a `dsfleet` with a socket there.
+Each server is a process in a folder of its own, on a free port of the loopback. Each bridge is a `dsfleet` with a socket there.
 """
 import os
 import pathlib
@@ -17,7 +17,7 @@ ROOT = pathlib.Path(__file__).resolve().parent.parent.parent
 PATIENCE = 30  # seconds that anything may take
 TICK = 0.005
 FAULT = re.compile(r"^.*(ERROR: |runtime error|==\d+== ).*$", re.MULTILINE)  # of a sanitizer, or of valgrind
-DOWN_AFTER = 300  # milliseconds after which a Sentinel takes a master for dead
+DOWN_AFTER = 300  # milliseconds after which a Sentinel considers a master dead
 MEMORY = "/dev/shm"  # where a server that syncs each change isn't held up by a disk
 
 
@@ -30,7 +30,7 @@ class Skipped(Exception):
 
 
 def until(so, what, seconds=PATIENCE):
-    """Waits until it is so, and gives that; else it fails with what was waited for."""
+    """Waits until `so` returns something true, and returns that. Otherwise it fails and names what was waited for."""
     end = time.monotonic() + seconds
     while True:
         found = so()
@@ -50,7 +50,7 @@ def build(library, program, *flags, folder=ROOT / "dsfleet"):
 
 
 def build_over(library, program, source, *flags):
-    """Builds a program over the library of a fleet alone."""
+    """Builds a program that uses only the library of a fleet."""
     page = subprocess.run(["rt", "doc"], capture_output=True, text=True, check=True).stdout.split()[0]
     heap = os.environ.get("DS_HEAP") or pathlib.Path(page).parent / "c" / "liblibc_c.a"
     parts = [ROOT / "serve" / "text.c", *(ROOT / "fleet").glob("*.c")]
@@ -66,11 +66,11 @@ def free_port():
 
 
 class Fleet:
-    """A server and the bridges that share it; all of it ends with the `with`."""
+    """A server and the bridges that share it. All of them end with the `with`."""
 
     def __init__(self, words, keep=None, syncs="everysec", host="127.0.0.1", port=None, settings=()):
-        self.words, self.keep, self.syncs = words, keep, syncs  # what a bridge is started by; when the server writes
-        self.host, self.settings = host, settings  # where the server is, and what else it is started by
+        self.words, self.keep, self.syncs = words, keep, syncs  # the command that starts a bridge; when the server syncs its file
+        self.host, self.settings = host, settings  # the server's address, and more of its options
         self.home = tempfile.mkdtemp(prefix="fleet", dir=MEMORY if os.access(MEMORY, os.W_OK) else None)
         self.bridges, self.server, self.port = [], None, port or free_port()
 
@@ -85,7 +85,7 @@ class Fleet:
         shutil.rmtree(self.home)
 
     def end(self):
-        """Ends all bridges by a signal; none may complain, a sanitizer or valgrind within it neither."""
+        """Ends all bridges by a signal, and checks that none failed and no sanitizer or valgrind complained."""
         for bridge in self.bridges:
             status = bridge.end() if bridge.process else 0
             fault = FAULT.search(bridge.said())
@@ -103,7 +103,7 @@ class Fleet:
             self.server = subprocess.Popen(words, stdout=subprocess.DEVNULL, stderr=subprocess.DEVNULL)
             if self.answers():
                 return
-            self.kill_server()  # somebody else has the port by now
+            self.kill_server()  # another process has the port by now
             if not self.bridges:
                 self.port = free_port()
         raise AssertionError("redis-server doesn't start")
@@ -124,17 +124,17 @@ class Fleet:
             self.server = None
 
     def empty_server(self):
-        """The server is killed, and one begins that has nothing of what it had."""
+        """Kills the server, and starts an empty one."""
         self.kill_server()
         shutil.rmtree(f"{self.home}/appendonlydir")
         self.start_server()
 
     def keep_copy(self):
-        """Keeps a copy of all that the server has."""
+        """Keeps a copy of the server's data."""
         shutil.copytree(f"{self.home}/appendonlydir", f"{self.home}/copy")
 
     def restore_copy(self):
-        """The server is killed, and comes back with what it had when the copy was made."""
+        """Kills the server, and starts one with the data of the copy."""
         self.kill_server()
         shutil.rmtree(f"{self.home}/appendonlydir")
         os.rename(f"{self.home}/copy", f"{self.home}/appendonlydir")
@@ -147,30 +147,30 @@ class Fleet:
         self.server.send_signal(signal.SIGCONT)
 
     def ask(self, *words):
-        """Asks the server by hand."""
+        """Sends a command to the server, and returns the answer."""
         with socket.create_connection((self.host, self.port), timeout=PATIENCE) as it:
             return asked(it, *words)
 
     def follow(self, other):
-        """The server becomes a replica of another fleet's, and has all that that one has."""
+        """Makes the server a replica of another fleet's, and waits until it is in step with that one."""
         self.ask("REPLICAOF", other.host, other.port)
         until(self.follows, "the replica is in step with its master")
 
     def follows(self):
-        """Whether the server is a replica that is in step with its master."""
+        """Returns whether the server is a replica that is in step with its master."""
         return b"master_link_status:up" in self.ask("INFO", "replication")
 
     def keeps_all(self):
-        """Whether its file has all that it has: right after a replica got all at once, the file is yet to be written."""
+        """Returns whether the server's file is complete. Right after a replica's full synchronization the file isn't written yet."""
         said = self.ask("INFO", "persistence")
         return b"aof_rewrite_in_progress:0" in said and b"aof_rewrite_scheduled:0" in said
 
     def entries(self):
-        """How many entries the stream has."""
+        """Returns how many entries the stream has."""
         return self.ask("XLEN", "ds:items")
 
     def told(self):
-        """All lines that are in the stream and the snapshot."""
+        """Returns all lines of the stream and the snapshot."""
         lines = []
         for _, fields in self.ask("XRANGE", "ds:items", "-", "+"):
             lines += dict(zip(fields[::2], fields[1::2])).get(b"items", b"").splitlines()
@@ -179,7 +179,7 @@ class Fleet:
     # ---- the bridges ----
 
     def start(self, *options, url=None, wait=True, at=None, named=()):
-        """One more bridge, with a socket of this name, and more in its environment."""
+        """Starts one more bridge. `at` names its socket, and `named` is added to its environment."""
         bridge = Bridge(self, at or f"store{len(self.bridges)}", options, url or f"redis://{self.host}:{self.port}", named)
         self.bridges.append(bridge)
         bridge.start()
@@ -188,7 +188,7 @@ class Fleet:
         return bridge
 
     def agree(self, seconds=PATIENCE):
-        """Waits until all hold the same, and gives that."""
+        """Waits until all hold the same, and returns that."""
         views = until(lambda: (lambda them: them if len(set(map(tuple, them))) == 1 else None)([it.all() for it in self.bridges]), "all hold the same", seconds)
         return views[0]
 
@@ -224,7 +224,7 @@ class Bridge:
             return None
 
     def kill(self):
-        """By SIGKILL."""
+        """Kills it by SIGKILL."""
         if self.process:
             self.process.kill()
             self.process.wait()
@@ -239,14 +239,14 @@ class Bridge:
         self.pauses += 1
 
     def end(self):
-        """By SIGTERM; its status."""
+        """Ends it by SIGTERM, and returns its status."""
         self.process.terminate()
         status = self.process.wait(PATIENCE)
         self.process = None
         return status
 
     def spent(self):
-        """Its seconds of processor time."""
+        """Returns the processor time that it used, in seconds."""
         with open(f"/proc/{self.process.pid}/stat") as stat:
             return sum(map(int, stat.read().rpartition(")")[2].split()[11:13])) / os.sysconf("SC_CLK_TCK")
 
@@ -258,7 +258,7 @@ class Bridge:
         return Client(self.socket)
 
     def ask(self, line):
-        """The lines of an answer."""
+        """Sends a line, and returns the lines of its answer."""
         with self.client() as it:
             return it.ask(line)
 
@@ -269,12 +269,12 @@ class Bridge:
         return line in self.all()
 
     def state(self):
-        """The lines of `state`, each by its first word; of `refused` by the first two."""
-        told = {}
+        """Returns the lines of `state`, each by its first word; those of `refused` by the first two."""
+        found = {}
         for line in self.ask("state"):
             word, _, rest = line.partition(" ")
-            told.update([(f"refused {rest.split()[0]}", rest.split()[1])] if word == "refused" else [(word, rest)])
-        return told
+            found.update([(f"refused {rest.split()[0]}", rest.split()[1])] if word == "refused" else [(word, rest)])
+        return found
 
 
 class Client:
@@ -304,7 +304,7 @@ class Client:
         return self.answer()
 
     def answer(self):
-        """The lines of the next answer."""
+        """Returns the lines of the next answer."""
         while b"\n\n" not in self.rest:
             try:
                 some = self.it.recv(1 << 16)
@@ -317,7 +317,7 @@ class Client:
         return whole.decode("latin1").split("\n")
 
     def has_answer(self, seconds):
-        """Whether an answer begins to come within so long."""
+        """Returns whether an answer begins to arrive within this time."""
         self.it.settimeout(seconds)
         try:
             self.rest += self.it.recv(1 << 16)
@@ -328,8 +328,8 @@ class Client:
 
 
 class Proxy:
-    """Carries what a bridge and the server send each other, but for connections that it swallows: nothing of those is passed on, and
-    neither end hears of it. Connections are counted from 0; a bridge's first one is its teller, its second one its listener."""
+    """Carries what a bridge and the server send each other, except on connections that it swallows. Nothing of those is passed on, and
+    neither end notices. Connections are counted from 0; a bridge's first one is its teller, its second one its listener."""
 
     def __init__(self, port, *swallowed):
         self.port, self.muted, self.listener = port, set(swallowed), socket.create_server(("127.0.0.1", 0))
@@ -337,14 +337,14 @@ class Proxy:
         threading.Thread(target=self.serve, daemon=True).start()
 
     def port_of(self):
-        """Where bridges call it."""
+        """Returns the port on which bridges call it."""
         return self.listener.getsockname()[1]
 
     def url(self):
         return f"redis://127.0.0.1:{self.port_of()}"
 
     def mute(self):
-        """Swallows the listeners of all that is connected."""
+        """Swallows the listeners of all bridges that are connected."""
         self.muted = {it for it in range(self.count) if it % 2}
 
     def cut(self):
@@ -370,7 +370,7 @@ class Proxy:
             pass
 
     def join(self, near):
-        """Connects a bridge to the server, or hangs up where there is none."""
+        """Connects a bridge to the server, or hangs up if there is none."""
         try:
             far = socket.create_connection(("127.0.0.1", self.port))
         except OSError:
@@ -393,7 +393,7 @@ class Proxy:
             it.close()
 
     def passes(self, number, is_answer):
-        """Whether what was sent just now is passed on."""
+        """Returns whether the bytes that were just sent are passed on."""
         return number not in self.muted
 
 
@@ -443,7 +443,7 @@ class Sentinel:
 
 
 class Names:
-    """A name server for the bridges that are started with `named`, whose answer for `fleet.test` is in a file."""
+    """A name server for bridges that are started with `named`. Its answer for `fleet.test` is in a file."""
 
     def __init__(self):
         self.room = tempfile.mkdtemp(prefix="names")  # a library can't be loaded from MEMORY
@@ -453,7 +453,7 @@ class Names:
         self.named = {"LD_PRELOAD": library, "NAMES": self.file, "ASAN_OPTIONS": "verify_asan_link_order=0"}
 
     def answer(self, address):
-        """From now on the name has this address, or these with a space between two; `-`: it has none now; None: nothing is answered."""
+        """Sets the name's addresses, separated by spaces. `-`: it has none now. None: the name server doesn't answer."""
         with open(f"{self.file}.new", "w", encoding="ascii") as file:
             file.write(address or "")
         os.rename(f"{self.file}.new", self.file)
@@ -462,15 +462,15 @@ class Names:
         shutil.rmtree(self.room)
 
 
-# ---- the words of a redis server ----
+# ---- the protocol of a redis server ----
 
 
 class Denied(Exception):
-    """The server's error."""
+    """An error that the server returned."""
 
 
 def asked(connection, *words):
-    """The answer to a command."""
+    """Sends a command, and returns its answer."""
     given = [it if isinstance(it, bytes) else str(it).encode() for it in words]
     connection.sendall(b"*%d\r\n" % len(given) + b"".join(b"$%d\r\n%s\r\n" % (len(it), it) for it in given))
     with connection.makefile("rb") as stream:

@@ -1,17 +1,17 @@
 #!/usr/bin/env python3
-"""tests/bridges/history.py [--bound SECONDS] LOG ..: whether what the clients of bridges were answered has a legal order.
+"""tests/bridges/history.py [--bound SECONDS] LOG ..: checks whether the answers that clients of bridges got have a legal order.
 
-A log has a JSON object a line, with times in seconds of one clock, and `store` and `run` of the bridge that was asked. A change: `text`, its line;
-`asked`; `answered`, or null if no answer came. A read: `client`, which is one connection; `asked`, `answered`; `shown`, the lines of changes and
-floors. A read that is `final` was made after all changes and shows all that its store holds. The rules, of each key:
+Each line of a log is a JSON object, with times in seconds of one clock, and `store` and `run` of the bridge that was called. A change has `text`,
+its line; `asked`, when it was sent; and `answered`, or null if no answer came. A read has `client`, one connection; `asked` and `answered`; and
+`shown`, the lines of changes and floors. A `final` read was made after all changes and shows all that its store holds. The rules for each key:
 
-    invented   a read shows what nobody had asked for by then
-    back       a later read of one client shows an older version
-    forgotten  a read shows an older version than its own store, in the same run, had answered for before
-    late       a read shows an older version than any store had answered for, SECONDS before: 30
+    invented   a read shows a change that no client had sent by then
+    back       a later read of the same client shows an older version
+    forgotten  a read shows an older version than its own store had answered earlier in the same run
+    late       a read shows an older version than some store had answered SECONDS earlier, by default 30
     lost       a final read has neither an answered version, nor a newer one, nor a floor that covers it
 
-Prints the first faults, and a line of counts. Status 1: there is a fault.
+Prints the first faults and a line of counts. The status is 1 if there is a fault.
 """
 import argparse
 import bisect
@@ -24,7 +24,7 @@ SHOWN = 20  # faults that are printed
 
 
 class Rising:
-    """The highest of some versions by a time."""
+    """The highest version at each time."""
 
     def __init__(self, pairs):
         self.times, self.highest = [], []
@@ -33,13 +33,13 @@ class Rising:
             self.highest.append(max(version, self.highest[-1]) if self.highest else version)
 
     def before(self, time):
-        """The highest one of those before a time, or None."""
+        """Returns the highest version before a time, or None."""
         at = bisect.bisect_left(self.times, time)
         return self.highest[at - 1] if at else None
 
 
 def parsed(text):
-    """The key of a change, its owner, and its version; of a floor the owner is the key."""
+    """Returns the key, owner and version of a change. The key of a floor is `!` and its owner."""
     name, kind, *rest = text.split()
     if name == "!":
         return f"! {kind}", kind, (int(rest[0]),)
@@ -47,11 +47,11 @@ def parsed(text):
 
 
 class History:
-    """Changes by their keys, and reads."""
+    """The changes by key, and the reads."""
 
     def __init__(self, events, bound=BOUND):
         self.bound, self.faults, self.reads, self.changes = bound, [], [], 0
-        self.asked, self.newest = {}, {}  # by a line: when; by a key: its newest answered version, and the owner of that
+        self.asked, self.newest = {}, {}  # by line: when it was sent; by key: the newest answered version and its owner
         self.answered, self.own = collections.defaultdict(list), collections.defaultdict(list)
         for event in events:
             if "shown" in event:
@@ -85,7 +85,7 @@ class History:
                 key, _, version = parsed(text)
                 held[key] = version
                 if self.asked.get(text, read["answered"] + 1) > read["answered"]:
-                    self.fault("invented", read, key, f"nobody had asked for {text}")
+                    self.fault("invented", read, key, f"no client had sent {text}")
                 self.compare("back", read, key, version, seen.get((read["client"], key)))
                 self.compare("forgotten", read, key, version, self.highest(self.own, (key, read["store"], read["run"]), read["asked"]))
                 self.compare("late", read, key, version, self.highest(self.answered, key, read["asked"] - self.bound))
@@ -100,13 +100,13 @@ class History:
 
     def compare(self, rule, read, key, version, least):
         if least is not None and version < least:
-            self.fault(rule, read, key, f"{version}, and not {least} or newer")
+            self.fault(rule, read, key, f"{version} instead of {least} or newer")
 
     def judge_final(self, read, held):
         for key, (version, owner) in self.newest.items():
             is_covered = version[0] <= held.get(f"! {owner}", (0,))[0] and key.split()[1] != "label"
             if not is_covered and held.get(key, (0,)) < version:
-                self.fault("lost", read, key, f"{held.get(key)}, and {version} was answered")
+                self.fault("lost", read, key, f"{held.get(key)}, but {version} was answered")
 
 
 def main():

@@ -1,6 +1,6 @@
-/* Stands in front of getaddrinfo: `fleet.test` has the addresses in the file that NAMES names, with a space between two, and is looked up
- * for as long as that file is empty; `-` is the answer that there is none now. Every other name is looked up as ever. Preloaded by
- * tests/bridges/fleets.py. */
+/* Replaces getaddrinfo, preloaded by tests/bridges/fleets.py: `fleet.test` has the addresses, separated by spaces, of the file that the
+ * variable NAMES names. While that file is empty, the lookup waits. `-` is the answer that there is no address now. Every other name is
+ * looked up as usual. */
 #include <dlfcn.h>
 #include <netdb.h>
 #include <stdio.h>

@@ -1,11 +1,11 @@
-"""Who may do what: a socket's mode and groups, endpoints of clients, subscriptions that belong to a client, limits, passwords.
+"""Scenes about rights: a socket's mode and groups, endpoints of clients, subscriptions that belong to a client, limits, passwords.
 scenes.py lists these."""
 import os
 import stat
 import subprocess
 import time
 
-from fleets import PATIENCE, Client, until
+from fleets import PATIENCE, Client, Skipped, until
 from scenes import number, numbers, offer, shows
 
 STRANGER, WRITERS, READERS = 12345, 23456, 34567  # a user and groups that nobody has
@@ -25,16 +25,16 @@ while some := it.recv(1 << 16):
 
 
 def said_as(bridge, group, others, *lines):
-    """The answers to lines of a process that isn't this user's."""
+    """Returns the answers to lines that a process of another user sends, and its status."""
     words = ["python3", "-c", PASSED, bridge.socket, str(STRANGER), str(group), ",".join(map(str, others))]
     ran = subprocess.run(words, input="".join(f"{it}\n" for it in lines), capture_output=True, text=True, timeout=PATIENCE)
     return [it.split("\n") for it in ran.stdout.split("\n\n")[:-1]], ran.returncode
 
 
 def who_may_connect(fleet, draw):
-    """--mode and --group are the socket's; with --readers others read and follow, and only the socket's group changes something."""
+    """--mode and --group apply to the socket. With --readers others may read and follow, and only the socket's group may write."""
     if os.geteuid():
-        return  # only root has other groups
+        raise Skipped("only root has other groups")
     os.chmod(fleet.home, 0o755)
     closed = fleet.start("--mode", "660", "--group", str(WRITERS))
     it = os.stat(closed.socket)
@@ -49,13 +49,13 @@ def who_may_connect(fleet, draw):
     assert answers[4] == ["found 1"] and answers[5][0] == "subscribed 1" and answers[6][0] == number("a", 1, 1), answers
     assert said_as(shared, WRITERS, [STRANGER], *change[:1]) == ([["taken"]], 0)
     assert said_as(shared, STRANGER, [STRANGER, READERS], "retrieve b u32") == ([["found 1"]], 0)
-    assert said_as(shared, STRANGER, [STRANGER], "retrieve b u32")[0] == [], "one of neither group is answered"
-    until(lambda: "event=stranger" in shared.said(), "it is told")
+    assert said_as(shared, STRANGER, [STRANGER], "retrieve b u32")[0] == [], "a user of neither group is answered"
+    until(lambda: "event=stranger" in shared.said(), "it is logged")
     shows(closed, [number("a", 1, 1), number("b", 1, 1)])
 
 
 def an_endpoint_of_a_connection(fleet, draw):
-    """`as ENDPOINT` binds a connection to it, once: then it changes nothing under another one, and offers nothing."""
+    """`as ENDPOINT` binds a connection to an endpoint, once. Then it changes nothing under another one, and offers nothing."""
     bridge = fleet.start()
     with bridge.client() as rs, bridge.client() as driver:
         assert rs.ask("publish 0/2 new eth0 label 3.0 = 3/17") == ["taken"]
@@ -70,7 +70,7 @@ def an_endpoint_of_a_connection(fleet, draw):
 
 
 def subscriptions_end_with_their_client(fleet, draw):
-    """A number belongs to the client that subscribed, until that is gone; `subscribe` without a number gets one that is free."""
+    """A number belongs to the client that subscribed until that client is gone. `subscribe` without a number gets a free one."""
     bridge = fleet.start()
     with bridge.client() as first, bridge.client() as other:
         assert first.ask('subscribe 40 "a.*" 2 first new') == ["subscribed 1"]
@@ -91,7 +91,7 @@ def subscriptions_end_with_their_client(fleet, draw):
 
 
 def limits_of_clients(fleet, draw):
-    """Limits by the names that redis gives them, in `state`; a client that sends nothing is dropped, one that listens isn't."""
+    """`state` shows the limits by redis's names. A client that sends nothing is dropped, and one that listens isn't."""
     bridge = fleet.start("--maxclients", "4", "--timeout", "1", "--client-output-buffer-limit", "20000", "--maxmemory-clients", "100000")
     state = bridge.state()
     names = ("maxclients", "timeout", "client-output-buffer-limit", "maxmemory-clients")
@@ -117,7 +117,7 @@ def limits_of_clients(fleet, draw):
 
 
 def passwords_that_nobody_sees(fleet, draw):
-    """A password comes from a file or the environment; one in a URL is overwritten among the words, and warned of."""
+    """A password comes from a file or the environment. One in a URL is overwritten on the command line, with a warning."""
     fleet.ask("ACL", "SETUSER", "host", "on", ">secret", "~*", "&*", "+@all")
     url, file = f"redis://host:@127.0.0.1:{fleet.port}", f"{fleet.home}/password"
     with open(file, "w", encoding="ascii") as it:

@@ -10,15 +10,15 @@ from fleets import TICK, Gone, Proxy
 SWALLOWED = 0.15  # of all connections
 FOR_GOOD = 0.4  # of those that are swallowed
 LONGEST_STALL = 7  # seconds; a bridge waits five for an answer
-LATEST_STALL = 10  # seconds that a connection is carried before it is swallowed, where it isn't from its start on
-QUICK_NAMES = 200  # of the clients that hang up at once, of each bridge
-DEAF = 20  # clients of each bridge that read nothing, at a time
+LATEST_STALL = 10  # seconds that a connection is carried before it is swallowed, unless it is swallowed from its start
+QUICK_NAMES = 200  # of a bridge's clients that hang up at once
+DEAF = 20  # clients of a bridge that read nothing at a time
 PROBES = ("state", "retrieve host0.n0 u32")
 REST = 0.02  # seconds between two probes
 
 
 class Fate:
-    """When a connection is swallowed, for how long, and which of its directions."""
+    """When a connection is swallowed, for how long, and in which directions."""
 
     def __init__(self, draw):
         self.begins = time.monotonic() + draw.choice((0, draw.uniform(0, LATEST_STALL)))
@@ -28,9 +28,9 @@ class Fate:
 
 
 class Rapids(Proxy):
-    """A proxy that swallows some connections, or their answers alone: for good, or for a while, after which all of it comes late.
+    """A proxy that swallows some connections, or only their answers: for good, or for a while, after which everything arrives late.
 
-    While it is calm, no connection begins to be swallowed; those that are stay so.
+    While it is calm, it swallows no further connection. Those that it swallowed stay so.
     """
 
     def __init__(self, port, seed):
@@ -62,7 +62,7 @@ class Rapids(Proxy):
 
 
 class Rude(threading.Thread):
-    """Clients of a bridge that send changes and hang up at once, or that ask for everything and read nothing."""
+    """Clients of a bridge that send changes and hang up at once, or that request everything and read nothing."""
 
     def __init__(self, bridge, number, seed):
         super().__init__(daemon=True)
@@ -77,7 +77,7 @@ class Rude(threading.Thread):
                 if not self.rests:
                     self.draw.choice((self.hang_up, self.hang_up, self.read_nothing))()
             except OSError:
-                pass  # the bridge is dead, or busy with others who connect
+                pass  # the bridge is dead, or busy with other clients that connect
         while self.deaf:
             self.deaf.pop().it.close()
 
@@ -90,14 +90,14 @@ class Rude(threading.Thread):
             for line in lines:
                 self.events.append({"store": self.bridge.socket, "run": run, "text": line, "asked": time.monotonic(), "answered": None})
                 client.send(f"offer {line}")
-                time.sleep(self.draw.choice((0, self.draw.uniform(0, 0.01))))  # so that some come after one that waits for the server
+                time.sleep(self.draw.choice((0, self.draw.uniform(0, 0.01))))  # so that some arrive after one that waits for the server
         self.hung_up.append((run, lines))
 
     def item(self, seq):
         return f"host{self.number}.quick{seq % QUICK_NAMES} u32 host{self.number}.quick 1.{seq} = {seq % 1000}"
 
     def kept(self):
-        """What was sent to the run of the bridge that lives: all of it has to be there."""
+        """Returns what was sent to the current run of the bridge: all of it must be there."""
         return [line for run, lines in self.hung_up if run == self.bridge.starts for line in lines]
 
     def read_nothing(self):
@@ -109,7 +109,7 @@ class Rude(threading.Thread):
 
 
 class Prober(threading.Thread):
-    """A client that asks all the time; `slowest` is how many seconds an answer took at most. Those of a stopped bridge don't count."""
+    """A client that sends queries all the time. `slowest` is the seconds of the slowest answer; a stopped bridge's don't count."""
 
     def __init__(self, bridge):
         super().__init__(daemon=True)

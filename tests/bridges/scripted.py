@@ -1,4 +1,4 @@
-"""A redis server whose answers a scene may script: a proxy that reads what a bridge asks and what the server answers, question by question."""
+"""A redis server whose answers a scene may script: a proxy that reads each question of a bridge, and the server's answer to it."""
 import collections
 import queue
 import socket
@@ -7,11 +7,11 @@ import threading
 from fleets import Proxy, shut, until
 
 CUT = object()  # instead of an answer: the connection ends
-SWALLOW = object()  # nothing comes, and the connection stays
+SWALLOW = object()  # no answer comes, and the connection stays open
 
 
 class Rule:
-    """The next `times` answers to a question that begins so, or is so as a `whole`, are made by a function of what the server answered."""
+    """Scripts the next `times` answers to questions that begin with `question`, or equal it if `whole`; `made` is as in Scripted.script."""
 
     def __init__(self, question, made, times, whole):
         self.question, self.made, self.left, self.whole = question, made, times, whole
@@ -24,21 +24,21 @@ class Rule:
 
 
 class Scripted(Proxy):
-    """Passes everything on, but for what rules say. `asked` counts questions by their first two words."""
+    """Passes everything on, except the answers that rules script. `asked` counts questions by their first two words."""
 
     def __init__(self, port):
         self.rules, self.asked, self.lock = [], collections.Counter(), threading.RLock()
         super().__init__(port)
 
     def script(self, question, made, times=1, whole=False):
-        """Scripts answers to `question`, the beginning of its words; `made` is bytes, CUT, SWALLOW, or a function from what the server answered."""
+        """Scripts answers to questions that begin with `question`. `made` is bytes, CUT, SWALLOW, or a function of the server's answer."""
         rule = Rule(question, made, times, whole)
         with self.lock:
             self.rules.append(rule)
         return rule
 
     def script_first(self, question, made, times=1):
-        """Scripts answers from now on, whatever other rules say."""
+        """Scripts answers from now on, ahead of all other rules."""
         with self.lock:
             self.rules.insert(0, Rule(question, made, times, False))
 
@@ -86,7 +86,7 @@ class Scripted(Proxy):
             shut(it)
 
     def scripted(self, raw, words):
-        """The answer that the first rule for the question makes. A rule that waits holds up its own connection alone."""
+        """Returns the answer of the first rule for the question, or the server's. A rule that waits holds up only its own connection."""
         with self.lock:
             rule = next((it for it in self.rules if it.concerns(words)), None)
             if rule is None:
@@ -103,7 +103,7 @@ def line_of(stream):
 
 
 def question_of(stream):
-    """A question as it is sent, and its words with a space between two."""
+    """Returns a question's bytes, and its words joined by spaces."""
     raw = line_of(stream)
     words = []
     for _ in range(int(raw[1:])):
@@ -115,7 +115,7 @@ def question_of(stream):
 
 
 def raw_answer(stream):
-    """An answer as it is sent."""
+    """Returns an answer's bytes."""
     raw = line_of(stream)
     if raw[:1] == b"$" and raw[1:3] != b"-1":
         raw += stream.read(int(raw[1:]) + 2)

@@ -1,7 +1,7 @@
 """The tables of fleet/, cell by cell: each state of a part of a bridge meets each event, over a scripted server. scenes.py lists these.
 
 A table has lines ` *   STATE, .. | event | becomes, and does`: a cell for each of the states. A scene names each cell that it walks, and fails if
-the file has another one.
+the file has a cell that isn't walked.
 """
 import contextlib
 import re
@@ -37,7 +37,7 @@ class Walk:
 
 @contextlib.contextmanager
 def walking(fleet, name, *options):
-    """A walk, a scripted server and a bridge of it; at the end the bridge is in step, and all cells were walked."""
+    """Yields a walk, a scripted server and its bridge. At the end the bridge must be in step, and all cells walked."""
     walk, script = Walk(name, fleet), Scripted(fleet.port)
     bridge = fleet.start(*options, url=script.url())
     yield walk, script, bridge
@@ -55,19 +55,19 @@ def connections(bridge):
 
 
 def says(bridge, words, count=1):
-    until(lambda: bridge.said().count(words) >= count, f"it says {words}", 10)
+    until(lambda: bridge.said().count(words) >= count, f"it logs {words}", 10)
 
 
 def reconnects(bridge, work):
-    """The work costs the bridge its connections, and it comes back."""
+    """Checks that the work costs the bridge its connections, and that it reconnects."""
     before = connections(bridge)
     work()
-    until(lambda: connections(bridge) > before, "it connects anew", 15)
+    until(lambda: connections(bridge) > before, "it reconnects", 15)
     in_step(bridge)
 
 
 def told(fleet, *lines):
-    until(lambda: {it.encode() for it in lines} <= set(fleet.told()), "it is told", 10)
+    until(lambda: {it.encode() for it in lines} <= set(fleet.told()), "the stream has it", 10)
 
 
 def states_of_the_server(fleet, draw):
@@ -77,7 +77,7 @@ def states_of_the_server(fleet, draw):
         walk("AWAY | the pause is over, master found")
         walk("CALLED | a meeting answered, as it should")
 
-        nobody = Scripted(fleet.port)  # asked as a Sentinel, it knows no master
+        nobody = Scripted(fleet.port)  # queried as a Sentinel, it knows no master
         nobody.script("SENTINEL", NOTHING, 1000)
         lost = fleet.start(url=nobody.url().replace("redis", "redis-sentinel", 1) + "/ds", wait=False)
         says(lost, "the Sentinel knows no such master")
@@ -91,7 +91,7 @@ def states_of_the_server(fleet, draw):
         script.script("INFO", of_another_run, whole=True)
         reconnects(bridge, script.cut)
         says(bridge, "event=met", 2)
-        assert fleet.entries() == entries, "what is there is told again"
+        assert fleet.entries() == entries, "what is there is sent again"
         walk("CALLED | .. by another server or history")
 
         scope = script.script("EXEC", lambda raw: raw.replace(b"$10\r\neverything", b"$1\r\nx") if raw.startswith(b"*3") else raw, 1 << 30)
@@ -127,7 +127,7 @@ def states_of_the_server(fleet, draw):
             script.script("INFO", answer, whole=True)
             calls = script.count
             reconnects(bridge, script.cut)
-            assert script.count == calls + 4, "the one server there is isn't called again"
+            assert script.count == calls + 4, "the only server isn't called again"
             walk(f"CALLED | {event}")
         script.script("XADD", DEMOTED)
         reconnects(bridge, lambda: offer(bridge, kept.append(next(line)) or kept[-1]))
@@ -154,7 +154,7 @@ def states_of_the_server(fleet, draw):
 
 
 def states_of_the_master(fleet, draw):
-    """Where the master is, by scripted Sentinels."""
+    """Scripted Sentinels and plain addresses lead to the master through each state."""
     walk, script = Walk("master", fleet), Scripted(fleet.port)
     closed = free_port()
 
@@ -240,13 +240,13 @@ def states_of_telling(fleet, draw):
             assert fleet.entries() == entries + 1, "it is added again"
             walk("NEWS | .. an error instead of replicas")
             script.script("WAIT", CUT)
-            until(lambda: fleet.entries() == entries + 2, "the next server is told again", 10)
+            until(lambda: fleet.entries() == entries + 2, "the next server gets it again", 10)
             walk("ADDED | the connection ends")
             script.script("WAIT", b":1\r\n")
             assert client.answer() == ["taken"]
             script.script("WAIT", CUT)
             client.send(f"offer {lines[6]}")
-            until(lambda: fleet.entries() == entries + 4, "the next server is told again", 10)
+            until(lambda: fleet.entries() == entries + 4, "the next server gets it again", 10)
             script.script("WAIT", b":1\r\n", 1 << 30)
             assert client.answer() == ["taken"]
         walk("NEWS | the connection ends")
@@ -283,7 +283,7 @@ def states_of_reading(fleet, draw):
         walk("BEHIND | an error, or out of memory")
 
         def snapshot(front):
-            """Somebody compacts what this bridge hasn't read."""
+            """Compacts entries that this bridge hasn't read."""
             more = numbers(front, 2)
             entry = fleet.ask("XADD", "ds:items", "*", "from", "x", "items", "".join(f"{it}\n" for it in more)).decode()
             fleet.ask("HSET", "ds:snapshot", "at", entry, "items", "".join(f"{it}\n" for it in lines + more))
@@ -291,7 +291,7 @@ def states_of_reading(fleet, draw):
             lines.extend(more)
 
         def gap(front):
-            """It hasn't read what is compacted, and reads past it."""
+            """Lets the bridge read past entries that it hasn't read and that are compacted."""
             bridge.pause()
             add(1, f"{front}.seen")
             snapshot(front)
@@ -305,7 +305,7 @@ def states_of_reading(fleet, draw):
         shows(late := fleet.start(), lines)
         walk("BEHIND | .. and a snapshot that goes further")
         fleet.bridges.remove(late)
-        assert late.end() == 0  # or it would tell again what the other one misses
+        assert late.end() == 0  # or it would send again what the other one misses
         script.script("HMGET ds:snapshot at items", ERROR)
         gap("e")
         shows(bridge, lines)
@@ -353,7 +353,7 @@ def states_of_compacting(fleet, draw):
                 fleet.ask("XADD", "ds:items", "*", "from", "x", "items", more[0] + "\n")
 
         def compacts():
-            """The stream grows, and is compacted, be it late."""
+            """Lets the stream grow, and waits until it is compacted, even if late."""
             before = int(bridge.state()["compactions"])
             grow()
             until(lambda: int(bridge.state()["compactions"]) > before, "the stream is compacted", 10)
@@ -372,7 +372,7 @@ def states_of_compacting(fleet, draw):
             walk(row)
 
         def goes_further(raw):
-            """The snapshot of another one, which has read an entry that this one hasn't."""
+            """Returns the snapshot of another bridge, which has read an entry that this one hasn't."""
             script.script("XINFO STREAM", b"*2\r\n$17\r\nlast-generated-id\r\n$16\r\n99999999999999-5\r\n")
             return b"*3\r\n$16\r\n99999999999999-0\r\n$10\r\neverything\r\n$-1\r\n"
 
@@ -391,7 +391,7 @@ def states_of_compacting(fleet, draw):
         walk("WRITES | the connection ends")
 
         def written_by_another(raw):
-            """Another one writes the snapshot once it is watched."""
+            """Writes the snapshot once it is watched, as another bridge would."""
             fleet.ask("HSET", "ds:snapshot", "other", "1")
             return raw
 
@@ -407,14 +407,14 @@ def states_of_compacting(fleet, draw):
         many = numbers("m", 2 * 4096)
 
         def overfills(raw):
-            """More than two stores hold is read between the question and its answer."""
+            """Lets the bridge read more than two stores hold, between the question and its answer."""
             for at in range(0, len(many), 256):
                 fleet.ask("XADD", "ds:items", "*", "from", "x", "items", "".join(f"{it}\n" for it in many[at : at + 256]))
             says(bridge, "event=overfull")
             return raw
 
         def ended():
-            """How many watches and transactions have ended."""
+            """Returns how many watches and transactions have ended."""
             return script.asked["UNWATCH"] + int(bridge.state()["compactions"])
 
         before, unwatched = ended(), script.asked["UNWATCH"]
@@ -454,7 +454,7 @@ def states_of_comparing(fleet, draw):
         entries = fleet.entries()
         differs = script.script("HGETALL ds:digests", differing(bridge), 4)
         says(bridge, "event=differs")
-        until(lambda: fleet.entries() > entries, "everything is told again", 10)
+        until(lambda: fleet.entries() > entries, "everything is sent again", 10)
         until(differs.is_used, "it is compared", 20)
         walk("any | others differ, and this is the first of its kind")
         in_step(bridge)
@@ -467,12 +467,12 @@ def states_of_comparing(fleet, draw):
 
 
 def of_another_run(raw):
-    """What INFO answers, of a server with another run id."""
+    """Returns the answer to INFO of a server with another run id."""
     return raw.replace(b"run_id:", b"run_id:0", 1).replace(b"\r\nredis_git_sha1:00000000", b"\r\nredis_git_sha1:0000000", 1)
 
 
 def differing(bridge):
-    """The digests of all, and one more that is another one at the same entry, by a beat that rises."""
+    """Returns a function that adds to all digests one that differs at the same entry, with a rising beat."""
     beats = iter(range(1, 1000))
 
     def made(raw):

@@ -1,8 +1,8 @@
-"""Publishers at some bridges, for a while, under kills and meddling; then all stores hold the same, and what the model says.
+"""Publishers work at some bridges for a while, under kills and meddling. Then all stores must hold the same, as the model predicts.
 
-A rough storm has failovers, swallowed connections, bridges of another scope, and clients that hang up or read nothing, too. In a Sentinel's
-storm masters are killed, a Sentinel makes the replica the master, and a change is answered once the replica has it. So nothing is lost, whatever dies
-after that, and whatever the Sentinel of a busy machine takes for dead. It isn't among the kinds that a seed chooses.
+A rough storm also has failovers, swallowed connections, bridges of another scope, and clients that hang up or read nothing. In a Sentinel's
+storm masters are killed, a Sentinel promotes the replica, and a change is answered once the replica has it. So nothing is lost, whatever dies
+after that, and whatever the Sentinel of a busy machine takes for dead. A seed never chooses this kind.
 """
 import collections
 import contextlib
@@ -23,16 +23,16 @@ from model.store import Store
 PLAIN, MEDDLED, ROUGH = KINDS = ("storm", "storm with meddling", "rough storm")  # by the seed
 OF_SENTINEL = "Sentinel's storm"
 BRIDGES = 5
-NAMES = 300  # of each publisher: so many that a change that is lost has none after it
+NAMES = 300  # of each publisher: enough that no later change of the same name hides a lost one
 PACE = 0.25  # seconds between two kills, on average
 REST = 0.002  # seconds that a publisher rests between two rounds of changes, so that the model keeps up
 GRAVE = ("killed", "failovers")
-GRAVE_LEAST = {PLAIN: 10, MEDDLED: 10, ROUGH: 5, OF_SENTINEL: 5}  # how often they happen in all, however slow the machine is
-LIMIT = 5  # seconds that an answer of a bridge that runs may take: a machine may be busy, and a bridge that stands still takes longer
+GRAVE_LEAST = {PLAIN: 10, MEDDLED: 10, ROUGH: 5, OF_SENTINEL: 5}  # how many happen in a run, however slow the machine is
+LIMIT = 5  # seconds that an answer of a running bridge may take: the machine may be busy, and a bridge that hangs takes longer
 REFUSED = 2  # the status of a bridge of another scope
-FOLLOWED = ("--repl-diskless-sync-delay", "0")  # a replica that has nothing gets all at once
+FOLLOWED = ("--repl-diskless-sync-delay", "0")  # an empty replica gets everything immediately
 
-# By hand, as somebody who has the keys.
+# Commands by hand, as a user with the keys may send them.
 HANDS = (
     ["CLIENT", "KILL", "TYPE", "normal"], ["XTRIM", "ds:items", "MAXLEN", 0], ["FLUSHALL"], ["DEL", "ds:items"], ["DEL", "ds:snapshot"], ["DEL", "ds:digests"],
     ["XADD", "ds:items", "*", "from", "x", "items", "junk"], ["XADD", "ds:items", "*", "other", "field"], ["CLIENT", "PAUSE", 150, "WRITE"],
@@ -42,7 +42,7 @@ LOSSES = [it for it in HANDS if it[0] in ("XTRIM", "FLUSHALL", "DEL", "HDEL") or
 
 
 class Reader(threading.Thread):
-    """Reads pages at its bridge, from a key by chance on."""
+    """Reads pages at its bridge, each after a random key."""
 
     clients = itertools.count()
     WINDOW, REST = 20, 0.05  # changes of a page; seconds between two reads
@@ -72,17 +72,17 @@ class Reader(threading.Thread):
 
 
 def read_event(bridge, run, client, asked, lines, **more):
-    """A read of a history."""
+    """Returns the event of a read, for a history."""
     return {"store": bridge.socket, "run": run, "client": client, "asked": asked, "answered": time.monotonic(), "shown": lines, **more}
 
 
 def change_event(bridge, run, item):
-    """A change of a history, that waits for its answer."""
+    """Returns the event of a change that waits for its answer, for a history."""
     return {"store": bridge.socket, "run": run, "text": item, "asked": time.monotonic(), "answered": None}
 
 
 def patient(work):
-    """What it gives, or None where a server hung up: a Sentinel ends the connections to one that it makes a replica."""
+    """Returns the result of `work`, or None if a server hung up: a Sentinel ends the connections to a server that it demotes."""
     try:
         return work()
     except ConnectionError:
@@ -91,15 +91,15 @@ def patient(work):
 
 
 class Lost(AssertionError):
-    """What was answered isn't there."""
+    """A change that was answered isn't there."""
 
 
 class Publisher(threading.Thread):
-    """Puts and ends entries of its own at its bridge; now and then its driver dies, is swept, and comes back in the next generation.
+    """Publishes and deletes entries of its own at its bridge. Now and then its driver dies, is swept, and returns in the next generation.
 
-    Those of odd numbers offer items; those of even ones are RS and a driver with a label, whose commands the store judges. Each connection
-    begins a generation above all that the store holds, and above all that this publisher ever sent: a change without an answer may still
-    take effect, after a failover too, and the store of a bridge that was restarted need not hold it. So a refusal is always a fault.
+    Publishers with odd numbers offer items. Those with even ones act as RS and a driver with a label, whose commands the store judges. Each
+    connection begins a generation above all that the store holds and all that this publisher ever sent: a change without an answer may still
+    take effect, also after a failover, and the store of a restarted bridge need not hold it. So a refusal is always a fault.
     """
 
     def __init__(self, bridge, number, seed):
@@ -117,7 +117,7 @@ class Publisher(threading.Thread):
             self.wrong = wrong
 
     def serve(self):
-        """One connection, until the bridge hangs up or all is over."""
+        """Serves one connection, until the bridge hangs up or the storm ends."""
         try:
             self.run_of_bridge = self.bridge.starts
             with self.bridge.client() as client:
@@ -136,7 +136,7 @@ class Publisher(threading.Thread):
             time.sleep(0.01)
 
     def tell(self, client, drawn):
-        """Sends lines at once, each with the item that it makes."""
+        """Sends lines at once. `drawn` has each line with the item that it makes."""
         events = [change_event(self.bridge, self.run_of_bridge, item) for _, item in drawn]
         self.sent += [item for _, item in drawn]
         self.events += events
@@ -144,7 +144,7 @@ class Publisher(threading.Thread):
         client.send(*(line for line, _ in drawn))
 
     def begin(self, client):
-        """Checks that the store holds all that was answered, and begins a new generation."""
+        """Checks that the store holds every answered change, and begins a new generation."""
         self.waits = []
         said = client.ask("all")
         held = {key_of(line): line for line in said[:-1]}
@@ -154,12 +154,12 @@ class Publisher(threading.Thread):
         floor = generation_of(held.get(f"! {self.owner}"))
         for key, line in newest.items():
             if not covered(line, held.get(key), floor):
-                raise Lost(f"{self.bridge.socket} says {held.get(key)}, floor {floor}, to who was answered {line}")
+                raise Lost(f"{self.bridge.socket} has {held.get(key)}, floor {floor}, but {line} was answered")
         self.generation = max([self.generation, floor, *(generation_of(line) for key, line in held.items() if key.startswith(f"host{self.number}."))])
         self.seqs, self.waiting = {}, self.reborn()
 
     def reborn(self):
-        """The driver comes back; what RS says of it, and that its last generation is swept."""
+        """Begins the driver's next generation. Returns RS's lines about it and about the sweep of the last one, each with its item."""
         before, self.generation, self.seqs = self.generation, self.generation + 1, {}
         floor = f"! {self.owner} {before}"
         if self.number % 2:
@@ -171,7 +171,7 @@ class Publisher(threading.Thread):
         ]
 
     def drawn(self):
-        """The next lines, each with the item that it makes."""
+        """Draws the next lines, each with the item that it makes."""
         if self.waiting:
             lines, self.waiting = self.waiting, []
             return lines
@@ -194,7 +194,7 @@ class Publisher(threading.Thread):
             answer, event = client.answer(), self.waits.pop(0)
             item = event["text"]
             if answer[0] == "refused notfound" and item.endswith(" -"):
-                self.sent.remove(item)  # it ends what is ended
+                self.sent.remove(item)  # it deletes what is deleted already
                 self.events.remove(event)
             elif answer[0] in ("taken", "known") or answer[0].startswith("swept"):
                 self.answered.append(item)
@@ -204,7 +204,7 @@ class Publisher(threading.Thread):
 
 
 def key_of(line):
-    """The key of a change, the owner of a floor with its mark."""
+    """Returns the key of a change, or the `!` and the owner of a floor."""
     return " ".join(line.split()[:2])
 
 
@@ -213,12 +213,12 @@ def version(line):
 
 
 def generation_of(line):
-    """That of a floor or of a change; 0 of none."""
+    """Returns the generation of a floor or a change, or 0 for None."""
     return 0 if line is None else int(line.split()[2]) if line.startswith("!") else version(line)[0]
 
 
 def covered(line, held, floor):
-    """Whether what is held says at least as much as the line."""
+    """Returns whether a floor, or the version that is held, covers the line."""
     if line.startswith("!"):
         return floor >= generation_of(line)
     is_void = line.split()[1] != "label" and generation_of(line) <= floor
@@ -226,7 +226,7 @@ def covered(line, held, floor):
 
 
 class Storm:
-    """What was done in a run."""
+    """One storm, and what was done in it."""
 
     def __init__(self, words, seed, kind=None, bridges=BRIDGES):
         self.words, self.seed, self.count = words, seed, bridges
@@ -239,9 +239,9 @@ class Storm:
         self.publishers, self.readers, self.rude, self.probers, self.master, self.replica, self.rapids = [], [], [], [], None, None, None
 
     def run(self, seconds):
-        """A line of what was done and seen; it raises AssertionError where stores differ, or something is missing."""
-        # A server that is to sync each second may hold its writes back for two, so that one that is killed loses what it answered; those
-        # who live tell that again, but here all die at once, too.
+        """Returns a line about what was done and seen. Raises AssertionError if stores differ, or something is missing."""
+        # A server that syncs each second may hold its writes back for two, and loses answered changes if it is killed. Bridges that
+        # live send these again, but here all may die at once, too.
         with contextlib.ExitStack() as held:
             fleet = self.master = held.enter_context(Fleet(self.words, keep=60, syncs="always", settings=FOLLOWED))
             if self.is_rough or self.kind == OF_SENTINEL:
@@ -265,7 +265,7 @@ class Storm:
             return done
 
     def url(self):
-        """Where bridges look for the server."""
+        """Returns where bridges look for the server."""
         if self.sentinel:
             return f"redis-sentinel://127.0.0.1:{self.sentinel.port}/ds"
         return self.rapids and self.rapids.url()
@@ -286,7 +286,7 @@ class Storm:
     # ---- what happens ----
 
     def strike(self, fleet):
-        """Something bad happens."""
+        """Does something bad."""
         if self.sentinel:
             self.draw.choices((self.kill_bridge, self.pause_bridge, self.fail_over_by_sentinel), (6, 2, 2))[0](fleet)
         elif self.is_rough and self.draw.random() < 0.3:
@@ -340,7 +340,7 @@ class Storm:
             it.start()
 
     def fail_over(self, fleet):
-        """The replica becomes the master, and lacks what the old one answers for until it is left; that one is the replica then."""
+        """Promotes the replica, which lacks what the old master answers until bridges leave it. Then the old master is the replica."""
         self.done["failovers"] += 1
         old, new = self.master, self.replica
         until(new.follows, "the replica is in step with its master")
@@ -359,18 +359,18 @@ class Storm:
         self.master, self.replica = new, old
 
     def find_master(self):
-        """A Sentinel on a busy machine may take a master that lives for dead."""
+        """Swaps master and replica if the Sentinel did: on a busy machine it may take a living master for dead."""
         is_another = self.sentinel and self.sentinel.master_port() == self.replica.port
         if is_another:
             self.master, self.replica = self.replica, self.master
 
     def may_fail_over(self):
-        """Whether the Sentinel knows a replica that has what the master has."""
+        """Returns whether the Sentinel knows a replica that has all that the master has."""
         self.find_master()
         return self.sentinel.knows_replica() and self.replica.follows()
 
     def fail_over_by_sentinel(self, fleet):
-        """The master is killed, and comes back as a replica of the one that the Sentinel chose."""
+        """Kills the master, which returns as a replica of the server that the Sentinel chooses."""
         self.done["failovers"] += 1
         until(lambda: patient(self.may_fail_over), "the Sentinel knows a replica in step", 60)
         old, new = self.master, self.replica
@@ -383,7 +383,7 @@ class Storm:
         self.master, self.replica = new, old
 
     def meet_stranger(self, fleet):
-        """A bridge of another scope is refused. Where the stream's scope was lost, it would be the first one that writes it."""
+        """Checks that a bridge of another scope is refused. If the stream's scope is lost, this bridge would write its own."""
         self.done["strangers refused"] += 1
         if self.is_fragile:
             self.heal(fleet)
@@ -402,13 +402,13 @@ class Storm:
         self.rapids.cut()
 
     def become_fragile(self, fleet):
-        """Before something is lost, somebody has to hold it."""
+        """Waits until all bridges serve: a bridge must hold what the server is about to lose."""
         self.is_fragile = True
         for it in fleet.bridges:
             it.serves()
 
     def heal(self, fleet):
-        """Where the server lost what it had, those who live have to tell it again before one of them dies."""
+        """Lets living bridges send what the server lost again, before one of them dies."""
         self.rest(True)
         for bridge in fleet.bridges:
             bridge.serves()
@@ -423,7 +423,7 @@ class Storm:
             self.rapids.calm = rests
 
     def whole(self, fleet):
-        """Waits until all hold the same, and the server has all of it, and the scope; what they hold."""
+        """Waits until all hold the same, and the server has all of it and the scope. Returns what they hold."""
 
         def seen():
             self.find_master()
@@ -433,7 +433,7 @@ class Storm:
         until(lambda: patient(lambda: self.master.ask("HGET", "ds:snapshot", "scope")), "the server has the scope again", 10)
         return until(lambda: patient(seen), "the server has all again", 10)
 
-    # ---- what came of it ----
+    # ---- the result ----
 
     def judged(self, fleet):
         self.rest(True)
@@ -443,7 +443,7 @@ class Storm:
         for it in clients:
             it.join(60)
             if it.is_alive():
-                raise AssertionError(f"a client of {it.bridge.socket} waits for an answer for ever")
+                raise AssertionError(f"a client of {it.bridge.socket} waits forever for an answer")
         for it in self.publishers:
             if it.wrong:
                 raise it.wrong
@@ -460,7 +460,7 @@ class Storm:
         return f"{changes}, {self.report()}; all agree {took:.2f} s after the last"
 
     def judge_history(self, fleet):
-        """What each client asked and was answered has a legal order."""
+        """Checks that what each client sent and got has a legal order."""
         events = [event for it in (*self.publishers, *self.readers, *self.rude) for event in it.events]
         for bridge in fleet.bridges:
             asked = time.monotonic()
@@ -473,7 +473,7 @@ class Storm:
         assert not faults, f"{len(faults)} faults of the history: {faults[:5]}"
 
     def report(self):
-        """What was done, and how long an answer took at most."""
+        """Returns what was done, and how long the slowest answer took."""
         for it in self.probers:
             it.ended = True
             it.join(60)
@@ -490,15 +490,15 @@ class Storm:
         return ", ".join([*done, asked])
 
     def compare(self, view, sent, answered):
-        """What is held is what the model says of all that was answered, and of what was sent and seen there."""
-        said = set(view)
+        """Checks that the stores hold what the model makes of all answered changes, and of those unanswered ones that are there."""
+        held = set(view)
         unanswered = set(sent) - set(answered)
         store = Store()
-        for line in answered + [it for it in unanswered if it in said]:
+        for line in answered + [it for it in unanswered if it in held]:
             store.offer(reader.item(line.encode()))
         wanted = [it.decode() for it in store.all()]
-        missing = [it for it in wanted if it not in said]
+        missing = [it for it in wanted if it not in held]
         if missing:
             raise Lost(f"missing at the end: {missing[:5]}")
         if wanted != view:
-            raise AssertionError(f"held, and not by the model: {[it for it in view if it not in set(wanted)][:5]}")
+            raise AssertionError(f"held, but not by the model: {[it for it in view if it not in set(wanted)][:5]}")

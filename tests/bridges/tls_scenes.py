@@ -14,7 +14,7 @@ KEY = ("-newkey", "ec", "-pkeyopt", "ec_paramgen_curve:P-256", "-nodes", "-days"
 
 
 def needed(**programs):
-    """These programs, each with its package of Debian, and a redis that speaks TLS."""
+    """Skips the scene if one of these programs, each with its package of Debian, or a redis that speaks TLS is missing."""
     for program, package in {**programs, "openssl": "openssl"}.items():
         if not shutil.which(program):
             raise Skipped(f"{program} is missing: Debian: {package}")
@@ -23,7 +23,7 @@ def needed(**programs):
 
 
 def certify(home):
-    """A CA, and the keys and certificates of the server and of a host."""
+    """Makes a CA, and the keys and certificates of the server and of a host."""
 
     def openssl(name, *words):
         words = ["openssl", "req", "-x509", *KEY, "-subj", f"/CN={name}", *words, "-keyout", f"{home}/{name}.key", "-out", f"{home}/{name}.pem"]
@@ -35,13 +35,13 @@ def certify(home):
 
 
 def settings_of(home, port):
-    """What a server is started by that speaks TLS, too, and wants to see a certificate."""
+    """Returns the options of a server that also speaks TLS, and demands a certificate."""
     files = {"cert": f"{NAME}.pem", "key": f"{NAME}.key", "ca-cert": "ca.pem"}
     return ("--tls-port", str(port), *(word for it, file in files.items() for word in (f"--tls-{it}-file", f"{home}/{file}")))
 
 
 class Tunnel:
-    """An stunnel by the page's lines, at a socket of its own."""
+    """An stunnel with the page's lines, on a socket of its own."""
 
     def __init__(self, home, port, name=NAME):
         lines = re.search(r"^    client = yes\n(?:    .*\n|\n)+", (ROOT / "docs" / "reference" / "fleet.md").read_text(), re.MULTILINE)[0]
@@ -66,7 +66,7 @@ class Tunnel:
 
 
 def a_tunnel_of_tls(fleet, draw):
-    """A bridge serves through a tunnel, and goes on when that comes back; a server by another name isn't called."""
+    """A bridge serves through a tunnel, and continues when the tunnel returns. A server of another name isn't used."""
     needed(stunnel="stunnel4")
     certify(fleet.home)
     port = free_port()
@@ -84,7 +84,7 @@ def a_tunnel_of_tls(fleet, draw):
         shows(far, lines)
         with contextlib.closing(Tunnel(fleet.home, port, "other.example.org")) as other:
             lost = server.start(url=other.url(), wait=False)
-            until(lambda: lost.said().count("event=away") and "event=met" not in lost.said(), "a server by another name is not called")
+            until(lambda: lost.said().count("event=away") and "event=met" not in lost.said(), "a server of another name isn't used")
             server.bridges.remove(lost)
             lost.kill()
         server.end()
@@ -116,8 +116,8 @@ def needed_by_bridges(fleet):
 
 
 def tls_of_a_bridge(fleet, draw):
-    """A bridge speaks TLS, by an address and by a name: long texts, a server that comes back, a connection of small pieces. What can't be
-    trusted, is for another name, or wants to see a certificate, isn't served, with the reason; files that can't be used are refused."""
+    """A bridge speaks TLS, by address and by name: with long texts, a restarted server, a connection of small pieces. It doesn't serve, and
+    logs why, if a certificate can't be trusted, is for another name, or is missing. Files that can't be used are refused."""
     needed_by_bridges(fleet)
     certify(fleet.home)
     port, home, names = free_port(), fleet.home, Names()
@@ -145,7 +145,7 @@ def tls_of_a_bridge(fleet, draw):
             (files, f"rediss://fleet.test:{port}", "ostname mismatch"),
         ):
             lost = server.start(*options, url=address, wait=False, at="lost", named=names.named)
-            until(lambda: re.search(why, lost.said()), f"it says {why}")
+            until(lambda: re.search(why, lost.said()), f"it logs {why}")
             assert "event=met" not in lost.said() and not os.path.exists(lost.socket), lost.said()
             server.bridges.remove(lost)
             assert lost.end() == 0
@@ -153,13 +153,13 @@ def tls_of_a_bridge(fleet, draw):
         for options in (("--cacert", f"{home}/none"), ("--cert", f"{home}/host.pem"), ("--cert", f"{home}/host.pem", "--key", f"{home}/ca.key")):
             refused = ran(fleet, *options, f"{home}/s", url)
             assert refused.returncode == 2 and "event=badtls" in refused.stderr and "TLS: " in refused.stderr, refused
-        assert ran(fleet, *files, f"{home}/s", f"redis://127.0.0.1:{server.port}").returncode == 2, "files without TLS are passed over"
+        assert ran(fleet, *files, f"{home}/s", f"redis://127.0.0.1:{server.port}").returncode == 2, "files without TLS are ignored"
         server.end()
     names.close()
 
 
 def a_server_that_shakes_no_hands(fleet, draw):
-    """One that says nothing where TLS begins is given up after some seconds, which cost no processor time."""
+    """A server that doesn't answer the TLS handshake is given up after some seconds, which cost no processor time."""
     needed_by_bridges(fleet)
     with contextlib.closing(Proxy(fleet.port, *range(99))) as proxy:
         bridge = fleet.start(url=proxy.url().replace("redis:", "rediss:"), wait=False)

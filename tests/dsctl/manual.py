@@ -1,4 +1,4 @@
-"""The manual page and the completions, made from what the program says of itself."""
+"""The manual page and the completions, made from the program's help."""
 import os
 import pathlib
 import re
@@ -8,12 +8,12 @@ from typing import List, Tuple
 
 ROOT = pathlib.Path(__file__).resolve().parents[2]
 MADE = "made by tests/dsctl/manual from the program's help"
-NO_MORE = "'*:no other argument, options begin with -: '"  # what zsh shows in place of the options where no dash is typed
-HELP = "help"  # the command whose words are those of the others
+NO_MORE = "'*:no other argument, options begin with -: '"  # what zsh shows instead of the options if no dash is typed
+HELP = "help"  # the command whose words are the names of the others
 TABBED = '"%s\\t%s\\n"'  # how fish prints each word and its text
-MANY = 16  # numbers of an option, from which on they aren't offered one by one
-EXAMPLES = ("Example session", "Two replicas", "A driver that dies")  # how the paragraphs begin that show something
-OF_LINES = "new over first later label u32 str mem file net block character up down refresh help quit exit".split()  # beside the first words
+MANY = 16  # numbers of an option that span this many aren't offered one by one
+EXAMPLES = ("Example session", "Two replicas", "A driver that dies")  # how the paragraphs with examples begin
+OF_LINES = "new over first later label u32 str mem file net block character up down refresh help quit exit".split()  # beside the first words of lines
 AT_A_TERMINAL = [
     "\\(haC ends \\fBdsctl\\fR, and with it the stores. \\fBdsctl\\-prompt\\fR takes the same words and starts \\fBdsctl\\fR so that \\(haC takes back the",
     "line that is typed, and the session stays. With \\fBrlwrap\\fR(1) installed it has history, editing, and words at the Tab key, too.",
@@ -28,7 +28,7 @@ ESCAPES = {"\\": "\\e", "-": "\\-", "`": "\\(ga", "'": "\\(aq", "^": "\\(ha", "~
 
 @dataclass
 class Help:
-    """What `--help` says, in its parts."""
+    """The parts of what `--help` prints."""
 
     about: str  # before the usage
     usage: str
@@ -39,21 +39,21 @@ class Help:
 
 
 def said(program, *words):
-    """What the program prints."""
+    """Returns what the program prints."""
     return subprocess.run([program, *words], stdin=subprocess.DEVNULL, capture_output=True, check=True).stdout.decode()
 
 
 def read_help(text):
-    """Takes a help apart."""
-    about, usage, behind = re.fullmatch(r"(.*?)\n*^Usage: (.*?)$\n*(.*)", text, re.DOTALL | re.MULTILINE).groups()
-    commands, behind = section("Commands", behind)
-    arguments, behind = section("Arguments", behind)
-    options, behind = section("Options", behind)
-    return Help(about.strip("\n"), usage, commands, arguments, options, behind.strip("\n"))
+    """Splits a help into its parts."""
+    about, usage, rest = re.fullmatch(r"(.*?)\n*^Usage: (.*?)$\n*(.*)", text, re.DOTALL | re.MULTILINE).groups()
+    commands, rest = section("Commands", rest)
+    arguments, rest = section("Arguments", rest)
+    options, rest = section("Options", rest)
+    return Help(about.strip("\n"), usage, commands, arguments, options, rest.strip("\n"))
 
 
 def section(title, text):
-    """The rows below a title, if the text begins with it, and what follows them."""
+    """Returns the rows below a title, if the text begins with it, and what follows them."""
     if not text.startswith(f"{title}:\n"):
         return [], text
     rows, at = [], 1
@@ -63,20 +63,20 @@ def section(title, text):
         if row:
             rows.append((row[1], row[2] or ""))
         elif lines[at].strip():
-            word, told = rows.pop()
-            rows.append((word, f"{told} {lines[at].strip()}".strip()))
+            word, about = rows.pop()
+            rows.append((word, f"{about} {lines[at].strip()}".strip()))
         at += 1
     return rows, "\n".join(lines[at:])
 
 
 def shown(text):
-    """Text for the manual's language."""
+    """Returns a text in the manual's language."""
     escaped = "".join(ESCAPES.get(it, it) for it in text)
     return "\\&" + escaped if escaped.startswith(".") else escaped
 
 
 def paragraphs(text):
-    """The lines of a text: indented rows are shown unchanged, from the margin on, since they are as wide as a terminal."""
+    """Returns the lines of a text. Indented rows are shown unchanged, from the margin on, since they are as wide as a terminal."""
     lines, plain = [], False
     for line in text.split("\n"):
         row = line.startswith("  ")
@@ -90,7 +90,7 @@ def paragraphs(text):
 
 
 def blocks(text):
-    """The paragraphs of a text, by whether they are shown among the examples, the statuses or elsewhere."""
+    """Returns the paragraphs of a text, by whether they are shown among the examples, the statuses or elsewhere."""
     found = {"EXAMPLES": [], "EXIT STATUS": [], "": []}
     for block in text.split("\n\n"):
         if block.startswith(EXAMPLES):
@@ -103,12 +103,12 @@ def blocks(text):
 
 
 def entries(rows):
-    """A tagged paragraph for each row."""
-    return [line for word, told in rows for line in (".TP", f"\\fB{shown(word)}\\fR", shown(told))]
+    """Returns a tagged paragraph for each row."""
+    return [line for word, about in rows for line in (".TP", f"\\fB{shown(word)}\\fR", shown(about))]
 
 
 def manual(version, whole, parts):
-    """The manual page."""
+    """Returns the manual page."""
     short = whole["short"].about.split("\n")[0]
     help_ = whole["long"]
     lines = [f'.\\" {MADE}', f'.TH DSCTL 1 "" "{version}" "User Commands"', ".SH NAME", shown(f"dsctl - {short[0].lower()}{short[1:]}"), ".SH SYNOPSIS"]
@@ -128,26 +128,26 @@ def manual(version, whole, parts):
 
 
 def words_of(rows):
-    """The single words of options, without the values after them."""
+    """Returns the single words of options, without the values after them."""
     return [word.split()[0] for names, _ in rows for word in names.split(", ")]
 
 
 def numbers_of(rows):
-    """The values of each option's number, by the option: those that its text names, if they are few."""
-    return {word.split()[0]: few(told) for names, told in rows for word in names.split(", ") if " " in word}
+    """Returns the numbers that each option takes, by the option: those that its text names, if they are few."""
+    return {word.split()[0]: few(about) for names, about in rows for word in names.split(", ") if " " in word}
 
 
-def few(told):
-    """The numbers that a text names, as `1 or 2` or `1 to 8`; none where they are many."""
-    each = re.match(r"(\d+) or (\d+)\b", told)
+def few(about):
+    """Returns the numbers that a text names, as `1 or 2` or `1 to 8`; none if they are many."""
+    each = re.match(r"(\d+) or (\d+)\b", about)
     if each:
         return list(each.groups())
-    first, last = map(int, re.search(r"\b(\d+) to (\d+)\b", told).groups())
+    first, last = map(int, re.search(r"\b(\d+) to (\d+)\b", about).groups())
     return [str(it) for it in range(first, last + 1)] if last - first < MANY else []
 
 
 def bash(whole, parts):
-    """Completions for bash."""
+    """Returns the completions for bash."""
     options = {name: " ".join(words_of(it.options)) for name, (it, _) in parts.items()}
     options |= {HELP: " ".join(parts)}
     commands = "|".join(options)
@@ -197,30 +197,30 @@ complete -o default -F _dsctl dsctl
 
 
 def quoted_for_zsh(text):
-    """A text in quotes for zsh, which has no escape within them: the quotes end before an apostrophe."""
+    """Returns a text in quotes for zsh, which has no escape within them: the quotes end before an apostrophe."""
     return "'" + text.replace("'", "'\\''") + "'"
 
 
 def quoted_for_fish(text):
-    """A text in quotes for fish."""
+    """Returns a text in quotes for fish."""
     return "'" + text.replace("\\", "\\\\").replace("'", "\\'") + "'"
 
 
 def zsh(whole, parts):
-    """Completions for zsh."""
+    """Returns the completions for zsh."""
 
-    def argument(word, told, numbers):
+    def argument(word, about, numbers):
         option, _, value = word.partition(" ")
-        told = told.replace("[", "(").replace("]", ")").replace(":", "\\:")
+        about = about.replace("[", "(").replace("]", ")").replace(":", "\\:")
         few = numbers.get(option)
-        return quoted_for_zsh(f"{option}[{told}]" + (f":number:({' '.join(few)})" if few else ":number: " if value else ""))
+        return quoted_for_zsh(f"{option}[{about}]" + (f":number:({' '.join(few)})" if few else ":number: " if value else ""))
 
-    def arguments(told):
-        numbers = numbers_of(told.options)
-        options = [argument(word, about, numbers) for names, about in told.options for word in names.split(", ")]
-        return " ".join(options + ["'1:file:_files'"] * bool(told.arguments) + [NO_MORE])
+    def arguments(help_):
+        numbers = numbers_of(help_.options)
+        options = [argument(word, about, numbers) for names, about in help_.options for word in names.split(", ")]
+        return " ".join(options + ["'1:file:_files'"] * bool(help_.arguments) + [NO_MORE])
 
-    commands = " ".join(quoted_for_zsh(f"{name}:{told}") for name, told in whole["long"].commands)
+    commands = " ".join(quoted_for_zsh(f"{name}:{about}") for name, about in whole["long"].commands)
     cases = "".join(f"        {name}) _arguments {arguments(it)} ;;\n" for name, (it, _) in parts.items())
     return f"""#compdef dsctl
 # Completions for zsh, {MADE}.
@@ -246,21 +246,21 @@ fi
 
 
 def fish(whole, parts):
-    """Completions for fish."""
+    """Returns the completions for fish."""
 
-    def option(condition, names, told, numbers):
+    def option(condition, names, about, numbers):
         words = [it.partition(" ") for it in names.split(", ")]
         flags = " ".join(f"-l {it[2:]}" if it.startswith("--") else f"-s {it[1:]}" for it, _, _ in words)
         few = next((numbers[it] for it, _, value in words if value), None)
         valued = "" if few is None else " -x" + f" -a '{' '.join(few)}'" * bool(few)
-        return f"complete -c dsctl -n {condition} {flags}{valued} -d {quoted_for_fish(told)}"
+        return f"complete -c dsctl -n {condition} {flags}{valued} -d {quoted_for_fish(about)}"
 
     def options(condition, rows):
         numbers = numbers_of(rows)
         return [option(condition, *row, numbers) for row in rows]
 
     lines = [f"# Completions for fish, {MADE}.", "complete -c dsctl -f"]
-    described = " ".join(f"{name} {quoted_for_fish(told)}" for name, told in whole["long"].commands)
+    described = " ".join(f"{name} {quoted_for_fish(about)}" for name, about in whole["long"].commands)
     first = f"(printf {TABBED} {described}; __fish_complete_path (commandline -ct))"  # in this order: -F would sort files to the front
     lines.append(f"complete -c dsctl -n __fish_use_subcommand -k -a {quoted_for_fish(first)}")
     lines += options("__fish_use_subcommand", whole["long"].options)
@@ -268,24 +268,24 @@ def fish(whole, parts):
     lines.append(f"complete -c dsctl -n '__fish_seen_subcommand_from {' '.join(reading)}' -F")
     for name, (it, _) in parts.items():
         lines += options(f"'__fish_seen_subcommand_from {name}'", it.options)
-    described = " ".join(f"{name} {quoted_for_fish(told)}" for name, told in whole["long"].commands if name != HELP)
+    described = " ".join(f"{name} {quoted_for_fish(about)}" for name, about in whole["long"].commands if name != HELP)
     lines.append(f"complete -c dsctl -n '__fish_seen_subcommand_from {HELP}' -k -a {quoted_for_fish(f'(printf {TABBED} {described})')}")
     return "\n".join(lines) + "\n"
 
 
 def words(whole):
-    """The words of a script's lines, of the prompt, and those that help explains in small letters, for rlwrap."""
+    """Returns the words of a script's lines, of the prompt, and those that help explains in lower case, for rlwrap."""
     help_ = whole["long"]
     lines = help_.about.partition("Lines of a script:\n")[2].partition("\n\n")[0]
     commands = re.findall(r"^  (\w+)", lines, re.MULTILINE)
     refusals = re.findall(r"^  (\w+) {2,}", help_.rest.partition("Words after `refused`")[2].partition("Exit status:")[0], re.MULTILINE)
-    told = [help_.about.partition(it)[2].partition("\n\n")[0] for it in ("Answers:\n", "Parts of lines and answers:\n")]
-    explained = re.findall(r"^  ([a-z]+)", "\n".join(told), re.MULTILINE)
+    texts = [help_.about.partition(it)[2].partition("\n\n")[0] for it in ("Answers:\n", "Parts of lines and answers:\n")]
+    explained = re.findall(r"^  ([a-z]+)", "\n".join(texts), re.MULTILINE)
     return "".join(f"{it}\n" for it in sorted({*commands, *refusals, *explained, *OF_LINES}))
 
 
 def made(program):
-    """The texts that the program's help makes, by their paths."""
+    """Returns the texts that are made from the program's help, by their paths."""
     program = os.path.abspath(program)
     whole = {"short": read_help(said(program, "-h")), "long": read_help(said(program, "--help"))}
     names = [name for name, _ in whole["long"].commands if name != HELP]

@@ -31,7 +31,7 @@ class Orderly(Script):
         self.expect(not stops, f"orderly deliveries are {stops[:1]}")
 
     def step(self):
-        """One line of anybody's."""
+        """Asks one line, of RS, a driver or another caller."""
         chance = self.chance
         drawn = chance.random()
         if drawn < 0.4:
@@ -43,20 +43,20 @@ class Orderly(Script):
         self.ask(line)
 
     def start(self):
-        """RS starts a driver: it publishes its label here, or over there as well."""
+        """Returns the line by which RS starts a driver: it publishes the driver's label, over an older one, too."""
         name, slot = self.chance.choice(DRIVERS), self.chance.choice(SLOTS)
         self.generation += 1
         self.drivers[name] = (self.generation, slot, 0)
         return b"publish 0/2 over %s label %d.0 = %d/%d" % (name, self.generation, self.generation, slot)
 
     def end(self):
-        """RS ends a driver's label, or sweeps what it left."""
+        """Returns a line by which RS ends a driver's label, or sweeps what the driver left."""
         name = self.chance.choice(DRIVERS)
         generation, _, _ = self.drivers.get(name, (1, 16, 0))
         return self.chance.choice([b"delete 0/2 %s label %d.1", b"sweep 0/2 %s %d"]) % (name, generation)
 
     def put(self):
-        """A driver publishes or deletes an entry of its own; only a store that has its label accepts that."""
+        """Returns a line by which a driver publishes or deletes an entry of its own. Only a store that has its label accepts it."""
         name = self.chance.choice(DRIVERS)
         if name not in self.drivers:
             return self.start()
@@ -69,12 +69,12 @@ class Orderly(Script):
         return b"publish %d/%d over %s.%s %s %d.%d = %s" % (generation, slot, name, entry, kind, generation, number, value)
 
     def late(self):
-        """An item that some store accepted comes once more, here."""
+        """Returns a line that offers once more an item that some store accepted."""
         accepted = self.world.stores[self.chance.choice([b"a", b"b"])].accepted
         return b"offer " + self.chance.choice(accepted)[1] if accepted else b"all"
 
     def subscriber(self):
-        """A subscriber follows a query, or checks."""
+        """Returns a line by which a subscriber follows a query, or checks."""
         sub, query = self.chance.choice([0, 1, 126, 127]), self.chance.choice(QUERIES)
         begins = [b"subscribe %d %s %s over" % (sub, query, mode) for mode in (b"first", b"later")]
         return self.chance.choice([*begins, *[b"check %d %d" % (sub, most) for most in (1, 2, 8, 256)]])
@@ -82,12 +82,12 @@ class Orderly(Script):
     # ---- what holds in every orderly world ----
 
     def message(self, line):
-        """The number of the message that a line makes."""
+        """Asks a line, and returns the number of the message that it makes."""
         self.ask(line)
         return len(self.world.messages) - 1
 
     def agreement(self):
-        """Replicas that exchanged their snapshots hold the same items, and so does a map that got either."""
+        """Expects that replicas which exchanged their snapshots hold the same items, and that a map which got either holds them, too."""
         one, other = self.chance.sample([b"a", b"b"], 2)
         self.ask(b"side " + one)
         first = self.message(b"snapshot *")
@@ -106,7 +106,7 @@ class Orderly(Script):
         self.expect(held == self.ask(b"show"), "the map of all and the store differ")
 
     def catch_up(self):
-        """A map that gets a snapshot and what followed it, in any order, holds what the store holds under its query."""
+        """Expects that a map which gets a snapshot and what followed it, in any order, holds what the store holds under its query."""
         number = self.chance.randrange(1, len(QUERIES))
         query, store = QUERIES[number], self.store()
         self.ask(b"clear %d" % number)
@@ -132,7 +132,7 @@ class Orderly(Script):
         self.expect(held == self.ask(b"entries %d" % number), "the map that caught up and a new one differ")
 
     def pages(self, query):
-        """The numbers of messages that hold all that the store holds under a query."""
+        """Returns the numbers of messages that have all that the store holds under a query."""
         after, numbers = b"-", []
         while True:
             answer = self.ask(b"page %s %s %d" % (query, after, self.chance.choice([1, 2, 256])))

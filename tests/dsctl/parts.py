@@ -1,8 +1,8 @@
-"""What `dsctl` says was expected where a line can't be read: each part of a line, as docs/reference/lines.md names it."""
+"""The sentences by which `dsctl` reports what it expected where a line can't be read: each part as docs/reference/lines.md names it."""
 import behaviour
 import harness
 
-# A first line, the byte where its first part begins that can't be read, and how what is said of it begins.
+# A first line, the byte where its first part begins that can't be read, and how the sentence about it begins.
 PARTS = [
     (b"", 0, b"a command was expected; the line is empty: `script 2` as the first line allows that\n"),
     (b"# a comment", 0, b"a command was expected; a comment was found: `script 2` as the first line allows them\n"),
@@ -88,15 +88,15 @@ PARTS = [
 
 
 def says_which_part_was_expected(program):
-    """Of each part that can't be read, standard error names the byte and what was expected there."""
+    """For each part that can't be read, standard error names the byte and what was expected there."""
     for line, place, words in PARTS:
         ran = harness.run([program], line + b"\n")
         behaviour.expect(ran, b"badline 1 %d\n" % place, 1)
-        told = b"dsctl: line 1, byte %d: %s" % (place, words)
-        assert ran.error.startswith(told), f"{line[:60]!r}: standard error is {ran.error!r}, wanted {told!r}"
+        sentence = b"dsctl: line 1, byte %d: %s" % (place, words)
+        assert ran.error.startswith(sentence), f"{line[:60]!r}: standard error is {ran.error!r}, wanted {sentence!r}"
 
 
-# A line of commands, the byte where it is bad, and what is said of it.
+# A line of commands, the byte where it is bad, and the sentence about it.
 RECORDED = [
     (b"get a u32", 0, b"`get` isn't a command, here it is `retrieve`\n"),
     (b"7 retr a u32", 2, b"`retr` isn't a command, it begins `retrieve`\n"),
@@ -110,14 +110,14 @@ RECORDED = [
 
 
 def says_what_was_wrong_with_commands(program):
-    """Of a line that can't be recorded, standard error names the byte, and what was expected there or what is meant."""
+    """For a line that can't be recorded, standard error names the byte, and what was expected there or what may be meant."""
     for line, place, words in RECORDED:
-        told = b"badline 1 %d\ndsctl: line 1, byte %d: %s" % (place, place, words)
+        sentence = b"badline 1 %d\ndsctl: line 1, byte %d: %s" % (place, place, words)
         ran = harness.run([program, "record"], line + b"\n")
-        assert (ran.error, ran.status) == (told, 1), f"{line}: {ran}"
+        assert (ran.error, ran.status) == (sentence, 1), f"{line}: {ran}"
 
 
-# Texts of each kind, and what is said of one where another was expected.
+# Texts of each kind, the commands that expect another kind, and the sentence that they print about one.
 TEXTS = [
     ((b"publish 0/2 new a label 1.0 = 1/16\n", b"script 2\nshow\n", b"# one\n\nscript 2\nshow\n", b"  # one\n show\n"), ["verify", "settings"], b"this is a script: `dsctl replay` answers it\n"),
     ((b"script 2\nshow\n",), ["record"], b"this is a script: `dsctl replay` answers it\n"),
@@ -129,12 +129,12 @@ TEXTS = [
 
 
 def says_what_a_text_is(program):
-    """A text of another kind is called what it is, by its first line that isn't empty or a comment."""
-    for texts, words, told in TEXTS:
+    """A text of another kind is named for what it is, by its first line that isn't empty or a comment."""
+    for texts, words, sentence in TEXTS:
         for text in texts:
             for word in words:
                 ran = harness.run([program, word], text)
-                assert ran.status == 1 and ran.error.endswith(b" was expected; " + told), f"{word}, {text}: {ran}"
+                assert ran.status == 1 and ran.error.endswith(b" was expected; " + sentence), f"{word}, {text}: {ran}"
     ran = harness.run([program], b"show\n7 nameof 3/17\n")
     assert ran.error == b"dsctl: line 2, byte 0: a command was expected; these are commands: `dsctl record` writes the trace of their run\n", f"{ran}"
     ran = harness.run([program], b"show\ntrace 2 1 0 256 128 4096\n")

@@ -1,6 +1,6 @@
 """Seeded inputs of commands to be recorded.
 
-An input is drawn line by line, with a pass in front of some, Merges, and now and then a line that asks nothing.
+An input is drawn line by line, with a pass in front of some, Merges, and now and then a line that can't be recorded.
 """
 import random
 
@@ -11,7 +11,7 @@ BAD = [b"", b"show", b"ring 5", b"64 snapshot *", b"05 snapshot *", b"5", b"5 ",
 
 
 def input_of(seed):
-    """The text of an input."""
+    """Returns the text of an input."""
     chance = random.Random(seed)
     trace = traces.Trace(b"trace 2 1 0 256 128 4096")
     trace.header()
@@ -23,7 +23,7 @@ def input_of(seed):
 
 
 def asked_by_chance(chance, trace):
-    """The lines of what one entry asks, or of what none does."""
+    """Returns the lines of one entry's command, or a line that no entry has."""
     mark = b"%d " % chance.randrange(64) if chance.random() < 0.5 else b""
     if chance.random() < 0.03:
         return [mark + chance.choice(BAD)]

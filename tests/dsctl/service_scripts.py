@@ -14,7 +14,7 @@ FAULTY = [b"[[service", b"slots = 0", b"slot = 8", b"service = [{}]", b'service 
 
 
 class Services:
-    """Draws such lines for a script, by what its session knows. If there are rivals, others write about its services, too."""
+    """Draws such lines for a script, by what its session knows. If there are rivals, others write about RS's services, too."""
 
     def __init__(self, script, labels, rivals):
         self.script, self.chance, self.session = script, script.chance, script.session
@@ -24,7 +24,7 @@ class Services:
         self.numbers = {}  # of each endpoint that published, its last number
 
     def begin(self):
-        """A map of labels, some units, and mostly settings."""
+        """Asks for a map of labels, some units, and mostly settings."""
         chance = self.chance
         self.script.ask(b'map ".*" ' + chance.choice([b"1", b"15"]))
         for _ in range(chance.randrange(2, 6)):
@@ -35,7 +35,7 @@ class Services:
             self.script.ask(self.settings())
 
     def line(self):
-        """The next line. (Lines that prepare it are in the script already.)"""
+        """Returns the next line. (Lines that prepare it are in the script already.)"""
         to_rs = [self.time] * 5 + [self.request] * 5 + [self.death] * 5 + [self.beat] * 3 + [self.published] * 3 + [self.rival] * self.rivals
         if self.session.rs is None or self.chance.random() < 0.01:
             to_rs += [self.settings] * 8
@@ -52,7 +52,7 @@ class Services:
     # ---- lines to RS ----
 
     def settings(self):
-        """The settings of some services, one of each label."""
+        """Returns a line with the settings of some services, one of each label."""
         chance = self.chance
         if chance.random() < 0.03:
             return b"settings slots = %d" % chance.choice([1, 8, 1008, 1009])
@@ -73,12 +73,12 @@ class Services:
         return table
 
     def when(self):
-        """The time now, or, rarely, a time that is past, or one that never comes."""
+        """Returns the time now, or, rarely, a time that is past, or one that never comes."""
         late = [max(self.now - 1, 0), max(self.now - 1, 0), 2**62 + 1, 2**64 - 1]
         return self.now if self.chance.random() < 0.94 else self.chance.choice(late)
 
     def time(self):
-        """A tick, now and then repeated until nothing is due, as a caller would."""
+        """Returns a tick, now and then repeated until nothing is due, as a caller would repeat it."""
         self.now += self.chance.choice([0, 1, 1, 2, 5, 5, 20, 40])
         line = b"tick %d" % self.when()
         for _ in range(self.chance.choice([0, 0, 1, 70])):
@@ -88,7 +88,7 @@ class Services:
         return line
 
     def request(self):
-        """A request for a service, mostly one that its state allows."""
+        """Returns a request for a service, mostly one that its state allows."""
         chance = self.chance
         known = self.session.rs.services if self.session.rs else []
         if not known or chance.random() < 0.05:
@@ -98,7 +98,7 @@ class Services:
         return b"service %s %s %d" % (chance.choice(asked), label.encode(), self.when())
 
     def endpoint(self):
-        """Mostly that of a live instance, else one that was started once, or RS's own."""
+        """Returns mostly the endpoint of a live instance, else one that was started once, or RS's own."""
         up = [state[1] for state in self.session.rs.states.values() if state[0] == "up"] if self.session.rs else []
         drawn = self.chance.random()
         return self.chance.choice(up) if up and drawn < 0.8 else self.chance.choice(self.started[-20:]) if drawn < 0.97 else (0, 2)
@@ -111,7 +111,7 @@ class Services:
         return b"beat %d/%d %d" % (*self.endpoint(), self.when())
 
     def published(self):
-        """An instance publishes an entry under its label, with its next number; a dead one does so late, under a name that no other has."""
+        """Returns a line by which an instance publishes an entry under its label, with its next number; a dead one late, under a name of its own."""
         generation, slot = self.endpoint()
         states = self.session.rs.states if self.session.rs else {}
         label = next((label for label, state in states.items() if state[1:2] == ((generation, slot),)), f"old{generation}")
@@ -121,7 +121,7 @@ class Services:
         return b"publish %d/%d over %s.%s %s %d.%d = %s" % (generation, slot, label.encode(), entry, kind, generation, number, value)
 
     def rival(self):
-        """Another caller writes about a service, mostly about an instance of a near generation."""
+        """Returns a line by which another caller writes about a service, mostly about an instance of a near generation."""
         chance = self.chance
         label, near = chance.choice(self.labels), (self.session.rs.next if self.session.rs else 1) + chance.choice([-2, -1, -1, 0, 0, 1])
         generation, slot = max(near, 1), chance.choice([16, 17])
@@ -135,17 +135,17 @@ class Services:
     # ---- lines to the tables ----
 
     def table(self):
-        """The word of a table, mostly of the file server's, and the table as the session knows it."""
+        """Returns the word of a table, mostly of the file server's, and the table as the session knows it."""
         server = self.chance.choice([b"file", b"file", b"net"])
         return server, self.session.tables[server]
 
     def map(self):
-        """The number of a map, mostly the first, or, rarely, of one that doesn't exist."""
+        """Returns the number of a map, mostly the first, or, rarely, of one that doesn't exist."""
         first = self.chance.random() < 0.6
         return 0 if first else self.chance.randrange(len(self.session.world.maps) or 1) + (self.chance.random() < 0.05)
 
     def assign(self):
-        """A unit for a driver; there are few, so that some are assigned twice."""
+        """Returns a line that assigns a unit to a driver. There are few units, so that some are assigned twice."""
         chance = self.chance
         unit, label = chance.choice([0, 1, 2, 3, 4, 255]), chance.choice([*self.labels, *self.labels, b"nobody"])
         if chance.random() < 0.4:
@@ -153,7 +153,7 @@ class Services:
         return b"assign file %d %s %s" % (unit, chance.choice([b"block", b"block", b"character"]), label)
 
     def feed(self):
-        """A map gets what a store holds or took last, late or at once, and then a table follows it."""
+        """Gives a map what a store holds or took last, late or at once. Returns a line by which a table then follows the map."""
         chance, world = self.chance, self.session.world
         store = world.stores[world.current]
         since = b"since * %d %d 256" % (store.incarnation, max(len(store.accepted) - chance.randrange(1, 5), 0))
@@ -167,7 +167,7 @@ class Services:
         return b"follow %d" % self.map()
 
     def submit(self):
-        """A request, mostly for a unit that exists, and with a number above all others."""
+        """Returns a request, mostly for a unit that exists, and with a number above all others."""
         chance, (server, table) = self.chance, self.table()
         last = max(table.requests, default=0)
         number = last + chance.choice([1, 1, 1, 2, 1000]) if chance.random() < 0.95 else chance.randrange(last + 1)
@@ -175,7 +175,7 @@ class Services:
         return b"submit %s %d %d %d" % (server, number, unit, self.map())
 
     def reply(self):
-        """A reply to a request, mostly to one that was sent, and by the endpoint that got it last."""
+        """Returns a reply to a request, mostly to one that was sent, and by the endpoint that got it last."""
         chance, (server, table) = self.chance, self.table()
         drawn = chance.random()
         pending = [it for it in table.pending() if it in table.sends]
@@ -189,8 +189,10 @@ class Services:
     # ---- what holds in every script ----
 
     def hold(self):
-        """Nothing was sent to an older endpoint, no request has two answers, and a block request waits for its driver alone."""
+        """Expects that nothing was sent to an older endpoint, that no request has two answers, and that only a block request waits for its driver."""
         for server, table in self.session.tables.items():
+            for number, answers in table.answers.items():
+                self.script.expect(len(answers) == 1, f"request {number} of {server} has the answers {answers}")
             for number, sent in table.sends.items():
                 generations = [generation for generation, _ in sent]
                 rising = all(one < other for one, other in zip(generations, generations[1:]))

@@ -1,4 +1,4 @@
-"""Seeded settings texts, sound and with faults, and what the program must say of each."""
+"""Seeded settings texts, sound and with faults, and what the program must print for each."""
 import random
 import re
 
@@ -8,12 +8,12 @@ LABELS = ("eth0", "disk", "tty", "at_wini", "e1000-1", "a" * 64)
 # Instead of a field's own value: of another type, or out of its range, or just within it.
 ODD = (0, 1, -1, 255, 256, 1000, 1001, 1000000, 1000001, 1000000000, 1000000001, 2**62, 2**63, 1.5, True, "", "rs", "eth 0", "a" * 65, [], ["mtu", "mtu"], [1], {})
 BYTES = b'0a="[]{}#\n,.-_ \\\xff'
-# What TOML 1.1 has and 1.0 hasn't, as far as one byte makes it: the program reads 1.1, and Python's reader, the model's, 1.0.
+# Parts of TOML 1.1, but not of 1.0, that one byte can make: the program reads 1.1, and Python's reader, which the model uses, 1.0.
 OF_TOML_1_1 = re.compile(rb"\{[^{}]*\n[^{}]*\}|\\[ex]")
 
 
 def text_of(seed):
-    """The settings text of a seed."""
+    """Returns the settings text of a seed."""
     chance = random.Random(seed)
     settings = {"slots": chance.choice([1, 8, 64, 1008, 1009])} if chance.random() < 0.5 else {}
     services = [service_by_chance(chance, unit) for unit in range(chance.randrange(6))]
@@ -30,7 +30,7 @@ def text_of(seed):
 
 
 def service_by_chance(chance, unit):
-    """A service, nearly always a sound one."""
+    """Returns a service, nearly always a sound one."""
     kind = chance.choice(restarts.CLASSES)
     service = {"label": chance.choice(LABELS), "class": kind}
     if kind != "server":
@@ -47,14 +47,14 @@ def service_by_chance(chance, unit):
 
 
 def spoilt(chance, text):
-    """The text with one byte of it changed, left out or doubled; or as it is, where the versions of TOML differ on that."""
+    """Returns the text with one byte of it changed, left out or doubled; or unchanged, if the versions of TOML differ on that."""
     at = chance.randrange(len(text))
     changed = text[:at] + chance.choice([bytes([chance.choice(BYTES)]), b"", text[at : at + 1] * 2]) + text[at + 1 :]
     return text if OF_TOML_1_1.search(changed) else changed
 
 
 def wanted(text):
-    """What the program has to say of a settings text, and its status."""
+    """Returns what the program must print for a settings text, and its status."""
     try:
         slots, services = restarts.judged(session.document(text))
     except restarts.Bad as bad:

@@ -16,7 +16,7 @@ PICTURE = re.compile(r"(?<=\n\n)    \$ dsctl((?: [\w-]+)*)\n((?:    .*\n)*)", re
 
 @dataclass
 class Picture:
-    """What somebody at a terminal types and sees, as a document shows it."""
+    """A session at a terminal: what a user types and sees, as a document shows it."""
 
     name: str
     words: List[str]
@@ -36,7 +36,7 @@ def pictures():
 
 
 def picture_fault(program, picture):
-    """Says what is wrong with a picture, or answers None."""
+    """Returns what is wrong with a picture, or None."""
     seen = [line.rstrip() for line in session(program, picture.words, picture.typed).seen.decode().splitlines()]
     wanted = [line.rstrip() for line in picture.seen]
     at = next((at for at, pair in enumerate(zip(seen, wanted)) if pair[0] != pair[1]), min(len(seen), len(wanted)))
@@ -45,14 +45,14 @@ def picture_fault(program, picture):
 
 @dataclass
 class Seen:
-    """What the terminal showed, and the status."""
+    """The output that the terminal showed, and the status."""
 
     seen: bytes
     status: int
 
 
 def pieces(program, typed, words=(), settings=()):
-    """Runs the program at a terminal with these settings of stty, and types one piece after the other, each once the one before was read, and
+    """Runs the program at a terminal with these settings of stty, and types the pieces in order, each once the one before was read, and
     then ^D."""
     ours, theirs = pty.openpty()
     if settings:
@@ -75,7 +75,7 @@ def pieces(program, typed, words=(), settings=()):
 
 
 def session(program, words, typed, streams=("stdin", "stdout", "stderr"), prompt=PROMPT):
-    """Runs the program with the streams at a terminal, and types each line once it asks for one, and then ^D."""
+    """Runs the program with the streams at a terminal, and types each line once the program prompts for one, and then ^D."""
     ours, theirs = pty.openpty()
     others = {it: subprocess.PIPE for it in ("stdout", "stderr") if it not in streams}
     started = subprocess.Popen([program, *words], **{it: theirs for it in streams}, **others)
@@ -103,7 +103,7 @@ def session(program, words, typed, streams=("stdin", "stdout", "stderr"), prompt
 
 
 def shown(terminal):
-    """What the terminal shows next, or nothing once nobody holds its other side."""
+    """Returns what the terminal shows next, or nothing once no process holds its other side."""
     try:
         return os.read(terminal, 65536)
     except OSError:

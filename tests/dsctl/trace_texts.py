@@ -10,7 +10,7 @@ from model import lines, traces
 
 
 def trace_of(seed):
-    """The lines of a trace: of odd seeds in format 1."""
+    """Returns the lines of a trace, in format 1 for odd seeds."""
     chance = random.Random(seed)
     numbers = b"%d %d %d" % (chance.choice([1, 7]), chance.choice([0, 0, 0, 5, 2**62 - 4]), chance.choice([1, 3, 256]))
     limits = chance.choice([b"64 1024", b"128 4096"])
@@ -25,7 +25,7 @@ def trace_of(seed):
 
 
 def crowd_by_chance(chance, trace):
-    """Entries of format 1 that leave an owner with some hundred keys, and then sweep it: more than one Merge can take."""
+    """Returns entries of format 1 that leave an owner with some hundred keys, and then sweep it: more than one Merge can take."""
     items = [b"k%d u32 eth0 3.0 = %d" % (number, number) for number in range(chance.choice([255, 256, 257, 300, 520]))]
     given = asked_lines(b"> 0 ", b'subscribe 5 "k1.*" 15 later over', trace)
     for at in range(0, len(items), traces.MOST_ITEMS):
@@ -34,7 +34,7 @@ def crowd_by_chance(chance, trace):
 
 
 def entry_by_chance(chance, trace):
-    """The lines of one entry, whose reply is the store's or `refused noroom`."""
+    """Returns the lines of one entry, whose reply is the store's or `refused noroom`."""
     mark = b"> %d " % chance.randrange(64)
     if chance.random() < 0.2:
         items = [item_by_chance(chance, trace) for _ in range(chance.randrange(5))]
@@ -49,31 +49,31 @@ def entry_by_chance(chance, trace):
 
 
 def asked_lines(mark, command, trace):
-    """The lines of an entry with this command, whose reply is the store's."""
+    """Returns the lines of an entry with this command, whose reply is the store's."""
     return [mark + command, *(b"< " + it for it in trace.store.answer(*lines.read(command)))]
 
 
 def merge_asked(mark, items):
-    """The lines that ask for a Merge."""
+    """Returns the lines that ask for a Merge."""
     return [mark + b"merge %d" % len(items), *(b"+ " + it for it in items)]
 
 
 def merge_lines(mark, items, done, trace):
-    """The lines of an entry that merges these items. If `done` isn't None, memory runs out after `done` of them."""
-    told = trace.store.merge([lines.item(it) for it in items][:done])
-    if done is not None and told[0].startswith(b"merged"):  # else an earlier cause stopped it
-        told[0] = b"stopped %d noroom" % done
-    return merge_asked(mark, items) + [b"< " + it for it in told]
+    """Returns the lines of an entry that merges these items. If `done` isn't None, memory runs out after `done` of them."""
+    reply = trace.store.merge([lines.item(it) for it in items][:done])
+    if done is not None and reply[0].startswith(b"merged"):  # else an earlier cause stopped it
+        reply[0] = b"stopped %d noroom" % done
+    return merge_asked(mark, items) + [b"< " + it for it in reply]
 
 
 def sweep_by_chance(chance, trace):
-    """A sweep that RS asks for, of an owner that has something."""
+    """Returns a sweep that RS asks for, of an owner that has something."""
     owners = sorted({owner for owner, _, _ in trace.store.held.values()}) or [b"eth0"]
     return b"sweep 0/2 %s %d" % (chance.choice(owners), chance.choice([1, 2, 3, 8, 2097151]))
 
 
 def line_by_chance(chance, trace):
-    """The line of a command that a trace of the format may have."""
+    """Returns the line of a command that a trace of the format may have."""
     while True:
         line = by_chance.command_by_chance(chance)
         if chance.random() < 0.15:
@@ -86,7 +86,7 @@ def line_by_chance(chance, trace):
 
 
 def item_by_chance(chance, trace):
-    """The line of an item that a Merge of the format may have."""
+    """Returns the line of an item that a Merge of the format may have."""
     while True:
         line = by_chance.item_by_chance(chance)
         if trace.is_carried(lines.item(line)):
@@ -94,13 +94,13 @@ def item_by_chance(chance, trace):
 
 
 def forged(seed, given):
-    """The lines with one of them changed, left out, doubled or exchanged with the next."""
+    """Returns the lines with one of them changed, left out, doubled or exchanged with the next."""
     chance, given = random.Random(seed), given[:]
     at = chance.randrange(len(given))
     how = chance.randrange(4)
     if how == 0:
         line = given[at]
-        place = chance.randrange(max(line.find(b'"'), 0) or len(line) or 1)  # before a pattern, which Python may read otherwise
+        place = chance.randrange(max(line.find(b'"'), 0) or len(line) or 1)  # before a pattern, which Python may read differently
         byte = chance.choice(b"0123456789a <>+!-.=x")
         given[at] = line[:place] + bytes([byte]) + line[place + 1 :]
     elif how == 1:
@@ -113,6 +113,6 @@ def forged(seed, given):
 
 
 def texts_of(seed):
-    """The text of the trace of a seed, and of that trace forged."""
+    """Returns the text of the trace of a seed, and of that trace forged."""
     given = trace_of(seed)
     return traces.text_of(given), traces.text_of(forged(seed, given))

@@ -26,7 +26,7 @@ class Script:
         self.services = Services(self, self.LABELS, self.RIVALS)
 
     def ask(self, line):
-        """Writes a line, and returns the model's answer."""
+        """Adds a line, and returns the model's answer."""
         self.lines.append(line)
         command, taken = model.read(line, len(self.lines) == 1)
         self.answers.append(self.session.answer(command, taken))
@@ -53,7 +53,7 @@ class Script:
             self.faults.append(f"line {len(self.lines)}: {what}")
 
     def store(self):
-        """The store of the current side."""
+        """Returns the store of the current side."""
         return self.world.stores[self.world.current]
 
     def text(self):
@@ -65,7 +65,7 @@ class Script:
     # ---- lines of a world ----
 
     def of_world(self):
-        """A line that reads a store, or that moves items, or that makes, clears or restarts a holder."""
+        """Returns a line that reads a store, or that moves items, or that makes, clears or restarts a holder."""
         draws = [self.reading] * 5 + [self.delivery] * 6 + [self.side] * 2 + [self.holder] * 2
         return self.chance.choice(draws)()
 
@@ -73,7 +73,7 @@ class Script:
         return self.chance.choice([b"side a", b"side b"])
 
     def reading(self):
-        """A line that makes a message, unless it is refused."""
+        """Returns a line that makes a message, unless it is refused."""
         chance, store = self.chance, self.store()
         scope, end = chance.choice(SCOPES), len(store.accepted)
         incarnation = store.incarnation + chance.choice([0] * 12 + [1, -1])
@@ -91,7 +91,7 @@ class Script:
         )
 
     def delivery(self):
-        """A delivery of one of the last messages, or of any, to any holder."""
+        """Returns a delivery of one of the last messages, or of any, to any holder."""
         chance, there = self.chance, len(self.world.messages)
         number = max(there - 1 - chance.choice([0, 0, 0, 1, 2, chance.randrange(there + 1)]), 0) + (chance.random() < 0.03)
         maps = [b"m%d" % it for it in range(len(self.world.maps) + (chance.random() < 0.1))]
@@ -100,7 +100,7 @@ class Script:
         return b"deliver %d %s %s" % (number, chance.choice([b"a", b"b", *maps]), count)
 
     def holder(self):
-        """A line about maps, or, rarely, the restart of a store."""
+        """Returns a line about maps, or, rarely, the restart of a store."""
         chance = self.chance
         if chance.random() < 0.1:
             last = max(it.incarnation for it in self.world.stores.values())
@@ -133,7 +133,7 @@ class Disorderly(Script):
             self.ask(line)
 
     def crowd(self):
-        """More changes than one Merge takes, few of which are another owner's, and their delivery to all holders."""
+        """Asks for more changes than one Merge takes, few of them another owner's, and for their delivery to all holders."""
         chance = self.chance
         odd = chance.randrange(2, 900)
         for at in range(chance.randrange(257, 700)):

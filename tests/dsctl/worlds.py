@@ -16,12 +16,12 @@ from world_scripts import Disorderly, Full
 
 
 def script_of(seed):
-    """The script of a seed."""
+    """Returns the script of a seed."""
     return Orderly(seed) if seed % 2 else Full(seed) if seed % 20 == 8 else Disorderly(seed)
 
 
 def spoilt(seed, script):
-    """The script's text with six bytes outside quotes changed, left out or doubled, each in a line that is drawn."""
+    """Returns the script's text with six bytes outside quotes changed, left out or doubled, each in a line that is drawn."""
     chance, lines = random.Random(seed), list(script.lines)
     for _ in range(6):
         at = chance.randrange(len(lines))
@@ -32,7 +32,7 @@ def spoilt(seed, script):
 
 
 def fault(program, seed):
-    """Returns the first fault of the program's answers to the script of a seed, as it is and with bad lines, or None."""
+    """Returns the first fault of the program's answers to the script of a seed, unchanged and with bad lines, or None."""
     script = script_of(seed)
     given = [(["replay"], script.text(), (script.wanted(), 0))]
     bad = spoilt(seed, script)

@@ -1,21 +1,21 @@
-"""Which function of a program asked for the growth that tests/kit/refuse.c refused, by the words of its stack.
+"""Finds the function of a program that asked for the growth that tests/kit/refuse.c refused, by the words of its stack.
 
-A word of the stack is a return address if a call instruction precedes the place in the program's code. From the innermost one
-outwards, the next address that counts is one whose call leads to the function found last; other words are left by calls that
-have ended. A function that the compiler inlined is part of its caller.
+A word of the stack is a return address if it points just past a call instruction in the program's code. From the innermost one
+outwards, the next address that counts is one whose call leads to the function found last. Other words are left over from calls
+that have ended. A function that the compiler inlined is part of its caller.
 """
 import bisect
 import re
 import struct
 import subprocess
 
-CALL = 0xE8  # followed by a distance of 4 bytes, from the place that the call returns to
-LOADED, EXECUTABLE = 1, 1  # in the header of a program
-BELOW = re.compile(r"^(core|std|std_[a-z]+)::|^rattle_")  # what takes memory for its caller
+CALL = 0xE8  # followed by a distance of 4 bytes, counted from the return address
+LOADED, EXECUTABLE = 1, 1  # PT_LOAD and PF_X of an ELF program header
+BELOW = re.compile(r"^(core|std|std_[a-z]+)::|^rattle_")  # functions that take memory for their callers
 
 
 class Askers:
-    """The functions of a program, by their places."""
+    """The functions of a program, by address."""
 
     def __init__(self, program):
         listed = subprocess.run(["nm", "-n", "--defined-only", program], stdout=subprocess.PIPE, text=True, check=True).stdout
@@ -34,7 +34,7 @@ class Askers:
         return None
 
     def callers(self, stack):
-        """Returns the functions whose calls haven't ended, the innermost first. The first word is the program counter."""
+        """Yields the functions whose calls haven't ended, the innermost first. The first word is the program's load address."""
         base, *words = struct.unpack(f"<{len(stack) // 8}Q", stack)
         last = None
         for word in words:
@@ -45,17 +45,17 @@ class Askers:
                 yield self.names[at]
 
     def is_within(self, stack, crate):
-        """Returns whether a call of a function of the crate hasn't ended."""
+        """Returns whether a call of one of the crate's functions hasn't ended."""
         return bool(stack) and any(name.startswith(f"{crate}::") for name in self.callers(stack))
 
     def asker(self, stack):
-        """Returns the innermost function that doesn't just take memory for others, without its types; a dash if there is none."""
+        """Returns the innermost function that doesn't take memory on behalf of others, without its types; a dash if there is none."""
         found = next((name for name in self.callers(stack) if not BELOW.search(name)), "-") if stack else "-"
         return found.partition("::<")[0]
 
 
 def executable(file):
-    """Returns the executable parts of a program's file, each with its place."""
+    """Yields the executable parts of a program's file, each with its address."""
     first, size, count = struct.unpack_from("<Q14xHH", file, 0x20)
     for at in range(first, first + size * count, size):
         kind, flags, offset, place, _, length = struct.unpack_from("<IIQQQQ", file, at)

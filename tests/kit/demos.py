@@ -1,4 +1,4 @@
-"""Seeded scripts that a model answers, too, for services and store of tests/programs."""
+"""Runs seeded scripts, which a model answers too, for services and store of tests/programs."""
 import pathlib
 import random
 import tempfile
@@ -8,9 +8,9 @@ from refuser import Refuser
 
 
 class Script:
-    """Commands drawn by a seed, with the answers of a model so far, to draw sensible ones.
+    """Commands drawn from a seed, with a model's answers so far, so that sensible ones can be drawn.
 
-    A library may do without a growth that it asked for, so that every answer is as with ample memory.
+    A library may do without a growth that it asked for. Then every answer is the one with ample memory.
     """
 
     def __init__(self, seed, model):
@@ -27,7 +27,7 @@ class Script:
         return answers
 
     def may_lack_room(self, command, ample):
-        """Returns whether a command that has this answer with ample memory may be refused memory."""
+        """Returns whether memory may be refused to a command that has this answer with ample memory."""
         raise NotImplementedError
 
     def text(self):
@@ -38,14 +38,14 @@ class Script:
 
 
 def agreement(program, script):
-    """Says how the program's answers differ from the model's, or returns None."""
+    """Returns how the program's answers differ from the model's, or None."""
     ran = harness.run([program], script.text())
     wrong = harness.difference(ran.output, script.wanted())
     return wrong or (None if (ran.status, ran.error) == (0, b"") else f"status {ran.status}, standard error {ran.error[:200]!r}")
 
 
 def growths(refuser, room, name, script):
-    """Refuses each growth of a script, one a run. Says what is wrong with the first bad answer, or returns None."""
+    """Refuses each growth of a script, one per run. Returns what is wrong with the first bad answer, or None."""
     given = pathlib.Path(room) / name.replace(" ", "_")
     given.write_bytes(script.text())
     case = harness.Case(name, [], given, script.wanted())
@@ -53,7 +53,7 @@ def growths(refuser, room, name, script):
 
 
 def refused(script, ran, refuser):
-    """Checks that a refused growth ends the program by name, or is the answer of one call, which then did nothing."""
+    """Checks that a refused growth ends the program with `noroom`, or is the answer to one call, which changes nothing."""
     lines = ran.output.decode().splitlines()
     if ran.status == 3:
         whole = [it for answers in script.answers for it in answers]
@@ -76,9 +76,9 @@ def refused(script, ran, refuser):
 
 
 def report(program, long, short, others=()):
-    """Compares the long scripts and the short ones, each with its name, refuses the short ones memory, and reports.
+    """Compares the long and short scripts with the model, refuses memory to the short ones, and reports. Each script has a name.
 
-    `others` has what else is tried: a name, a function that says what is wrong or answers None, and what it is given.
+    `others` has further checks: a name, a function that returns what is wrong or None, and its last argument.
     """
     compared = long + short
     named = list(zip([name for name, _ in compared], harness.at_once(lambda it: agreement(program, it[1]), compared)))

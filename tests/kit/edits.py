@@ -1,10 +1,10 @@
-"""Edits of must-fail/ and wrong-bodies/ of a crate: what each changes, and which can be tried by one check."""
+"""Reads the edits of must-fail/ and wrong-bodies/ of a crate: what each changes, and which ones a single check can try."""
 import re
 from dataclasses import dataclass
 
 PARTS = ("src", "specs", "proofs")
 FUNCTION = re.compile(r'( *)(?:pub(?:\([^)]*\))? )?(?:const )?(?:unsafe )?(?:extern "C" )?fn (\w+)')
-IMPL = re.compile(r"impl (?:(?:\w+::)*(\w+) for )?(?:\w+::)*(\w+)")  # once angle brackets and their contents are gone
+IMPL = re.compile(r"impl (?:(?:\w+::)*(\w+) for )?(?:\w+::)*(\w+)")  # after angle brackets and their contents are removed
 MOST = 12  # edits tried by one check
 
 
@@ -26,7 +26,7 @@ def pairs(edit, crate):
             old = rest
         elif word == "new":
             if path is None or not old:
-                raise BadEdit("a 'new:' line stands before any 'file:' or 'old:' line")
+                raise BadEdit("a 'new:' line comes before any 'file:' or 'old:' line")
             found.append((path, old, rest))
             old = None
     if not found:
@@ -35,12 +35,12 @@ def pairs(edit, crate):
 
 
 def replaced(edit, crate, texts=None):
-    """Returns the texts after the edit, by their paths. Each 'old:' text occurs once where it is applied."""
+    """Returns the texts after the edit, by path. Each 'old:' text must occur exactly once when it is replaced."""
     texts = dict(texts or {})
     for path, old, new in pairs(edit, crate):
         text = texts.get(path) or (crate / path).read_text()
         if text.count(old) != 1:
-            raise BadEdit(f"an 'old:' text stands in {path} {text.count(old)} times, and not once")
+            raise BadEdit(f"an 'old:' text occurs {text.count(old)} times in {path}, not once")
         texts[path] = text.replace(old, new)
     return texts
 
@@ -57,7 +57,7 @@ class Function:
 
 
 def functions(path, text):
-    """Returns the functions of a source file. A method's name has its type, and then its trait."""
+    """Returns the functions of a source file. A method's name includes its type and then its trait."""
     lines, owner, found = text.split("\n"), "", []
     module = "".join(f"{part}::" for part in path.removesuffix(".rt").split("/")[1:] if part not in ("lib", "main", "mod"))
     for at, line in enumerate(lines, 1):
@@ -79,7 +79,7 @@ def functions(path, text):
 
 
 def function_of(edit, crate):
-    """Returns the one function whose body the edit changes; None if it changes more than that, as a clause that callers use."""
+    """Returns the one function whose body the edit changes; None if it changes anything else, such as a clause that callers use."""
     found = set()
     for path, old, _ in pairs(edit, crate):
         text = (crate / path).read_text()
@@ -91,7 +91,7 @@ def function_of(edit, crate):
 
 
 def groups(edits, crate):
-    """Groups edits so that a group changes each function once at most. An edit of several functions is alone."""
+    """Groups edits so that a group changes each function at most once. An edit of several functions has a group of its own."""
     alone, shared = [], []
     for edit in edits:
         try:

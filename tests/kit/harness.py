@@ -1,4 +1,4 @@
-"""What the test scripts share: the cases, and one run of the program on a case."""
+"""Reads the cases, and runs the program on one, for all test scripts."""
 import multiprocessing
 import os
 import pathlib
@@ -17,28 +17,28 @@ SESSION = re.compile(r"(?<=\n\n)    > .*\n(?:    .*\n)*")  # within a document
 BAD_LINE = re.compile(rb"^badline (\d+) (\d+)$", re.MULTILINE)  # within answers
 BAD_SETTINGS = re.compile(rb"bad \w+( \d+)?\n")  # the whole output for settings with a fault
 BAD_TRACE = re.compile(rb"(?:illegal|badline) (\d+)\n")  # the whole output for a trace that isn't legal
-TOLD = b"dsctl: "  # how each sentence on standard error begins
-WRONG_LINE = rb"dsctl: line %s(?:, byte \d+)?: "  # how the sentence about a trace begins; it names a byte if a part of the line is bad
-WORD = re.compile(rb"badline (\d+) (\d+)\n")  # what standard error has first where commands to record can't be read
-FAILED = re.compile(rb"(?:noroom|readfault|writefault)\n")  # likewise at status 3
+TOLD = b"dsctl: "  # the beginning of each sentence on standard error
+WRONG_LINE = rb"dsctl: line %s(?:, byte \d+)?: "  # the beginning of the sentence about a trace; it names a byte if part of the line is bad
+WORD = re.compile(rb"badline (\d+) (\d+)\n")  # the first line of standard error if commands to record can't be read
+FAILED = re.compile(rb"(?:noroom|readfault|writefault)\n")  # likewise, with status 3
 SECONDS = 120  # the longest that one run may take, even on a busy machine
 
 
 @dataclass
 class Case:
-    """One run of the program: its input, and what it must answer."""
+    """One run of the program: its input, and the output that it must have."""
 
     name: str
     args: List[str]
     input: pathlib.Path
     output: bytes
     status: int = 0
-    error: Optional[bytes] = None  # None: any text above status 1, else a line for each bad line, or for the one reported
+    error: Optional[bytes] = None  # None: any text if the status is above 1, else a line for each bad line, or for the one reported
 
 
 @dataclass
 class Session:
-    """What somebody types and sees, as a document shows it."""
+    """What a user types and sees, as a document shows it."""
 
     name: str
     typed: bytes
@@ -50,7 +50,7 @@ class Ran:
     """The result of one run of the program; a status below 0 is the signal that ended it."""
 
     output: bytes
-    status: Optional[int]  # None: the program hadn't ended in time
+    status: Optional[int]  # None: the program didn't end in time
     error: bytes
 
 
@@ -76,14 +76,14 @@ def all_cases():
     folders = sorted(path.parent for path in CASES.rglob("output"))
     words = {".ds": [], ".toml": ["settings"], ".trace": ["verify"], ".commands": ["record"]}
     files = sorted(it for it in EXAMPLES.iterdir() if it.suffix in words)
-    told = [Case(f"examples/{it.name}", words[it.suffix], it, wanted_of(it), status_beside(it)) for it in files]
+    examples = [Case(f"examples/{it.name}", words[it.suffix], it, wanted_of(it), status_beside(it)) for it in files]
     older, newer = EXAMPLES / "older.trace", EXAMPLES / "upgraded.trace"
-    told.append(Case("examples/older.trace upgraded", ["upgrade"], older, newer.read_bytes()))
-    return [read_case(folder) for folder in folders] + told
+    examples.append(Case("examples/older.trace upgraded", ["upgrade"], older, newer.read_bytes()))
+    return [read_case(folder) for folder in folders] + examples
 
 
 def wanted_of(file):
-    """Returns the output that an example's file must have: for commands, the trace beside them."""
+    """Returns the output that an example's file must have. For commands it is the trace beside them."""
     return file.with_suffix(".trace" if file.suffix == ".commands" else ".out").read_bytes()
 
 
@@ -94,7 +94,7 @@ def status_beside(file):
 
 
 def all_sessions():
-    """Reads each session of the documents: a block of indented lines, in which typed lines follow `>`."""
+    """Reads each session of the documents: a block of indented lines, in which typed lines begin with `>`."""
     sessions = []
     for document in sorted(DOCUMENTS.rglob("*.md")):
         blocks = [it.group().splitlines() for it in SESSION.finditer(document.read_text())]
@@ -120,7 +120,7 @@ def section_of(program, name):
 
 
 def run(words, given, environment=None):
-    """Runs a command on bytes or a file, after a section's first line if it has one."""
+    """Runs a command on bytes or a file. If it has a section, the section's first line comes before them."""
     first = getattr(words[0], "first", b"")
     if first:
         given = first + (given if isinstance(given, bytes) else given.read())
@@ -139,7 +139,7 @@ def run_case(program, case, environment=None):
 
 
 def difference(got, wanted):
-    """Names the first line in which two outputs differ, or returns None if they are equal."""
+    """Returns the first line in which two outputs differ, or None if they are equal."""
     if got == wanted:
         return None
     lines, wanted_lines = got.split(b"\n"), wanted.split(b"\n")
@@ -150,7 +150,7 @@ def difference(got, wanted):
 
 
 def fault(case, ran):
-    """Says what is wrong with the answer to a case, or returns None."""
+    """Returns what is wrong with the output for a case, or None."""
     if ran.status is None:
         return f"the program hadn't ended after {SECONDS} seconds"
     wrong = difference(ran.output, case.output)
@@ -166,45 +166,45 @@ def fault(case, ran):
 
 
 def untold(error, wanted):
-    """Says how standard error differs from what is wanted, or returns None. Where that is a word with a line and a byte, a sentence about
-    that place follows it; where it is a word of status 3, one about the reason may."""
+    """Returns how standard error differs from what is wanted, or None. A wanted word with a line and a byte must be followed by a sentence
+    about that place. A wanted word of status 3 may be followed by one about the reason."""
     word = WORD.fullmatch(wanted)
     if word:
         place = b"dsctl: line %s, byte %s: " % (word[1], word[2])
-        is_told = error.startswith(wanted) and re.fullmatch(place + rb".*\n", error[len(wanted) :])
-        return None if is_told else f"standard error is {error[:200]!r}, wanted {wanted!r} and a sentence"
+        is_right = error.startswith(wanted) and re.fullmatch(place + rb".*\n", error[len(wanted) :])
+        return None if is_right else f"standard error is {error[:200]!r}, wanted {wanted!r} and a sentence"
     if FAILED.fullmatch(wanted):
-        is_told = error.startswith(wanted) and re.fullmatch(rb"(dsctl: .*\n)?", error[len(wanted) :])
-        return None if is_told else f"standard error is {error[:200]!r}, wanted {wanted!r}"
+        is_right = error.startswith(wanted) and re.fullmatch(rb"(dsctl: .*\n)?", error[len(wanted) :])
+        return None if is_right else f"standard error is {error[:200]!r}, wanted {wanted!r}"
     wrong = difference(error, wanted)
     return wrong and f"standard error: {wrong}"
 
 
 def unexplained(output, error, has_notes=False):
-    """Says if standard error hasn't exactly a line for each bad line of the output, or one for bad settings or an illegal trace; or returns
-    None. In a script with notes the number of a line is that in the file, which the output doesn't have."""
+    """Returns what is wrong with standard error, or None. It must have one line for each bad line of the output, or for an illegal trace, or
+    lines for bad settings. In a script with notes, a line has its number in the file, which the output doesn't have."""
     if BAD_SETTINGS.fullmatch(output):
-        are_told = error.endswith(b"\n") and all(it.startswith(TOLD) for it in error.splitlines())
-        return None if are_told else f"standard error is {error[:200]!r}, wanted lines that begin with {TOLD!r}"
+        are_right = error.endswith(b"\n") and all(it.startswith(TOLD) for it in error.splitlines())
+        return None if are_right else f"standard error is {error[:200]!r}, wanted lines that begin with {TOLD!r}"
     trace = BAD_TRACE.fullmatch(output)
     wanted = [WRONG_LINE % trace[1]] if trace else [b"dsctl: line %s, byte %s: " % (rb"\d+" if has_notes else line, place) for line, place in BAD_LINE.findall(output)]
-    told = error.splitlines()
-    if len(told) == len(wanted) and all(map(re.match, wanted, told)):
+    lines = error.splitlines()
+    if len(lines) == len(wanted) and all(map(re.match, wanted, lines)):
         return None
     return f"standard error is {error[:200]!r}, wanted a line for each of {wanted[:3]}"
 
 
 def named(ran, word, has_notes=False):
-    """Returns whether a run ended with status 3 and the word, after what is said of bad lines, and perhaps with a sentence on the reason."""
-    told = re.fullmatch(rb"(.*?)" + re.escape(word) + rb"(?:dsctl: the [^:]*: .*\n)?", ran.error, re.DOTALL)
-    if ran.status != 3 or not told:
+    """Returns whether a run ended with status 3 and the word, after the sentences about bad lines. One about the reason may follow."""
+    found = re.fullmatch(rb"(.*?)" + re.escape(word) + rb"(?:dsctl: the [^:]*: .*\n)?", ran.error, re.DOTALL)
+    if ran.status != 3 or not found:
         return False
-    is_before_any = BAD_SETTINGS.fullmatch(ran.output) and not told[1]  # memory ran out before the settings were explained
-    return bool(is_before_any) or not unexplained(ran.output, told[1], has_notes)
+    is_before_any = BAD_SETTINGS.fullmatch(ran.output) and not found[1]  # memory ran out before the settings were explained
+    return bool(is_before_any) or not unexplained(ran.output, found[1], has_notes)
 
 
 def session_fault(program, session):
-    """Says what is wrong with the answers to a session, or returns None."""
+    """Returns what is wrong with the answers to a session, or None."""
     ran = run([program], session.typed)
     wrong = difference(ran.output, session.answered)
     if wrong or ran.status or ran.error:
@@ -221,7 +221,7 @@ def _done(at):
 
 
 def at_once(function, items, processes=None):
-    """Calls the function on each item, in as many processes as are wanted, or as there are processors, and returns the results in order."""
+    """Calls the function on each item, and returns the results in order. Uses `processes` processes, or one per processor."""
     global _work
     items = list(items)
     _work = function, items
@@ -234,7 +234,7 @@ def at_once(function, items, processes=None):
 
 
 def report(faults):
-    """Prints each fault by its name, then the count, and returns the exit status. `faults` has pairs (name, fault or None)."""
+    """Prints each fault with its name, then the counts, and returns the exit status. `faults` has pairs (name, fault or None)."""
     bad = [(name, it) for name, it in faults if it]
     for name, it in bad:
         print(f"FAILED {name}: {it}")

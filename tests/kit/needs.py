@@ -1,4 +1,4 @@
-"""What the gate needs besides the repository, what of it is missing, and how it is installed on Debian."""
+"""Lists what the gate needs besides the repository, what is missing, and how to install it on Debian."""
 import os
 import shutil
 import subprocess
@@ -27,7 +27,7 @@ def program(name, package, serves, is_vital=False):
 
 
 def compiles(source, *flags):
-    """Returns whether the C compiler builds a program of this text."""
+    """Returns whether the C compiler builds a program from this text."""
     if not shutil.which(CC):
         return False
     with tempfile.TemporaryDirectory() as room:
@@ -38,7 +38,7 @@ def compiles(source, *flags):
 NEEDS = (
     Need("python3 3.11 or newer", "python3", "every test", lambda: sys.version_info >= (3, 11), True),
     program("rt", "", "the proofs: the Rattle toolchain", True),
-    Need("a C compiler", "gcc", "everything in C, and refused memory (CC may name another one than cc)", lambda: shutil.which(CC) is not None, True),
+    Need("a C compiler", "gcc", "everything in C, and refused memory (CC may name one other than cc)", lambda: shutil.which(CC) is not None, True),
     program("nm", "binutils", "which functions a program calls", True),
     program("bash", "bash", "its completions"),
     program("zsh", "zsh", "its completions"),
@@ -73,7 +73,7 @@ def how_to_install(lacking):
 
 
 def install(lacking):
-    """Installs what is missing, if this is root on Debian, and starts no service."""
+    """Installs what is missing, if this runs as root on Debian. Starts no service."""
     command = how_to_install(lacking)
     if not command or os.geteuid() or not shutil.which("apt-get"):
         return

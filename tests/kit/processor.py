@@ -1,7 +1,8 @@
-"""The processor time of a run of `rt ci`, by crate and by part: proof, tests, edits; and how many proofs run side by side.
+"""Measures the processor time of `rt ci` by crate and part (proof, tests, edits), and limits how many proofs run at once.
 
-`rt ci` starts one `rattle` for each, and says nothing of what it took. So while it runs, the processes below it are
-looked at a few times a second, and what the kernel counts for each `rattle` and all that it started is kept.
+`rt ci` starts one `rattle` for each, and doesn't report what that took. So while it runs, its descendants are
+sampled each second. The time that the kernel counts for each `rattle` and all that it started is kept. What one takes after
+its last sample counts as the rest of `rt ci`.
 """
 import os
 import re
@@ -9,15 +10,15 @@ import threading
 
 PARTS = ("proof", "tests", "edits")
 BUDGET = {"proof": 6, "tests": 1, "edits": 4}  # minutes that a crate may take
-INTERVAL = 0.25
+INTERVAL = 1  # seconds between two samples
 MOST = 4  # proofs at once
-UNKNOWN = 2  # proofs at once, if a figure can't be found out
+UNKNOWN = 2  # proofs at once, if a figure is unknown
 ROOM = 5 << 30  # bytes that must be free for each proof
 TICK = os.sysconf("SC_CLK_TCK")
 
 
 def side_by_side(processors, free):
-    """Returns how many proofs run at once, for a number of processors and bytes of free memory; None is an unknown figure."""
+    """Returns how many proofs run at once, given the processors and the bytes of free memory; None means unknown."""
     by_processors = UNKNOWN if processors is None else processors
     by_memory = UNKNOWN if free is None else free // ROOM
     return max(1, min(MOST, by_processors, by_memory))
@@ -29,7 +30,7 @@ def usable_processors():
 
 
 def free_memory(path="/proc/meminfo"):
-    """Returns how many bytes of memory programs may take now, or None."""
+    """Returns how many bytes of memory are available to programs now, or None."""
     found = re.search(rb"^MemAvailable: +(\d+) kB$", read(path), re.MULTILINE)
     return int(found[1]) << 10 if found else None
 
@@ -42,8 +43,25 @@ def read(path):
         return b""
 
 
+def worked(path="/proc/stat"):
+    """Returns the minutes that all processors have worked, and those that other machines on the same hardware took from them; or None."""
+    found = re.match(rb"cpu +(\d+) (\d+) (\d+) \d+ \d+ (\d+) (\d+) (\d+)", read(path))
+    if not found:
+        return None
+    *busy, stolen = (int(it) / TICK / 60 for it in found.groups())
+    return sum(busy), stolen
+
+
+def beside(before, after, own):
+    """Returns rows for the table: the minutes that others took while something ran that itself took `own`. They slow it down."""
+    if not (before and after):
+        return []
+    busy, stolen = (new - old for old, new in zip(before, after))
+    return [("beside it: other programs", max(0, busy - own)), ("beside it: other machines", stolen)]
+
+
 def processes():
-    """Returns by number each process's parent, and the seconds that it and its ended children took."""
+    """Returns, by process number, the parent and the seconds that the process and its ended children took."""
     found = {}
     for name in os.listdir("/proc"):
         fields = read(f"/proc/{name}/stat").rpartition(b")")[2].split() if name.isdigit() else []
@@ -53,7 +71,7 @@ def processes():
 
 
 def part_of(number):
-    """Returns the crate and the part that a `rattle` works at, or None if the process isn't one."""
+    """Returns the crate and the part that a `rattle` works on, or None if the process isn't one."""
     words = read(f"/proc/{number}/cmdline").split(b"\0")
     if not words[0].endswith(b"/rattle") or b"--crate-name" not in words:
         return None
@@ -66,12 +84,12 @@ def part_of(number):
 
 
 class Clock:
-    """Watches the process `number` and all below it: `with Clock(number) as clock: ..`."""
+    """Watches the process `number` and its descendants: `with Clock(number) as clock: ..`."""
 
     def __init__(self, number):
         self.number = number
         self.ended = threading.Event()
-        self.seconds = {}  # by the number of a `rattle`: its crate, its part, and its time so far
+        self.seconds = {}  # by the number of a `rattle`, its crate and its part: its time so far
         self.looking = threading.Thread(target=self.look_on)
 
     def __enter__(self):
@@ -91,7 +109,7 @@ class Clock:
             self.look(self.number, found, children)
 
     def look(self, number, found, children):
-        """Finds the first `rattle` on each path below a process."""
+        """Finds the first `rattle` on each path down from a process."""
         for child in children.get(number, ()):
             part = part_of(child)
             if part:
@@ -111,16 +129,16 @@ class Clock:
         return sums
 
 
-def table(minutes, rest):
-    """Returns lines with the minutes of each crate and part, and of the rest by its name; and what is above its budget.
+def table(minutes, rest, others=()):
+    """Returns lines with the minutes of each crate and part, of the rest by name, of others, and of what is above its budget.
 
-    The crate that took most is first, and the sums follow the crates.
+    The crate that took the most comes first, and the sums follow the crates. No sum includes `others`, the rows of `beside`.
     """
     crates = [(crate, *(minutes.get((crate, part), 0) for part in PARTS)) for crate in {crate for crate, _ in minutes}]
     crates.sort(key=lambda row: (-sum(row[1:]), row[0]))
     sums = ("all crates", *(sum(row[at] for row in crates) for at in range(1, len(PARTS) + 1)))
     lines = [f"{'processor minutes':<20}" + "".join(f"{part:>8}" for part in PARTS) + f"{'sum':>8}"]
     lines += [f"{row[0]:<20}" + "".join(f"{it:8.1f}" for it in (*row[1:], sum(row[1:]))) for row in [*crates, sums]]
-    lines += [f"{name:<44}{it:8.1f}" for name, it in [*rest, ("all", sum(sums[1:]) + sum(it for _, it in rest))]]
+    lines += [f"{name:<44}{it:8.1f}" for name, it in [*rest, ("all", sum(sums[1:]) + sum(it for _, it in rest)), *others]]
     over = [(row[0], part) for row in crates for part, it in zip(PARTS, row[1:]) if it > BUDGET[part]]
     return lines + [f"above its budget of {BUDGET[part]}: {crate}, {part}" for crate, part in over]

@@ -1,15 +1,15 @@
 // A library that is preloaded into a program (LD_PRELOAD), and refuses it one growth of memory, one read or one write.
 //
 //   REFUSE_GROWTH=n  the n-th growth of memory fails with ENOMEM
-//   REFUSE_THREAD=n  the n-th thread can't start, by EAGAIN
-//   REFUSE_LATER=1   each later one fails, too
+//   REFUSE_THREAD=n  the n-th thread fails to start with EAGAIN
+//   REFUSE_LATER=1   every later growth or thread fails too
 //   REFUSE_BEHIND=k  only growths after the k-th write are counted
 //   REFUSE_READ=n    the n-th read of standard input fails with EIO
 //   REFUSE_WRITE=n   the n-th write to standard output fails with EIO
 //   REFUSE_SHORT=k   each read of standard input returns, and each write to standard output takes, at most k bytes
-//   REFUSE_AGAIN=k   each of these reads and writes is interrupted k times, by EINTR, before it goes through
-//   REFUSE_STACK=F   the file F gets, at the refused growth, the program counter and the words of the stack from there up to
-//                    main, which show which function asked (tests/kit/askers.py)
+//   REFUSE_AGAIN=k   each of these reads and writes fails k times with EINTR before it succeeds
+//   REFUSE_STACK=F   the file F gets, at the refused growth, the address that the program is loaded at and the words of the
+//                    stack up to main, which show which function asked (tests/kit/askers.py)
 //   REFUSE_TALLY=F   the file F, four 64-bit words, gets the number of growths, reads and writes, and of bytes read
 //
 // Calls are counted from the start of the program's `main`, over all its threads. What the loader and the C library take
@@ -18,7 +18,7 @@
 // there the program names its fault.
 //
 // Calls for memory are passed on to the C library's own names, since `dlsym` may itself take memory. Each function below overrides
-// one name by which a program takes memory, reads or writes; tests/dsctl/refusals stops at a program that imports others.
+// one name by which a program takes memory, reads or writes; tests/dsctl/refusals fails for a program that imports others.
 #define _GNU_SOURCE
 #include <dlfcn.h>
 #include <errno.h>
@@ -38,10 +38,10 @@ enum { MOST_STACK = 8 << 20 };
 
 static _Atomic uint64_t *tally; // NULL until main begins
 static uint64_t refused[WORDS]; // which call of each kind fails; 0 for none
-static uint64_t most = SIZE_MAX; // bytes of one read or write
-static uint64_t writes_before;   // the writes before the first growth that is counted
-static uint64_t later;           // whether growths and threads after the one that fails fail, too
-static uint64_t interruptions;   // of each read and write before it goes through
+static uint64_t most = SIZE_MAX; // most bytes of one read or write
+static uint64_t writes_before;   // how many writes precede the first growth that is counted
+static uint64_t later;           // whether all growths and threads after the failing one fail too
+static uint64_t interruptions;   // of each read and write before it succeeds
 static _Atomic uint64_t interrupted; // how many the next one has had
 static uint64_t refused_thread;  // which thread can't start; 0 for none
 static _Atomic uint64_t threads; // how many were started

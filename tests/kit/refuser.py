@@ -8,20 +8,20 @@ import askers
 import harness
 
 CALLS = ("growth", "read", "write")
-# Names that take memory, read or write, with which a program would bypass the library of tests/kit/refuse.c.
+# Names of functions that take memory, read or write. A program that calls one which tests/kit/refuse.c lacks bypasses it.
 MOVES = re.compile(
     "alloc|memalign|mmap|mremap|brk$|strn?dup|getline|getdelim|read|recv|scanf|getc|gets|write|send|printf|put[sc]|splice|syscall"
 )
-# A waiting thread sleeps and is woken by `syscall`.
+# A waiting thread sleeps, and is woken, by `syscall`.
 HARMLESS = re.compile(r"^pthread_|^v?sn?printf$|^readlink$|^syscall$")
-# Functions that may be refused a growth without a change of any answer: `clap`, which looks for a similar word; `regex`, which
-# reads a pattern, also where its reader is compiled into `tree_of`, which takes no memory itself; `toml`, which reads a number; a
-# world that packs a message, which is then unchanged; and a holder's table of guesses, which keeps its size.
+# Functions that may be refused a growth while no answer changes: `clap`, which looks for a similar word; `regex`, which reads a
+# pattern, also if its reader is compiled into `tree_of`, which takes no memory itself; `toml`, which reads a number; a world that
+# packs a message, which is then unchanged; and a holder's table of guesses, which keeps its size.
 DOES_WITHOUT = re.compile(
     r"^((strsim|regex_(class|syntax)|toml(_[a-z]+)?|ds_packed)::|ds_pattern::pattern::tree_of$|ds_world::replies::keep$|ds_held::guesses::)"
 )
-EXPLAINS = "ds_explain"  # whose sentences on standard error may be less exact
-# Memory may run out where a Since's pattern is matched; the cursor is judged all the same, since its refusals come before NoRoom.
+EXPLAINS = "ds_explain"  # its sentences on standard error may be less exact
+# Memory may run out while a Since's pattern is matched. The cursor is still judged, since its refusals come before NoRoom.
 SEARCH = "regex_vm::pikevm::PikeVm::new"
 CURSOR_REFUSED = re.compile(rb"^refused (oldcursor|ahead|behind)$|: refused: the journal doesn't reach back to the cursor$", re.MULTILINE)
 
@@ -51,15 +51,15 @@ class Refuser:
         return ran, dict(zip((*CALLS, "bytes"), counts))
 
     def counted(self, case):
-        """Runs a case with ample memory, and returns what is wrong, if anything, and its number of growths."""
+        """Runs a case with ample memory. Returns what is wrong, or None, and the number of growths."""
         ran, counts = self.run(case)
         wrong = harness.fault(case, ran)
         if not wrong and not counts["growth"]:
-            wrong = "no growth of memory was counted at all"
+            wrong = "no growth of memory was counted"
         return wrong, counts["growth"]
 
     def each_growth(self, case, fault):
-        """Refuses each growth of a case, one a run, and judges each run. Says what is wrong with the first bad one, or returns None."""
+        """Refuses each growth of a case, one per run, and judges each run. Returns what is wrong with the first bad one, or None."""
         wrong, count = self.counted(case)
         if wrong:
             return wrong
@@ -70,16 +70,16 @@ class Refuser:
         return None
 
     def file(self, word):
-        """Returns the path of a file of this process."""
+        """Returns the path of a file that only this process uses."""
         return os.path.join(self.room, f"{word}-{os.getpid()}")
 
     def unseen_fault(self, output=b""):
-        """Says what is wrong if the last refused growth changed nothing of the output, or returns None."""
+        """Returns what is wrong if the last refused growth changed nothing in the output, or None if its asker can do without it."""
         with open(self.file("stack"), "rb") as words:
             stack = words.read()
         asker = self.askers.asker(stack)
         does_without = DOES_WITHOUT.search(asker) or asker == SEARCH and CURSOR_REFUSED.search(output) or self.askers.is_within(stack, EXPLAINS)
-        return None if does_without else f"no answer tells of it, and {asker} asked for it"
+        return None if does_without else f"no answer reports it, and {asker} asked for it"
 
     def names_passed_by(self):
         """Returns the names that the program imports to take memory, read or write, and that the library lacks."""

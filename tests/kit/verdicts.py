@@ -1,31 +1,31 @@
-"""What a check of a crate says of the wrong bodies in it."""
+"""Judges what a check of a crate reports about the wrong bodies in it."""
 import re
 
-# A message of rattle's at a place: '[note: ]FILE:LINE:COLUMN: ..'.
+# A message of rattle's that has a place: '[note: ]FILE:LINE:COLUMN: ..'.
 PLACED = re.compile(r"(?:note: )?(?:\./)?([\w./+-]+\.(?:rt|antt)):(\d+):\d+: (.*)")
-# A proof that fails because it names what the edit removed says nothing of the contract.
+# A proof that fails because it names what the edit removed shows nothing about the contract.
 NAMES_ALONE = re.compile(r"has no field|` \(nearest: |is not in scope|has no `|was not admitted")
-# An answer to a goal that the edit renamed: the goal of the new name has no answer, so that it isn't proved says nothing either.
+# An answer to a goal that the edit renamed. The goal's new name has no answer, so its failure shows nothing either.
 RENAMED = re.compile(r"module `[^`]*\.Goals` has no `")
-# A text that can't be read: an edit that only makes a statement false can.
+# A text that can't be read. An edit that only makes a statement false leaves it readable.
 UNREAD = re.compile(r"is not in scope|has no field|is no name|operand is missing|expected the end|cannot continue")
 
 
 def whole(output):
-    """Returns the lines of an output; one that begins at a place has the first indented line after it."""
-    lines, goes_on = [], False
+    """Returns the lines of an output. The first indented line after one that has a place is joined to it."""
+    lines, may_continue = [], False
     for line in output.splitlines():
-        if goes_on and line.startswith(" "):
+        if may_continue and line.startswith(" "):
             lines[-1] += " " + line.strip()
-            goes_on = False
+            may_continue = False
         else:
             lines.append(line)
-            goes_on = PLACED.match(line) is not None
+            may_continue = PLACED.match(line) is not None
     return lines
 
 
 def judge(status, output, texts):
-    """Returns whether the prover refused the edited crate for what it does, and what it said."""
+    """Returns whether the prover refused the edited crate for what it does, and a line that reports why."""
     lines = whole(output)
     if status == 0:
         return False, "NOT REFUSED: the crate is still proved with this edit"
@@ -66,7 +66,7 @@ def told(function, name, output):
 
 
 def is_read(status, output):
-    """Returns whether a check reached the proofs, and could read all texts."""
+    """Returns whether a check reached the proofs and could read every text."""
     lines = output.splitlines()
     unread = [it for it in map(PLACED.match, lines) if it and it[1].startswith(("src/", "specs/")) and it[3].startswith("error: ")]
     return status == 1 and any(line.startswith("logic=not-proved") for line in lines) and not unread

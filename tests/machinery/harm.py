@@ -1,4 +1,4 @@
-"""Harm to a running service: SIGKILL, SIGSTOP, or a bit of its text pages that is flipped, each after an interval."""
+"""Harm to a running service: SIGKILL, SIGSTOP, or a flipped bit of its text pages, at intervals."""
 import os
 import pathlib
 import random
@@ -30,14 +30,14 @@ class Victim:
 
 
 def functions_of(program):
-    """The functions of a program: name, address and size."""
+    """Returns the functions of a program: name, address and size."""
     said = subprocess.run(["nm", "-S", "--defined-only", program], capture_output=True, text=True, check=True).stdout
     rows = [line.split() for line in said.splitlines()]
     return [(name, int(address, 16), int(size, 16)) for address, size, kind, name in (it for it in rows if len(it) == 4) if kind in "tT"]
 
 
 def base_of(pid, program):
-    """Where a program is in memory."""
+    """Returns the address of a program in memory."""
     for line in open(f"/proc/{pid}/maps"):
         if line.rstrip().endswith(f"/{program}") and line.split()[2] == "00000000":
             return int(line.split("-")[0], 16)
@@ -58,7 +58,7 @@ class Harm(threading.Thread):
         self.join(20)
 
     def find(self):
-        """The service's process, or None while there is none."""
+        """Returns the service's process, or None while there is none."""
         if self.victim and self.victim.lives():
             return self.victim
         if self.victim:
@@ -78,7 +78,7 @@ class Harm(threading.Thread):
         return self.victim
 
     def is_pause(self, begun):
-        """Whether this is a part of a run that is to be undisturbed: every other one."""
+        """Returns whether this part of a run is to be undisturbed, as every other one is."""
         return self.pairs and int((time.monotonic() - begun) / self.pairs) % 2 == 0
 
     def run(self):

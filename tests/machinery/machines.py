@@ -1,4 +1,4 @@
-"""The machine of examples/machine under a dsrs: how it is built and begun, what its applications say, and what its supervisor noted."""
+"""The machine of examples/machine under a dsrs: how it is built and started, what its applications print, and what its supervisor notes."""
 import os
 import pathlib
 import re
@@ -32,7 +32,7 @@ def build_disk(example, made):
 
 
 def edited(to, *changes):
-    """A copy of examples/machine in which texts are replaced: each change names a file, an old and a new text."""
+    """Returns a copy of examples/machine in which texts are replaced: each change names a file, an old and a new text."""
     example = to / "examples" / "machine"
     if not example.exists():
         shutil.copytree(EXAMPLE, example)
@@ -45,7 +45,7 @@ def edited(to, *changes):
 
 
 class Machine(supervisors.Host):
-    """A machine of its own, in a folder of its own. All that it started ends with the `with`."""
+    """A machine in a folder of its own. Everything that it started ends with the `with`."""
 
     def __init__(self, supervisor, built, blocks=4096, disks=2):
         super().__init__([supervisor / "dsrs"], supervisor)
@@ -103,11 +103,11 @@ class Machine(supervisors.Host):
     # ---- what is noted ----
 
     def log(self):
-        """What the supervisor printed. A driver whose text is spoiled may print anything."""
+        """Returns what the supervisor printed. A driver whose text is spoiled may print anything."""
         return (self.home / "log").read_text(errors="replace")
 
     def notes_of(self, server="fs"):
-        """What a server noted: seconds, word, label, generation and text, each."""
+        """Returns a server's notes, each as seconds, word, label, generation and text."""
         path = self.home / f"{server}.log"
         text = path.read_text(errors="replace") if path.exists() else ""
         return [(float(at), word, label, int(generation), why) for at, word, label, generation, why in NOTE.findall(text)]
@@ -117,7 +117,7 @@ class Machine(supervisors.Host):
 
 
 class Supervised(threading.Thread):
-    """The events of a machine's supervisor, of which `log` keeps the last 1,024, so they are read each second."""
+    """The events of a machine's supervisor, read each second, because `log` keeps only the last 1,024."""
 
     def __init__(self, machine):
         super().__init__(daemon=True)
@@ -138,7 +138,7 @@ class Supervised(threading.Thread):
                 return
 
     def read(self):
-        """All events so far: the second by the clock of this process, and the text."""
+        """Returns all events so far: the second by the clock of this process, and the text."""
         with self.lock:
             *lines, last = self.machine.ask("log", "events").splitlines()
             count = int(last.split()[1])
@@ -150,13 +150,13 @@ class Supervised(threading.Thread):
             return self.kept
 
     def end(self):
-        """Reads no more."""
+        """Stops reading."""
         self.over.set()
         self.join()
 
 
 def counts_of(said):
-    """What an application counted, or None if it ended without."""
+    """Returns what an application counted, or None if it printed no counts."""
     found = COUNTS.findall(said)
     if not found:
         return None
@@ -165,5 +165,5 @@ def counts_of(said):
 
 
 def rates_of(said):
-    """When how many requests were answered: seconds and counts."""
+    """Returns how many requests were answered by when: seconds and counts."""
     return [(int(at) / 1e9, int(count)) for at, count in AT.findall(said)]

@@ -1,4 +1,4 @@
-"""What came of harm: each failure of a service sorted by how it was detected, when the next instance answered, and what was never detected."""
+"""The results of harm: each failure of a service by how it was detected, when the next instance answered, and what was never detected."""
 import re
 import statistics
 
@@ -10,14 +10,14 @@ CAUSES = tuple(WORDS.values())
 
 
 class Failure:
-    """An instance that failed: when RS knew it, why, when the next one began, and when that answered; None if it never did."""
+    """An instance that failed: when RS noticed, why, when the next one began, and when that one answered; None if it never did."""
 
     def __init__(self, at, generation, cause):
         self.at, self.generation, self.cause, self.began, self.answered = at, generation, cause, None, None
 
 
 def failures_of(events, notes, label):
-    """The failures of a service, in order."""
+    """Returns the failures of a service, in order."""
     found, began, firsts = {}, {}, {}
     for at, text in events:
         if text.startswith("ends"):
@@ -39,7 +39,7 @@ def failures_of(events, notes, label):
 
 
 def times_of(failures, harmed):
-    """From each failure's last harm to the first answer of the next instance, in milliseconds; and RS's pause within it."""
+    """Returns the times from each failure's last harm to the next instance's first answer, and RS's pauses, all in milliseconds."""
     last = {int(endpoint.split("/")[0]): at for at, endpoint, _ in harmed}
     whole = [1000 * (it.answered - last[it.generation]) for it in failures if it.answered and it.generation in last]
     pause = [1000 * (it.began - it.at) for it in failures if it.began]
@@ -52,14 +52,14 @@ def percentile(values, share):
 
 
 def figures(values):
-    """Median, 99th of a hundred and greatest, or None."""
+    """Returns the median, the 99th percentile and the maximum, or None."""
     if not values:
         return None
     return {"median": round(statistics.median(values), 1), "p99": round(percentile(values, 0.99), 1), "most": round(max(values), 1)}
 
 
 def rate(rates, spans, size=4096):
-    """MB a second within spans of time."""
+    """Returns the MB a second within spans of time, or None."""
     count = taken = 0
     for (before, had), (after, has) in zip(rates, rates[1:]):
         if any(begin <= before and after <= end for begin, end in spans):
@@ -69,7 +69,7 @@ def rate(rates, spans, size=4096):
 
 
 def sides(begun, end, pairs):
-    """The spans of a run that were undisturbed, and those that weren't."""
+    """Returns the spans of a run that were undisturbed, and those that weren't."""
     quiet, harmed, at, turn = [], [], begun, 0
     while at < end:
         (harmed if turn % 2 else quiet).append((at, at + pairs))
@@ -82,7 +82,7 @@ HANGS = 0.2  # seconds that a driver may be silent before it is missed
 
 
 def flips_of(done, failures):
-    """Flips sorted, by word; and by function how many there were, and how many were the last one before a failure."""
+    """Returns the flips of each kind; and by function how many there were, and how many were the last before a failure."""
     failed, last = {it.generation: it for it in failures}, {}
     sorted_flips = {"last before a failure": 0, "into a driver that hung": 0, "into code that ran already": 0, "without effect": 0}
     rows = {}

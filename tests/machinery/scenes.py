@@ -1,4 +1,4 @@
-"""What the machine must do while its drivers die, a function each. A scene gets a function that makes a machine."""
+"""Scenes of what the machine must do while its drivers die. A scene gets a function that makes a machine."""
 import hashlib
 import json
 import random
@@ -10,13 +10,13 @@ import tables
 from harm import Flip, Kill, Stop
 from machines import counts_of
 from outcomes import failures_of
-from supervisors import ROOT, equal
+from supervisors import ROOT, Skipped, equal
 
 PATIENCE = 60  # seconds that an application may take
 SMALL = 1024  # blocks
 SCENES = []
 
-# Drivers that are wrong: a file, a text of it, and what is there instead.
+# Wrong drivers: a file, a text of it, and what replaces it.
 READS_WRONGLY = ("disk.c", "if (!writes && done) move(frame->data, buffer);", "static int reads; if (!writes && done) move(frame->data, buffer), frame->data[9] ^= ++reads % 300 == 299;")
 WRITES_WRONGLY = ("disk.c", "if (writes && fits) move(buffer, frame->data);", "static int written; if (writes && fits) move(buffer, frame->data), buffer[9] ^= ++written % 50 == 49;")
 ANSWERS_HALF = ("disk.c", "head->length = done && !writes ? BLOCK : 0;", "static int asked; head->length = done && !writes ? ++asked % 400 == 399 ? BLOCK / 2 : BLOCK : 0;")
@@ -30,7 +30,7 @@ def scene(function):
 
 
 def ended(application):
-    """What an application said, once it ended; it says how many requests were answered rightly."""
+    """Waits until an application ends, and returns its counts of requests."""
     said = application.communicate(timeout=PATIENCE)[0]
     counts = counts_of(said)
     assert counts, f"the application ended without its counts: {said[-500:]}"
@@ -38,7 +38,7 @@ def ended(application):
 
 
 def all_is_well(counts, refused=0):
-    """Every request has one answer, and no block is wrong."""
+    """Checks that every request has one answer, and no block is wrong."""
     assert counts["asked"] == counts["answered"], f"{counts['asked'] - counts['answered']} requests are lost: {counts}"
     for word, wanted in (("wrong", 0), ("twice", 0), ("refused", refused)):
         assert counts[word] == wanted, f"{counts[word]} {word}: {counts}"
@@ -56,16 +56,16 @@ def nobody_is_blamed(machine):
 
 
 def all_recovered(machine, label, least=1):
-    """Every failure of a service but one at the end was followed by an answer of the next instance."""
+    """Checks that after every failure of a service, except the last, a later instance answered. Returns the failures."""
     failures = failures_of(machine.supervised.read(), machine.notes_of("inet" if label == "eth0" else "fs"), label)
     open_ones = [it.generation for it in failures[:-1] if it.answered is None]
     assert not open_ones, f"{label} of generation {open_ones} failed, and no later one answered"
-    assert len(failures) >= least, f"{len(failures)} failures of {label}, and at least {least} were wanted"
+    assert len(failures) >= least, f"{len(failures)} failures of {label} instead of at least {least}"
     return failures
 
 
 def harmed(machine, harm, application):
-    """An application that ends while something is harmed."""
+    """Harms something until an application ends, and returns the application's counts."""
     harm.start()
     try:
         return ended(application)
@@ -86,7 +86,7 @@ def undisturbed(make):
 
 @scene
 def kills(make):
-    """A driver of the mirror is killed each quarter of a second, while the file is written and read."""
+    """No request is lost while a driver of the mirror is killed each quarter of a second, and the file is written and read."""
     with make() as machine:
         all_is_well(harmed(machine, Kill(machine, "disk0", 0.25), machine.files("write", 5, 32)))
         all_is_well(ended(machine.files("check", 0, 32)))
@@ -106,7 +106,7 @@ def kills_of_the_only_disk(make):
 
 @scene
 def stops(make):
-    """A driver that is stopped is missed by its heartbeats."""
+    """RS notices a driver that is stopped, by its heartbeats or a complaint."""
     with make(disks=1) as machine:
         all_is_well(harmed(machine, Stop(machine, "disk0", 0.8), machine.files("read", 4, 32)))
         failures = all_recovered(machine, "disk0", 3)
@@ -146,7 +146,7 @@ def requests_wait_for_a_driver(make):
 
 @scene
 def requests_of_one_block_keep_their_order(make):
-    """A block that is written at once after it was asked for is read unchanged, and nobody is blamed for that."""
+    """A block that is written right after it was requested is read unchanged, and no driver is blamed for that."""
     with make() as machine:
         all_is_well(ended(machine.files("both", 1, 64)))
         nobody_is_blamed(machine)
@@ -228,7 +228,7 @@ def a_driver_that_does_not_answer_is_blamed(make):
 
 @scene
 def a_driver_that_wants_more_is_ended(make):
-    """A driver that calls the kernel for something else is ended by it."""
+    """The kernel ends a driver that makes another system call."""
     with make(OPENS_A_FILE) as machine:
         all_is_well(ended(machine.files("read", 1, 32)))
         equal({it.cause for it in all_recovered(machine, "disk0")}, {"exception"})
@@ -237,13 +237,12 @@ def a_driver_that_wants_more_is_ended(make):
 
 @scene
 def flips(make):
-    """Bits of the running driver are flipped, while the file is written and read."""
+    """No request is lost while bits of the running driver are flipped, and the file is written and read."""
     with make() as machine:
         harm = Flip(machine, "disk0", 0.004, seed=1)
         all_is_well(harmed(machine, harm, machine.files("write", 6, 32)))
         if harm.is_denied:
-            print("flips: not tried, since another process's memory may not be written")
-            return
+            raise Skipped("another process's memory may not be written")
         all_is_well(ended(machine.files("check", 0, 32)))
         images_are(machine)
         all_recovered(machine, "disk0", 3)
@@ -252,7 +251,7 @@ def flips(make):
 
 @scene
 def a_download(make):
-    """A file is downloaded while the network driver is killed, and its SHA-256 is right."""
+    """A file that is downloaded while the network driver is killed has the right SHA-256."""
     with make() as machine:
         text = random.Random(3).randbytes(12_000_000)
         (machine.home / "page").write_bytes(text)
@@ -267,7 +266,7 @@ def a_download(make):
 
 @scene
 def a_console(make):
-    """Lines that are printed while the console's driver is killed: none is missing, and one is printed twice after a fault at most."""
+    """While the console's driver is killed, no line is missing, and after a fault at most one is printed twice."""
     with make() as machine:
         client = machine.application("client", "print", 20000)
         counts = harmed(machine, Kill(machine, "console", 0.2, "console"), client)
@@ -281,7 +280,7 @@ def a_console(make):
 
 @scene
 def the_readme(make):
-    """What examples/machine/README.md says of how the machine is run."""
+    """The commands of examples/machine/README.md run the machine."""
     text = (ROOT / "examples/machine/README.md").read_text().partition("## Run it")[2].partition("\n## ")[0]
     lines = [line.strip() for line in text.splitlines() if line.startswith("    ") and not line.strip().startswith("tools/build")]
     folder = make.room / "readme"

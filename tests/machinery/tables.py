@@ -33,7 +33,7 @@ def total(rows, word):
 
 
 def summed(rows, field):
-    """The counts of a field of several runs, by their words; a count may be a list."""
+    """Returns the sums of a field over several runs, by word. A count may be a list."""
     found = {}
     for it in rows:
         for word, count in it[field].items():
@@ -43,12 +43,12 @@ def summed(rows, field):
 
 
 def share(it):
-    """How much of the undisturbed throughput is left."""
+    """Returns the share of the undisturbed throughput that is left, or None."""
     return it["harmed"] / it["undisturbed"] if it.get("harmed") and it.get("undisturbed") else None
 
 
 def away(it):
-    """The part of the time of harm in which there was no driver."""
+    """Returns the part of the time of harm in which there was no driver."""
     harmed = it["seconds"] / 2 if it["name"].startswith("kills ") else it["seconds"]
     return sum(it["whole"]) / 1000 / harmed
 
@@ -113,7 +113,7 @@ def of_others(rows):
 
 
 def tables(rows):
-    """All tables, as lines of a page."""
+    """Yields all tables, as lines of a page."""
     loads = [it["load"] for it in rows]
     yield f"load {min(loads)} to {max(loads)}, by hand {total(rows, 'by hand')}, lost copies {total(rows, 'lost copies')}"
     for part in (of_kills, of_requests, of_flips, of_outcomes, of_others):
@@ -122,7 +122,7 @@ def tables(rows):
 
 
 def picture(rows):
-    """Throughput under kills, as a share of the undisturbed one, and the part of the time in which there was a driver."""
+    """Returns a chart of the throughput under kills, as a share of the undisturbed one, and of the time in which there was a driver."""
     kills = sorted(named(rows, r"kills [\d.]+"), key=lambda it: -float(it["name"].split()[1]))
     sizes = [f"{it['name'].split()[1]} s" for it in kills]
     shares = [100 * share(it) if share(it) else None for it in kills]

@@ -6,7 +6,7 @@ from .world import World
 
 
 def left_of(script):
-    """The lines of a script that are read: of one of format 2 those after the first that are neither comments nor empty."""
+    """Returns the lines of a script that are read: in format 2, those after the first that are neither comments nor empty."""
     first, newline, rest = script.partition(b"\n")
     if first != b"script 2":
         return script
@@ -14,12 +14,12 @@ def left_of(script):
     return b"\n".join(it for at, it in enumerate(lines) if not it.startswith(b"#") and (it or at == len(lines) - 1))
 
 
-def replay(script, keep_going=False, wanting=(None, None), ends=False):
+def replay(script, keep_going=False, runs_out=(None, None), ends=False):
     """Answers a script of either format: returns the output and the status. A bad line ends it, unless `keep_going` is set. With `ends`
     an empty line ends each answer.
 
-    `wanting` names a line, counted from 1, at which memory runs out, and after how many of its steps (see Session). None for the number
-    of steps: the whole line is refused.
+    `runs_out` names a line, counted from 1, at which memory runs out, and after how many of its steps (see Session). If the number of
+    steps is None, the whole line is refused.
     """
     given = left_of(script).split(b"\n")
     end = [b""] * ends
@@ -35,8 +35,8 @@ def replay(script, keep_going=False, wanting=(None, None), ends=False):
             if keep_going:
                 continue
             break
-        if (number, None) == wanting:
+        if (number, None) == runs_out:
             answers += [NO_ROOM, *end]
         else:
-            answers += [*session.answer(command, taken, wanting[1] if number == wanting[0] else None), *end]
+            answers += [*session.answer(command, taken, runs_out[1] if number == runs_out[0] else None), *end]
     return b"".join(it + b"\n" for it in answers), status

@@ -1,7 +1,7 @@
 """The lines of a script, read in parts from left to right.
 
-A bad line is named by the byte where its first unreadable part begins. Each reader returns what its part says, a value as it
-is spelled.
+A bad line is reported by the byte where its first unreadable part begins. Each reader returns what its part means, a value as
+it is spelled.
 """
 import functools
 import re
@@ -27,13 +27,13 @@ HEX = re.compile(rb"[0-9a-f]*")
 QUOTED = re.compile(rb'"(?:[ !#-\[\]-~]|\\["\\])*"|')
 ESCAPED = re.compile(rb"\\(.)")
 PATTERN = re.compile(rb'"(?:[^"\\\n]|\\["\\])*"|')
-BEGINNING = re.compile(rb"-(?![A-Za-z0-9._-])(?! (?:label|u32|str|mem)(?![A-Za-z0-9]))")  # a dash that begins no name
+BEGINNING = re.compile(rb"-(?![A-Za-z0-9._-])(?! (?:label|u32|str|mem)(?![A-Za-z0-9]))")  # a dash that doesn't begin a name
 ALL = re.compile(rb"\*")
 BYTE = re.compile(rb".?", re.DOTALL)
 REST = re.compile(rb".*", re.DOTALL)
 
 
-# An item: a change, its value as it is spelled and None for a tombstone, or the floor of an owner.
+# An item: a change, whose value is as it is spelled, or None for a tombstone; or the floor of an owner.
 Change = namedtuple("Change", "key owner version value")
 Floor = namedtuple("Floor", "owner generation")
 
@@ -79,12 +79,12 @@ class Reader:
 
 
 def is_number(text, most):
-    """A decimal without leading zeros that isn't above `most`."""
+    """Returns whether a text is a decimal without leading zeros that isn't above `most`."""
     return NUMBER.fullmatch(text) is not None and int(text) <= most
 
 
 def numbers_of(text):
-    """The generation and the slot of an endpoint's text, or None."""
+    """Returns the generation and the slot of an endpoint's text, or None."""
     found = text and ENDPOINT.fullmatch(text)
     if not found or not is_number(found[1], MOST_GENERATION) or not is_number(found[2], MOST_SLOT):
         return None
@@ -92,12 +92,12 @@ def numbers_of(text):
 
 
 def is_quoted(text):
-    """A text in quotes, of at most 256 bytes without its backslashes."""
+    """Returns whether a text in quotes has at most 256 bytes without its backslashes."""
     return text != b"" and len(ESCAPED.sub(rb"\1", text[1:-1])) <= MOST_TEXT
 
 
 def is_hex(text):
-    """The hex of at most 1024 bytes."""
+    """Returns whether hex digits spell at most 1024 bytes."""
     return len(text) % 2 == 0 and len(text) <= 2 * MOST_BLOB
 
 
@@ -118,19 +118,19 @@ def endpoint(reader):
 
 
 def key(reader):
-    """A name and the place of a kind."""
+    """Reads a name and a kind, and returns the name and the kind's place."""
     return name(reader), KINDS.index(reader.after_space(word, *KINDS))
 
 
 def version(reader):
-    """An epoch and a sequence number."""
+    """Reads an epoch and a sequence number."""
     epoch = number(reader, MOST_GENERATION)
     reader.byte(b".")
     return epoch, number(reader, MOST_NUMBER)
 
 
 def value(reader, kind, is_good=lambda it: True):
-    """A value of the kind, as it is spelled."""
+    """Reads a value of the kind, as it is spelled."""
     run, is_spelled = [
         (ENDPOINT, lambda it: numbers_of(it) is not None),
         (DIGITS, lambda it: is_number(it, MOST_NUMBER)),
@@ -141,7 +141,7 @@ def value(reader, kind, is_good=lambda it: True):
 
 
 def change(reader):
-    """A change."""
+    """Reads a change."""
     entry = name(reader)
     reader.byte(b" ")
     kind = KINDS.index(reader.part(WORD, lambda it: it in KINDS and (it, entry) != (b"label", b"rs")))
@@ -163,18 +163,18 @@ def change(reader):
 
 
 def floor(reader):
-    """A floor."""
+    """Reads a floor."""
     reader.byte(b"!")
     return Floor(reader.after_space(name), reader.after_space(number, MOST_GENERATION))
 
 
 def offer(reader):
-    """What an `offer` takes. No name begins with a floor's mark."""
+    """Reads what an `offer` takes. No name begins with a floor's mark."""
     return (floor(reader) if reader.line.startswith(b"!", reader.at) else change(reader),)
 
 
 def put(reader):
-    """What a `publish` takes."""
+    """Reads what a `publish` takes."""
     caller = endpoint(reader)
     overwrite = reader.after_space(word, b"new", b"over") == b"over"
     entry = reader.after_space(key)
@@ -185,29 +185,29 @@ def put(reader):
 
 
 def deletion(reader):
-    """What a `delete` takes."""
+    """Reads what a `delete` takes."""
     return endpoint(reader), reader.after_space(key), reader.after_space(version)
 
 
 def sweep(reader):
-    """What a `sweep` takes."""
+    """Reads what a `sweep` takes."""
     return endpoint(reader), reader.after_space(name), reader.after_space(number, MOST_GENERATION)
 
 
 def query(reader):
-    """A pattern, any bytes but the newline in quotes, and a mask of kinds."""
+    """Reads a pattern, any bytes but the newline in quotes, and a mask of kinds."""
     spelled = reader.part(PATTERN, lambda it: it != b"")
     kinds = int(reader.after_space(Reader.part, DIGITS, lambda it: is_number(it, 15) and it != b"0"))
     return ESCAPED.sub(rb"\1", spelled[1:-1]), kinds
 
 
 def is_at(reader, run):
-    """Whether such a run begins here."""
+    """Returns whether such a run begins here."""
     return run.match(reader.line, reader.at) is not None
 
 
 def scope(reader):
-    """None for all keys, which is written `*`, or a query."""
+    """Reads a scope. Returns None for all keys, which is written `*`, or a query."""
     if is_at(reader, ALL):
         reader.byte(b"*")
         return None
@@ -215,7 +215,7 @@ def scope(reader):
 
 
 def after(reader):
-    """None for the first page, which is written `-`, or the key that it begins after."""
+    """Reads where a page begins. Returns None for the first page, which is written `-`, or the key that it begins after."""
     if is_at(reader, BEGINNING):
         reader.byte(b"-")
         return None
@@ -223,7 +223,7 @@ def after(reader):
 
 
 def subscription(reader):
-    """What a `subscribe` takes."""
+    """Reads what a `subscribe` takes."""
     sub = number(reader, MOST_WORD)
     asked = reader.after_space(query)
     initial = reader.after_space(word, b"first", b"later") == b"first"
@@ -231,42 +231,42 @@ def subscription(reader):
 
 
 def check(reader):
-    """What a `check` takes."""
+    """Reads what a `check` takes."""
     return number(reader, MOST_WORD), reader.after_space(number, MOST_WORD)
 
 
 def ring(reader):
-    """What a `ring` takes."""
+    """Reads what a `ring` takes."""
     return (int(reader.part(DIGITS, lambda it: is_number(it, MOST_RING) and it != b"0")),)
 
 
 def since(reader):
-    """What a `since` takes: a cursor, how many items at most, and the scope, which is written first."""
+    """Reads what a `since` takes: a cursor, how many items at most, and the scope, which is written first."""
     asked = scope(reader)
     incarnation = reader.after_space(number, MOST_LONG)
     return incarnation, reader.after_space(number, MOST_LONG), reader.after_space(number, MOST_WORD), asked
 
 
 def page(reader):
-    """What a `page` takes: how many changes at most, what it begins after, and the scope, which is written first."""
+    """Reads what a `page` takes: how many changes at most, what it begins after, and the scope, which is written first."""
     asked = scope(reader)
     last = reader.after_space(after)
     return reader.after_space(number, MOST_WORD), last, asked
 
 
 def is_holder(text):
-    """A side, or `m` and the number of a map."""
+    """Returns whether a text is a side, or `m` and the number of a map."""
     return text in (b"a", b"b") or text[:1] == b"m" and is_number(text[1:], MOST_LONG)
 
 
 def holder(reader):
-    """A side as it is written, or the number of a map."""
+    """Reads a holder. Returns a side as it is written, or the number of a map."""
     text = reader.part(WORD, is_holder)
     return int(text[1:]) if text[:1] == b"m" else text
 
 
 def count(reader):
-    """None for all items, which is written `*`, or how many."""
+    """Reads a count. Returns None for all items, which is written `*`, or how many."""
     if is_at(reader, ALL):
         reader.byte(b"*")
         return None
@@ -274,48 +274,48 @@ def count(reader):
 
 
 def delivery(reader):
-    """What a `deliver` takes."""
+    """Reads what a `deliver` takes."""
     return number(reader, MOST_LONG), reader.after_space(holder), reader.after_space(count)
 
 
 def restart(reader):
-    """What a `restart` takes."""
+    """Reads what a `restart` takes."""
     return side(reader), reader.after_space(number, MOST_LONG)
 
 
 def side(reader):
-    """One of the two stores."""
+    """Reads one of the two stores."""
     return word(reader, b"a", b"b")
 
 
 def server(reader):
-    """One of the two driver tables."""
+    """Reads one of the two driver tables."""
     return word(reader, b"file", b"net")
 
 
 def settings(reader):
-    """What a `settings` takes: the rest of the line."""
+    """Reads what a `settings` takes: the rest of the line."""
     return (reader.part(REST, lambda it: True),)
 
 
 def service(reader):
-    """What a `service` takes: what RS must do, with which service, and when."""
+    """Reads what a `service` takes: what RS must do, with which service, and when."""
     asked = word(reader, b"up", b"down", b"refresh", b"restart")
     return asked, reader.after_space(name), reader.after_space(number, MOST_LONG)
 
 
 def death(reader):
-    """What a `death` takes."""
+    """Reads what a `death` takes."""
     return endpoint(reader), reader.after_space(number, MOST_LONG), reader.after_space(number, MOST_LONG)
 
 
 def beat(reader):
-    """What a `beat` takes."""
+    """Reads what a `beat` takes."""
     return endpoint(reader), reader.after_space(number, MOST_LONG)
 
 
 def assignment(reader):
-    """What an `assign` takes: whose table, the unit, its class, which none but a file server's units have, and the label."""
+    """Reads what an `assign` takes: whose table, the unit, its class, which only a file server's units have, and the label."""
     table = server(reader)
     unit = reader.after_space(number, MOST_UNIT)
     kind = reader.after_space(word, b"block", b"character") if table == b"file" else b"network"
@@ -323,18 +323,18 @@ def assignment(reader):
 
 
 def submission(reader):
-    """What a `submit` takes: whose table, the request, its unit, and the map that is followed first."""
+    """Reads what a `submit` takes: whose table, the request, its unit, and the map that is followed first."""
     table = server(reader)
     request = reader.after_space(number, MOST_LONG)
     return table, request, reader.after_space(number, MOST_UNIT), reader.after_space(number, MOST_LONG)
 
 
 def reply(reader):
-    """What a `reply` takes."""
+    """Reads what a `reply` takes."""
     return server(reader), reader.after_space(endpoint), reader.after_space(number, MOST_LONG)
 
 
-# What each command takes after its word and a space; `show` and `all` take nothing.
+# The readers of what each command takes after its word and a space; `show` and `all` take nothing.
 COMMANDS = {
     b"offer": offer,
     b"show": None,
@@ -370,9 +370,9 @@ COMMANDS = {
 
 @functools.lru_cache(maxsize=16384)
 def read(line, is_first=False):
-    """Reads a line without its newline: its command word, and what the command takes. The first line alone may be a `ring`.
+    """Reads a line without its newline: its command word, and what the command takes. Only the first line may be a `ring`.
 
-    The last results are kept: scripts repeat lines, each script is read as it is and with bad lines, and items are read from lines.
+    The last results are kept: scripts repeat lines, each script is read unchanged and with bad lines, and items are read from lines.
     """
     if len(line) > LONGEST:
         raise BadLine(LONGEST)

@@ -7,7 +7,7 @@ BY_CALLERS = (b"publish", b"delete", b"sweep")
 
 
 class Pair(Session):
-    """One store, and RS once it has begun. Once it has, nobody else calls as RS."""
+    """One store, and RS once it has begun. From then on no caller may pass for RS."""
 
     def __init__(self):
         super().__init__()
@@ -36,7 +36,7 @@ class Pair(Session):
         return list(self.rs.states.values()) if self.rs else []
 
     def read(self, line):
-        """The answer to a line that scripts don't have."""
+        """Returns the answer to a line that scripts don't have."""
         word, *rest = line.split()
         if word == b"from":
             self.next, self.first = map(int, rest)

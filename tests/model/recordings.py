@@ -9,7 +9,7 @@ RING = re.compile(rb"ring ([1-9][0-9]{0,3})")
 
 
 class Bad(Exception):
-    """The line of this number can't be read from the place on."""
+    """A line that can't be read, by its number and the place where it can't."""
 
     def __init__(self, number, place):
         super().__init__(number, place)
@@ -48,10 +48,10 @@ class Recording:
             count = self.count(rest, before)
             first = self.at
             items = [self.item() for _ in range(count)]
-            asked, told = [mark + line, *self.lines[first : self.at]], self.store.merge(items)
+            asked, answer = [mark + line, *self.lines[first : self.at]], self.store.merge(items)
         else:
-            asked, told = [mark + line], self.store.answer(*self.command(rest, before))
-        self.given += asked + [b"< " + it for it in told]
+            asked, answer = [mark + line], self.store.answer(*self.command(rest, before))
+        self.given += asked + [b"< " + it for it in answer]
 
     def count(self, text, before):
         """Reads how many items a Merge has; `before` bytes of its line come first."""
@@ -92,13 +92,13 @@ class Recording:
         return item
 
     def carry(self, item, place):
-        """The format has such an item: format 1 has no floors."""
+        """Checks that the format has such an item: format 1 has no floors."""
         if self.is_older and isinstance(item, lines.Floor):
             raise Bad(self.at, place)
 
 
 def record(text, is_older=False, limits=(128, 4096)):
-    """What `dsctl record` writes for an input, what it says of it on standard error, and its status."""
+    """Returns what `dsctl record` writes for an input, what it prints on standard error, and its status."""
     recording = Recording(text, is_older, (64, 1024) if is_older else limits)
     try:
         while recording.at < len(recording.lines):

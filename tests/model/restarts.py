@@ -42,7 +42,7 @@ def are_names(it):
 
 
 def judged(settings):
-    """The slots and the services, with each field, of what a TOML document has at the top; else Bad, with the first fault."""
+    """Returns the slots and the services, with each field, of what a TOML document has at the top. Raises Bad with the first fault."""
     services = settings.get("service", [])
     slots = settings.get("slots", 64)
     if set(settings) - {"slots", "service"}:
@@ -78,7 +78,7 @@ def judge_service(index, service):
 
 
 def repeated(services, word, marks_of):
-    """Bad, where a service has a mark that one before it has, or the same one twice."""
+    """Raises Bad if a service has a mark that one before it has, or the same one twice."""
     seen = []
     for index, service in enumerate(services):
         for mark in marks_of(service):
@@ -91,7 +91,7 @@ def repeated(services, word, marks_of):
 
 
 class Slots:
-    """Process slots by keys from 0: the one that was freed last is given first, else a new one."""
+    """Process slots by keys from 0: the one that was freed last is taken first, else a new one."""
 
     def __init__(self):
         self.freed, self.most = [], 0
@@ -109,7 +109,7 @@ class Slots:
 
 
 class Rs:
-    """What RS knows. The state of a service is ("down",), ("gaveup",), ("waiting", until, failures) or
+    """The state of RS. The state of a service is ("down",), ("gaveup",), ("waiting", until, failures) or
     ("up", endpoint, beat, ping, failures, since)."""
 
     def __init__(self, settings, next, first=16):
@@ -121,7 +121,7 @@ class Rs:
         self.next, self.first, self.tick, self.keys = next, first, 0, Slots()
 
     def event(self, verb, *args):
-        """The actions of an event: its last argument is the tick."""
+        """Returns the actions of an event, whose last argument is the tick."""
         *about, tick = args
         if tick < self.tick:
             raise Refused("tickback")
@@ -137,7 +137,7 @@ class Rs:
         self.tick = tick
         return actions
 
-    # What an event asks: a label, and what is done to its service.
+    # The plan of an event: a label, and what is done to its service.
 
     def of_label(self, verb, label):
         if label not in self.services:
@@ -172,7 +172,7 @@ class Rs:
         return due[0] if due else None
 
     def due(self):
-        """The first tick, from the last event's on, at which a tick has actions, or None."""
+        """Returns the first tick, from the last event's on, at which a tick has actions, or None."""
         ticks = [state[1] for state in self.states.values() if state[0] == "waiting"]
         for label, state in self.states.items():
             period = self.services[label]["period"]
@@ -182,24 +182,24 @@ class Rs:
         return first if first <= LAST_TICK else None
 
     def instance(self, endpoint):
-        """The index of the service that runs under the endpoint, or None."""
+        """Returns the index of the service that runs under the endpoint, or None."""
         return next((n for n, state in enumerate(self.states.values()) if state[0] == "up" and state[1] == endpoint), None)
 
     def publishes(self, endpoint, name):
-        """Whether the instance may publish the name."""
+        """Returns whether the instance may publish the name."""
         place = self.instance(endpoint)
         return place is not None and name in list(self.services.values())[place]["publishes"]
 
     def complains(self, endpoint, label):
-        """Whether the instance may complain of the service."""
+        """Returns whether the instance may complain about the service."""
         return self.deals(endpoint, label, "complains", lambda one, other: one["class"] == "server" != other["class"])
 
     def connects(self, endpoint, label):
-        """Whether the instance may connect to the service."""
+        """Returns whether the instance may connect to the service."""
         return self.deals(endpoint, label, "connects", lambda one, other: True)
 
     def deals(self, endpoint, label, field, otherwise):
-        """Whether the instance's settings list the label of a service, or what a rule says where they have no list."""
+        """Returns whether the instance's settings list the label of a service; without a list, the rule `otherwise` decides."""
         place = self.instance(endpoint)
         if place is None or label not in self.services:
             return False
@@ -207,7 +207,7 @@ class Rs:
         listed = service[field]
         return otherwise(service, self.services[label]) if listed is None else label in listed
 
-    # What is done.
+    # How it is done.
 
     def done(self, label, asked, tick):
         state = self.states[label]
@@ -236,7 +236,7 @@ class Rs:
         return [f"ping {spelled(endpoint)}"] if asked == "ping" else []
 
     def remembered(self, label, tick):
-        """The failures that count when its instance ends: none after an instance that was up for as long as `forget` says."""
+        """Returns the failures that count when a service's instance ends: none if it was up for `forget` ticks, unless that is 0."""
         _, _, _, _, failures, since = self.states[label]
         forget = self.services[label]["forget"]
         return 0 if forget and tick - since >= forget else failures
@@ -256,12 +256,12 @@ class Rs:
 
 
 def spelled(endpoint):
-    """An endpoint as it is written."""
+    """Returns an endpoint as it is written."""
     return f"{endpoint[0]}/{endpoint[1]}"
 
 
 def told(state):
-    """A state as it is printed."""
+    """Returns a state as it is printed."""
     if state[0] == "up":
         return f"up {spelled(state[1])} beat {state[2]} ping {state[3]} failures {state[4]}"
     return f"waiting until {state[1]} failures {state[2]}" if state[0] == "waiting" else state[0]
@@ -271,7 +271,7 @@ def told(state):
 
 
 def toml(value):
-    """A value as TOML writes it, on one line."""
+    """Returns a value as TOML writes it, on one line."""
     if isinstance(value, dict):
         return "{" + ", ".join(f"{key} = {toml(it)}" for key, it in value.items()) + "}"
     if isinstance(value, list):
@@ -282,16 +282,16 @@ def toml(value):
 
 
 def written(settings):
-    """Settings as lines of TOML, each with its newline."""
+    """Returns settings as lines of TOML, each with its newline."""
     return "".join(f"{key} = {toml(it)}\n" for key, it in settings.items())
 
 
 def number(it):
-    """A number that may be missing, as it is printed."""
+    """Returns a number that may be missing, as it is printed."""
     return "none" if it is None else it
 
 
-# What is read of RS between two events, by the word that asks for it.
+# How RS is read between two events, by the word that asks for it.
 READINGS = {
     "next": lambda rs: f"next {rs.next}",
     "due": lambda rs: f"due {number(rs.due())}",
@@ -311,7 +311,7 @@ class Session:
         self.rs = self.numbers = None
 
     def answer(self, verb, *args):
-        """The lines that answer a command, and the line that asks for it."""
+        """Returns the line that asks for a command, and the lines that answer it."""
         if verb == "settings":
             line = f"settings {args[0]}\n{written(args[1])}end"
         else:

@@ -1,6 +1,6 @@
 """All that a script drives: a world, the reincarnation server over it, and the tables of two servers that talk to drivers.
 
-What RS offers and sweeps are commands to the store of the current side, in RS's name. A table learns of drivers from a map alone.
+RS's offers and sweeps are commands to the store of the current side, in RS's name. A table learns of drivers only from a map.
 """
 import copy
 import tomllib
@@ -39,7 +39,7 @@ class Session:
             return [refusal(refused)]
 
     def is_wanting(self):
-        """Whether memory runs out at this step."""
+        """Returns whether memory runs out at this step."""
         if self.ample is None:
             return False
         self.ample -= 1
@@ -48,30 +48,30 @@ class Session:
     # ---- RS ----
 
     def settings(self, text):
-        """RS begins with the services of a settings text, once."""
+        """Begins RS with the services of a settings text, once."""
         if self.rs:
             raise Refused("exists")
         self.rs = restarts.Rs(document(text), 1)
         return [b"services %d slots %d" % (len(self.rs.services), self.rs.slots)]
 
     def service(self, asked, label, tick):
-        """RS gets a request to start a service, to stop it, to replace its instance, or to start it before its time."""
+        """Asks RS to start a service, to stop it, to replace its instance, or to start it before its time."""
         return self.event("unknownlabel", "stop" if asked == b"down" else asked.decode(), label.decode(), tick)
 
     def death(self, endpoint, cause, tick):
-        """RS learns that an instance died."""
+        """Reports to RS that an instance died."""
         return self.event("oldendpoint", "death", endpoint, cause, tick)
 
     def beat(self, endpoint, tick):
-        """RS hears that an instance lives."""
+        """Reports to RS that an instance lives."""
         return self.event("oldendpoint", "beat", endpoint, tick)
 
     def tick(self, tick):
-        """RS learns the time."""
+        """Reports the time to RS."""
         return self.event(None, "tick", tick)
 
     def event(self, without, *event):
-        """The actions of an event, each with the store's answer below it, and their number. Without settings RS knows no service."""
+        """Returns the actions of an event, each with the store's answer below it, and their number. Without settings RS knows no service."""
         if self.rs is None and without:
             raise Refused(without)
         actions = self.rs.event(*event) if self.rs else []
@@ -79,7 +79,7 @@ class Session:
         return shown + [b"actions %d" % len(actions)]
 
     def asked_by(self, action):
-        """The store's answer to an action that publishes or deletes a label or sweeps an owner; nothing for any other."""
+        """Returns the store's answer to an action that publishes or deletes a label or sweeps an owner; nothing for any other."""
         verb, *words = action.split(b" ")
         if verb not in (b"offer", b"sweep"):
             return []
@@ -95,12 +95,12 @@ class Session:
     # ---- the driver tables ----
 
     def assign(self, table, unit, kind, label):
-        """A table gets a unit."""
+        """Gives a table a unit."""
         self.tables[table].assign(unit, kind.decode(), label)
         return [b"assigned"]
 
     def follow(self, number):
-        """Both tables learn what a map holds of their drivers."""
+        """Lets both tables learn what a map holds of their drivers."""
         held, moves = self.world.map_of(number).held.held, []
         try:
             for table in self.tables.values():
@@ -110,7 +110,7 @@ class Session:
         return counted(moves)
 
     def submit(self, table, request, unit, number):
-        """A table learns what a map holds, and then takes a request. If that is refused, the table keeps what it learned."""
+        """Lets a table learn what a map holds, and then take a request. If that is refused, the table keeps what it learned."""
         table, held, moves = self.tables[table], self.world.map_of(number).held.held, []
         try:
             self.learn(table, held, moves)
@@ -124,7 +124,7 @@ class Session:
         return counted(moves)
 
     def learn(self, table, held, moves):
-        """A table learns what the map holds of each unit's label, in order of assignment, and moves accordingly.
+        """Lets a table learn what the map holds of each unit's label, in order of assignment, and adds its moves.
 
         It ignores what is older than it knows: a tombstone of an earlier generation, and an endpoint that no longer exists.
         """
@@ -143,12 +143,12 @@ class Session:
                 pass
 
     def reply(self, table, endpoint, request):
-        """A driver answers a request."""
+        """Passes a driver's reply to a table."""
         return told([self.tables[table].reply(endpoint, request)])
 
 
 def document(text):
-    """The top of a settings text; Bad if it isn't a TOML document. No integer in one has more than 64 bits."""
+    """Returns the top of a settings text. Raises Bad if it isn't a TOML document: no integer in one has more than 64 bits."""
     try:
         read = tomllib.loads(text.decode())
     except (UnicodeDecodeError, tomllib.TOMLDecodeError, RecursionError):
@@ -159,22 +159,22 @@ def document(text):
 
 
 def is_within(read):
-    """Whether each integer of a TOML value has at most 64 bits."""
+    """Returns whether each integer of a TOML value has at most 64 bits."""
     if isinstance(read, (dict, list)):
         return all(map(is_within, read.values() if isinstance(read, dict) else read))
     return not isinstance(read, int) or LEAST_INTEGER <= read <= MOST_INTEGER
 
 
 def told(moves):
-    """The lines of moves."""
+    """Returns the lines of moves."""
     return [tables.told(it).encode() for it in moves]
 
 
 def counted(moves):
-    """The lines of moves, and then their number."""
+    """Returns the lines of moves, and then their number."""
     return told(moves) + [b"moves %d" % len(moves)]
 
 
 def refusal(refused):
-    """The line of a refusal. For a fault of settings it has the word alone, without the service."""
+    """Returns the line of a refusal. For a fault of settings it has the word alone, without the service."""
     return b"refused " + (refused.args[0] if isinstance(refused, restarts.Bad) else str(refused)).encode()

@@ -30,7 +30,7 @@ class Query:
             if re.search(rb"[^ -~]", pattern):
                 raise re.error("a byte that isn't printable")
             if re.search(rb"\{(?!\d+(,\d*)?\})", pattern):
-                raise re.error("a brace that begins no repetition, which Python takes for itself")
+                raise re.error("a brace that doesn't begin a repetition, which Python takes for itself")
             re.compile(pattern)
             self.whole = re.compile(rb"(?:" + pattern + rb")\Z")
         except re.error:
@@ -38,7 +38,7 @@ class Query:
         self.kinds = kinds
 
     def admits(self, key):
-        """Whether the key is under the query."""
+        """Returns whether the key is under the query."""
         name, kind = key
         return self.kinds >> kind & 1 == 1 and self.whole.match(name) is not None
 
@@ -68,7 +68,7 @@ class Store:
         self.subscriptions = {}
 
     def position(self):
-        """The position of the next item."""
+        """Returns the position of the next item."""
         return self.first + len(self.accepted)
 
     def accept(self, key, line):
@@ -78,18 +78,18 @@ class Store:
         self.accepted.append((key, line))
 
     def next_stamp(self):
-        """The next stamp, if one is left."""
+        """Returns the next stamp, if one is left."""
         if self.stamp >= LAST_PLACE:
             raise Refused("worn")
         self.stamp += 1
         return self.stamp
 
     def mask(self, numbers):
-        """The line of a mask with these bits, or none where there are none."""
+        """Returns the line of a mask with these bits, or no line if there are none."""
         return self.mask_line(sum(1 << number for number in numbers))
 
     def mask_line(self, bits):
-        """The line of a mask, a byte for eight subscriptions, or none where it is 0."""
+        """Returns the line of a mask, a byte for eight subscriptions, or no line if it is 0."""
         return [b"owed %0*x" % (self.subs // 4, bits)] if bits else []
 
     def answer(self, command, taken):
@@ -111,18 +111,18 @@ class Store:
         for item in items:
             if isinstance(item, lines.Floor) or is_under(item.key):
                 try:
-                    told, *masks = self.offer(item)
+                    answer, *masks = self.offer(item)
                 except Refused as fault:
                     return [b"stopped %d %s" % (done, str(fault).encode())] + self.mask_line(owed)
-                taken += told == b"taken"
-                stale += told == b"stale"
+                taken += answer == b"taken"
+                stale += answer == b"stale"
                 for mask in masks:
                     owed |= int(mask.split()[1], 16)
             done += 1
         return [b"merged %d %d %d" % (done, taken, stale)] + self.mask_line(owed)
 
     def take(self, key, owner, version, value, overwrite=True, is_deletion=False):
-        """Takes a change over, or refuses it."""
+        """Accepts a change, or refuses it."""
         has = self.held.get(key)
         if has and owner != has[0]:
             raise Refused("notowner")
@@ -144,7 +144,7 @@ class Store:
         return [b"taken"] + self.owed(key)
 
     def take_floor(self, owner, generation):
-        """Takes a floor over, or refuses it."""
+        """Accepts a floor, or refuses it."""
         held = self.floors.get(owner, -1)
         if generation < held:
             raise Stale("stale")
@@ -156,7 +156,7 @@ class Store:
     # ---- floors ----
 
     def is_void(self, key, owner, version):
-        """Whether a floor of the owner ended the generation of such a change. No label is ever void."""
+        """Returns whether a floor of the owner ended the generation of such a change. No label is ever void."""
         return key[1] != LABEL and version[0] <= self.floors.get(owner, -1)
 
     def raise_floor(self, owner, generation):
@@ -179,7 +179,7 @@ class Store:
         return self.take(key, self.owner(caller, key, version, None), version, None, is_deletion=True)
 
     def owner(self, caller, key, version, value):
-        """The owner of a caller's change: the caller's name."""
+        """Returns the owner of a caller's change: the caller's name."""
         epoch, seq = version
         if key[1] == LABEL:
             is_good = seq == 1 if value is None else seq == 0 and lines.numbers_of(value)[0] == epoch
@@ -195,14 +195,14 @@ class Store:
         return named
 
     def name_of(self, endpoint):
-        """The least name whose live label holds the endpoint, or None."""
+        """Returns the least name whose live label holds the endpoint, or None."""
         if endpoint == RS:
             return b"rs"
         spelled = b"%d/%d" % endpoint
         return min((name for (name, kind), (_, _, value) in self.held.items() if kind == LABEL and value == spelled), default=None)
 
     def sweep(self, caller, owner, generation):
-        """Raises the floor of a dead owner, unless it is as high already."""
+        """Raises the floor of a dead owner, unless it is already as high."""
         if caller != RS:
             raise Refused("notallowed")
         if generation <= self.floors.get(owner, -1):
@@ -212,15 +212,15 @@ class Store:
     # ---- subscriptions ----
 
     def owed(self, key):
-        """The line of the subscriptions that have the key under their query, if there are any."""
+        """Returns the line of the subscriptions that have the key under their query, if there are any."""
         return self.mask(number for number, it in self.subscriptions.items() if it.query.admits(key))
 
     def under(self, query):
-        """The lines of the floors, which are under every query, and then of the changes under this one, each in order."""
+        """Returns the lines of the floors, which are under every query, and then of the changes under this one, each in order."""
         return self.floor_lines() + [line_of(key, *self.held[key]) for key in sorted(self.held) if query.admits(key)]
 
     def subscribe(self, sub, query, initial, overwrite):
-        """Begins to follow a query, from what is held on or from now on."""
+        """Begins to follow a query, from what is held or from now on."""
         if sub >= self.subs:
             raise Refused("badsub")
         asked = Query(*query)
@@ -250,7 +250,7 @@ class Store:
     # ---- readers, whose scope is None for all keys, or a pattern and kinds ----
 
     def since(self, incarnation, position, most, scope):
-        """The items that took effect under the scope from a cursor on, and the next cursor."""
+        """Returns the items that took effect under the scope from a cursor on, and the next cursor."""
         is_under = asked_under(scope, most)
         end = self.position()
         if incarnation != self.incarnation:
@@ -268,13 +268,13 @@ class Store:
         return given + [b"since %d %d %d" % (len(given), self.incarnation, position)]
 
     def snapshot(self, scope):
-        """All that is held under the scope."""
+        """Returns all that is held under the scope."""
         is_under = asked_under(scope)
         given = self.floor_lines() + [line_of(key, *self.held[key]) for key in sorted(self.held) if is_under(key)]
         return given + [b"snapshot %d %d %d" % (len(given), self.incarnation, self.position())]
 
     def page(self, most, after, scope):
-        """The first changes that are held under the scope after a key; if that is None, all floors too."""
+        """Returns the first changes that are held under the scope after a key; if that is None, all floors, too."""
         is_under = asked_under(scope, most)
         left = [key for key in sorted(self.held) if is_under(key) and (after is None or key > after)]
         given = (self.floor_lines() if after is None else []) + [line_of(key, *self.held[key]) for key in left[:most]]
@@ -289,33 +289,33 @@ class Store:
     # ---- questions ----
 
     def retrieve(self, key):
-        """The value of a live entry."""
+        """Returns the value of a live entry."""
         _, _, value = self.held.get(key, (None, None, None))
         if value is None:
             raise Refused("notfound")
         return [b"found " + value]
 
     def nameof(self, endpoint):
-        """The name of an endpoint."""
+        """Returns the name of an endpoint."""
         named = self.name_of(endpoint)
         if named is None:
             raise Refused("notfound")
         return [b"named " + named]
 
     def show(self):
-        """The puts that are held."""
+        """Returns the puts that are held."""
         return counted(self.changes(lambda value: value is not None))
 
     def all(self):
-        """All that is held."""
+        """Returns all that is held."""
         return counted(self.floor_lines() + self.changes(lambda value: True))
 
     def changes(self, is_shown):
-        """The lines of the changes that are held, in order of the names' bytes and then the kinds."""
+        """Returns the lines of the changes that are held, in order of the names' bytes and then the kinds."""
         return [line_of(key, *self.held[key]) for key in sorted(self.held) if is_shown(self.held[key][2])]
 
     def floor_lines(self):
-        """The lines of the floors that are held, in order of the owners' names."""
+        """Returns the lines of the floors that are held, in order of the owners' names."""
         return [b"! %s %d" % it for it in sorted(self.floors.items())]
 
 
@@ -324,13 +324,13 @@ class Stale(Refused):
 
 
 def line_of(key, owner, version, value):
-    """The line of a change."""
+    """Returns the line of a change."""
     body = b"-" if value is None else b"= " + value
     return b"%s %s %s %d.%d %s" % (key[0], lines.KINDS[key[1]], owner, *version, body)
 
 
 def asked_under(scope, most=1):
-    """Whether a key is under a scope, for a call of at most `most` items; None is a floor's, which is under every scope."""
+    """Returns a test of whether a key is under a scope, for a call of at most `most` items. None is a floor's key, which is under every scope."""
     if not 1 <= most <= MOST_CHECKED:
         raise Refused("toomany")
     query = scope and Query(*scope)
@@ -338,12 +338,12 @@ def asked_under(scope, most=1):
 
 
 def counted(shown):
-    """The lines, and then their number."""
+    """Returns the lines, and then their number."""
     return shown + [b"shown %d" % len(shown)]
 
 
 def answered(asked, command, taken):
-    """The answer of `asked` to a command, by the lines that a script prints, a refusal too."""
+    """Returns the answer of `asked` to a command, also a refusal, by the lines that a script prints."""
     try:
         return getattr(asked, command.decode())(*taken)
     except Refused as refused:

@@ -35,12 +35,12 @@ class System(session.Session):
             self.assign_unit(it["class"], it["unit"], it["label"].encode())
 
     def assign_unit(self, kind, unit, label):
-        """The unit of a service goes to the table of its class's server, if it has one."""
+        """Gives the unit of a service to the table of its class's server, if there is one."""
         if kind != "server":
             self.tables[b"net" if kind == "network" else b"file"].assign(unit, kind, label)
 
     def happen(self, line, ample=None):
-        """The lines of an event's outcome.
+        """Returns the lines of an event's outcome.
 
         Memory runs out at one step of it, after `ample` others. A step is a command that RS or a service sends to a store, an item of a
         delivery, a label that a table learns, or a request.
@@ -59,14 +59,14 @@ class System(session.Session):
         return self.world.answer(command, taken)
 
     def refusing(self, answer, *taken):
-        """The answer, or the refusal."""
+        """Returns the answer, or the refusal."""
         try:
             return answer(*taken)
         except session.REFUSALS as refused:
             return [session.refusal(refused)]
 
     def may_be_refused(self, line):
-        """Whether memory may run out for an event as a whole: never for a turn of a table, nor for a delivery."""
+        """Returns whether memory may run out for an event as a whole: never for a turn of a table, nor for a delivery."""
         word, *taken = line.split(b" ")
         if word in (b"put", b"remove"):
             return self.refusing(self.judge, *taken[:3], None if word == b"remove" else taken[3])[0] == "judged"
@@ -77,14 +77,14 @@ class System(session.Session):
     # ---- what RS and the services make ----
 
     def asked_by(self, action):
-        """What the store of the side answers to an action; a label that is offered was made."""
+        """Returns the answer of the side's store to an action. A label that is offered counts as made."""
         verb, _, item = action.partition(b" ")
         if verb == b"offer":
             self.made.append(lines.item(item))
         return super().asked_by(action)
 
     def judge(self, label, name, kind, word):
-        """Refuses a change of a service by the first cause, or returns the place of its kind, its value and its endpoint."""
+        """Refuses a change of a service by the first cause, or returns the place of its kind, its value and the service's endpoint."""
         kind, service = lines.KINDS.index(kind), self.rs.services.get(label.decode())
         if service is None:
             raise Refused("unknownlabel")
@@ -99,15 +99,15 @@ class System(session.Session):
         return "judged", kind, word if word is None or is_number else b'"%s"' % word, instance[0]
 
     def put(self, label, name, kind, word):
-        """A service puts a value."""
+        """Puts a service's value."""
         return self.write(label, name, kind, word)
 
     def remove(self, label, name, kind):
-        """A service takes an entry back."""
+        """Takes a service's entry back."""
         return self.write(label, name, kind, None)
 
     def write(self, label, name, kind, word):
-        """A service's change gets a number and is sent to the store. If the store refuses it, the number stays spent."""
+        """Numbers a service's change, and sends it to the store. If the store refuses it, the number stays spent."""
         _, kind, value, endpoint = self.judge(label, name, kind, word)
         generation, number = self.numbers.get(label, (0, 0))
         version = (endpoint[0], number if generation == endpoint[0] else 0)
@@ -118,19 +118,19 @@ class System(session.Session):
         return self.ask(b"publish", (endpoint, (name, kind), version, value, True))
 
     def ask(self, command, taken):
-        """The answer of the side's store, where noroom is the last refusal."""
+        """Returns the answer of the side's store, where noroom is the last refusal."""
         if self.ample is not None and copy.deepcopy(self.world).answer(command, taken)[0] != b"taken":
             self.ample = None
         return [session.NO_ROOM] if self.is_wanting() else self.world.answer(command, taken)
 
     def again(self, number):
-        """A change that was made comes once more."""
+        """Offers a change that was made once more."""
         if int(number) >= len(self.made):
             raise Refused("nomessage")
         return self.world.answer(b"offer", (self.made[int(number)],))
 
     def deliver_some(self, number, holder, count):
-        """A delivery that memory stops after `ample` items, if it has more."""
+        """Makes a delivery that memory stops after `ample` items, if it has more."""
         given = len(self.world.messages[number]) if number < len(self.world.messages) and count is None else count
         done, *masks = copy.deepcopy(self.world).answer(b"deliver", (number, holder, self.ample))
         if given is None or self.ample >= given or not done.startswith(b"merged "):
@@ -141,14 +141,14 @@ class System(session.Session):
     # ---- what the servers do ----
 
     def follow(self, _number):
-        """Both servers look at their maps: the file server first, and then the other one, if nothing ended that."""
+        """Lets both servers look at their maps: the file server first, and then the other one, if nothing ended that."""
         rounds, fault = [], None
         for number, table in enumerate(self.tables.values()):
             fault = fault or self.look(number, table, rounds)
         return moved(rounds, None, fault)
 
     def submit(self, server, request, unit, _number):
-        """A server looks at its map, and takes a request. Noroom is the last refusal."""
+        """Lets a server look at its map, and take a request. Noroom is the last refusal."""
         table, rounds, own = self.tables[server], [], None
         fault = self.look([*self.tables].index(server), table, rounds)
         try:
@@ -161,16 +161,16 @@ class System(session.Session):
         return moved(rounds, own, fault)
 
     def reply(self, server, endpoint, request):
-        """A driver answers a request."""
+        """Passes a driver's reply to a server."""
         try:
             return moved([], self.tables[server].reply(endpoint, request), None)
         except tables.Refused as refused:
             return moved([], None, str(refused).encode())
 
     def look(self, number, table, rounds):
-        """A table learns what its map holds of each unit's label, a round of moves for each. Returns what ended that, or None.
+        """Lets a table learn what its map holds of each unit's label, a round of moves for each. Returns what ended that, or None.
 
-        What is older than the table knows has no round, and takes no memory.
+        A state older than the table knows has no round, and takes no memory.
         """
         held = self.world.maps[number].held.held
         for _, label in [*table.units.values()]:
@@ -189,12 +189,12 @@ class System(session.Session):
         return None
 
     def shown(self):
-        """The lines of what both servers' maps hold."""
+        """Returns the lines of what both servers' maps hold."""
         return [it for one in self.world.maps[: len(self.tables)] for it in one.held.show()]
 
 
 def moved(rounds, own, fault):
-    """The lines of a server's event: each round, the own move, what ended it, and how many rounds there are."""
+    """Returns the lines of a server's event: each round, the own move, what ended it, and how many rounds there are."""
     shown = [line for it in rounds for line in session.counted(it)]
     own_lines = session.told([own] if own else [])
     return shown + own_lines + ([b"refused " + fault] if fault else []) + [b"rounds %d" % len(rounds)]
@@ -216,11 +216,11 @@ class Part:
             else:
                 self.events += [(side, repeated)] * int(count or 1)
 
-    def answers(self, wanting=(None, None)):
-        """The lines of each event's outcome, and then of what the maps hold; or the refusal of the beginning.
+    def answers(self, runs_out=(None, None)):
+        """Returns the lines of each event's outcome, and then of what the maps hold; or the refusal of the beginning.
 
-        `wanting` names an event, counted from 0, at which memory runs out, and after how many of its steps. None for the number of steps:
-        the whole event is refused, if it may be.
+        `runs_out` names an event, counted from 0, at which memory runs out, and after how many of its steps. If the number of steps is
+        None, the whole event is refused, if it may be.
         """
         try:
             system = System(*self.begun)
@@ -228,11 +228,11 @@ class Part:
             return [[b"refused " + str(refused).encode()]]
         if len(self.events) > MOST_EVENTS:
             return [[b"refused toomany"]]
-        told = []
+        outcomes = []
         for at, (side, line) in enumerate(self.events):
             system.world.current = side
-            if (at, None) == wanting and system.may_be_refused(line):
-                told.append([session.NO_ROOM])
+            if (at, None) == runs_out and system.may_be_refused(line):
+                outcomes.append([session.NO_ROOM])
             else:
-                told.append(system.happen(line, wanting[1] if at == wanting[0] else None))
-        return [*told, system.shown()]
+                outcomes.append(system.happen(line, runs_out[1] if at == runs_out[0] else None))
+        return [*outcomes, system.shown()]

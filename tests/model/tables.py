@@ -18,16 +18,16 @@ class Table:
         self.states = {}  # each label that has a unit with its states in order: an endpoint, or None
         self.requests = {}  # each id with its unit, in order of submission
         self.sends = {}  # each id with the endpoints that it was sent to
-        self.answers = {}  # each id with its answer
+        self.answers = {}  # each id with its answers, of which there is one
 
-    # ---- what the lists say
+    # ---- what the lists have
 
     def now(self, label):
-        """The endpoint of a label's last state."""
+        """Returns the endpoint of a label's last state."""
         return self.states.get(label, [None])[-1]
 
     def newest(self, label):
-        """The generation of a label's last endpoint, which is the greatest that it had: an older one is refused."""
+        """Returns the generation of a label's last endpoint, which is the greatest that it had: an older one is refused."""
         return next((endpoint[0] for endpoint in reversed(self.states.get(label, [])) if endpoint), None)
 
     def pending(self):
@@ -83,15 +83,15 @@ class Table:
         return ("send", id, endpoint)
 
     def _answer(self, id, ending):
-        self.answers[id] = ending
+        self.answers.setdefault(id, []).append(ending)
         return ("answer", id, ending)
 
 
 def spelled(endpoint):
-    """An endpoint as it is written."""
+    """Returns an endpoint as it is written."""
     return "-" if endpoint is None else f"{endpoint[0]}/{endpoint[1]}"
 
 
 def told(move):
-    """A move as it is printed."""
+    """Returns a move as it is printed."""
     return " ".join(spelled(it) if isinstance(it, tuple) else str(it) for it in move)

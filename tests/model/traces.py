@@ -16,7 +16,7 @@ NO_ROOM = [b"refused noroom"]
 
 
 class Wrong(Exception):
-    """The line of this number is the first that is wrong; `word` says whether it is unreadable or illegal."""
+    """The line of this number is the first that is wrong; `word` is its fault: unreadable or illegal."""
 
     def __init__(self, word, number):
         super().__init__(word)
@@ -35,16 +35,16 @@ class OlderStore(Store):
             raise Refused("worn")
         self.swept = []
         for key in gone:
-            told = self.take(key, owner, (generation, lines.MOST_NUMBER), None)
-            self.swept.append((self.accepted[-1][1], sum(int(it.split()[1], 16) for it in told[1:])))
+            answer = self.take(key, owner, (generation, lines.MOST_NUMBER), None)
+            self.swept.append((self.accepted[-1][1], sum(int(it.split()[1], 16) for it in answer[1:])))
         return [b"swept %d" % len(gone)] + self.mask_line(self.owed_for(self.swept))
 
     def owed_for(self, swept):
-        """The bits that are owed for some tombstones together."""
+        """Returns the bits that are owed for some tombstones together."""
         return functools.reduce(int.__or__, (owed for _, owed in swept), 0)
 
     def merges(self):
-        """The last sweep's tombstones as Merges, each by its lines after `> PASS `."""
+        """Yields the last sweep's tombstones as Merges, each by its lines after `> PASS `."""
         for at in range(0, len(self.swept), MOST_ITEMS):
             part = self.swept[at : at + MOST_ITEMS]
             yield [b"merge %d" % len(part)] + [b"+ " + line for line, _ in part] + [
@@ -52,7 +52,7 @@ class OlderStore(Store):
             ]
 
     def is_swept(self, key, owner, generation):
-        """Whether a sweep ends what is held for the key."""
+        """Returns whether a sweep ends what is held for the key."""
         of, version, value = self.held[key]
         return key[1] != LABEL and value is not None and of == owner and version[0] <= generation
 
@@ -67,7 +67,7 @@ class Trace:
         self.at = 0
 
     def next(self, word):
-        """The next line; `word` is the fault if there is none."""
+        """Returns the next line; `word` is the fault if there is none."""
         self.at += 1
         if self.at > len(self.lines) or len(self.lines[self.at - 1]) > lines.LONGEST:
             raise Wrong(word, self.at)
@@ -118,7 +118,7 @@ class Trace:
         return item
 
     def is_carried(self, item):
-        """Whether the format has such an item: format 1 has no floors."""
+        """Returns whether the format has such an item: format 1 has no floors."""
         return not (self.is_older and isinstance(item, lines.Floor))
 
     def merge(self, items):
@@ -129,29 +129,29 @@ class Trace:
         if not stop or int(stop[1]) >= len(items):
             self.replies(self.store.merge(items))
             return
-        told, *owed = self.store.merge(items[:int(stop[1])])
-        if not told.startswith(b"merged"):
+        first, *owed = self.store.merge(items[:int(stop[1])])
+        if not first.startswith(b"merged"):
             raise Wrong("illegal", self.at + 1)
         self.replies([b"stopped %d noroom" % int(stop[1])] + owed)
 
     def peek(self):
-        """The line that comes next, or nothing."""
+        """Returns the line that comes next, or nothing."""
         return self.lines[self.at] if self.at < len(self.lines) else b""
 
     def is_noroom(self):
-        """Whether the reply is `refused noroom`; then it is passed over."""
+        """Returns whether the reply is `refused noroom`; then it is passed over."""
         is_so = self.peek() == b"< " + NO_ROOM[0]
         self.at += is_so
         return is_so
 
     def replies(self, wanted):
-        """The next lines must be those of the reply."""
+        """Checks that the next lines are those of the reply."""
         for line in wanted:
             if self.next("illegal") != b"< " + line:
                 raise Wrong("illegal", self.at)
 
     def upgraded(self, given):
-        """The lines of an entry of format 1, which was judged, in format 2: a sweep is the Merges of its tombstones, if it left any."""
+        """Returns the lines of an entry of format 1, which was judged, in format 2: a sweep becomes the Merges of its tombstones, if it left any."""
         mark, number, asked = given[0].split(b" ", 2)
         if not asked.startswith(b"sweep "):
             return given
@@ -161,7 +161,7 @@ class Trace:
 
 
 def verify(text):
-    """The output of `dsctl verify` for a trace, and its status."""
+    """Returns the output of `dsctl verify` for a trace, and its status."""
     trace, count = Trace(text), 0
     try:
         trace.header()
@@ -174,7 +174,7 @@ def verify(text):
 
 
 def upgrade(text):
-    """The output of `dsctl upgrade` for a trace, its standard error, and its status."""
+    """Returns the output of `dsctl upgrade` for a trace, its standard error, and its status."""
     trace, given = Trace(text), []
     try:
         trace.header()
@@ -191,5 +191,5 @@ def upgrade(text):
 
 
 def text_of(given):
-    """The text of lines."""
+    """Returns the text of lines."""
     return b"".join(it + b"\n" for it in given)

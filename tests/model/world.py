@@ -76,13 +76,13 @@ class World:
         return [b"map %d" % (len(self.maps) - 1)]
 
     def map_of(self, number):
-        """A map by its number."""
+        """Returns a map by its number."""
         if number >= len(self.maps):
             raise Refused("nomap")
         return self.maps[number]
 
     def entries(self, number):
-        """The puts that a map holds."""
+        """Returns the puts that a map holds."""
         return self.map_of(number).held.show()
 
     def clear(self, number):

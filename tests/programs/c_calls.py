@@ -1,7 +1,7 @@
-"""A store by its C calls, which are made from the lines of scripts, for tests/programs/c.
+"""Calls a store in C with the lines of scripts, for tests/programs/c.
 
 The library is loaded as a shared one. A line becomes a request, and the answer with its text becomes the lines that a script would
-print, which tests/model/store.py answers too.
+print, which must be those of tests/model/store.py.
 """
 import ctypes
 import re
@@ -45,7 +45,7 @@ class Given(ctypes.Structure):
 
 
 def loaded(path):
-    """The library, with its calls declared."""
+    """Returns the library, with its calls declared."""
     library = ctypes.CDLL(path)
     handle, pointer, size = ctypes.POINTER(ctypes.c_void_p), ctypes.POINTER, ctypes.c_size_t
     library.ds_open.argtypes = [handle, ctypes.c_uint64, ctypes.c_uint64, ctypes.c_uint32]
@@ -73,7 +73,7 @@ class Map:
         self.library, self.handle = library, ctypes.c_void_p()
 
     def make(self, pattern, kinds):
-        """The word of the call."""
+        """Makes the map. Returns 0, or the number of a refusal."""
         return self.library.ds_map_new(ctypes.byref(self.handle), kinds, pattern, len(pattern))
 
     def take(self, text):
@@ -92,7 +92,7 @@ class Map:
 
 
 class Session:
-    """A store behind a handle, called by lines; its texts are fetched into a room of that many bytes at a time."""
+    """A store behind a handle, called with lines. Its texts are fetched `room` bytes at a time."""
 
     def __init__(self, library, room):
         self.library, self.room = library, room
@@ -107,7 +107,7 @@ class Session:
         return self.library.ds_close(ctypes.byref(self.handle))
 
     def answer(self, line):
-        """The lines that a script would print."""
+        """Returns the lines that a script would print."""
         words = line.split()
         if words[0] == b"store":
             return ["ready"] if self.open(*map(int, words[1:4])) == 0 else ["not opened"]
@@ -117,18 +117,18 @@ class Session:
         return self.ask(command, line, taken)
 
     def ask(self, command, line, taken):
-        """The lines that a script would print for a command."""
+        """Returns the lines that a script would print for a command."""
         answer, pieces = self.call(*asked(command, line, taken))
         return told(answer, pieces, command == b"offer")
 
     def merge(self, text):
-        """The answer to a merge of the items whose lines the text is."""
+        """Merges the items whose lines are in the text, and returns the answer."""
         request = Request()
         request.command, request.text_length = COMMANDS.index(b"merge"), len(text)
         return self.call(request, text)[0]
 
     def call(self, request, text):
-        """The answer to a request, and the pieces of its text."""
+        """Returns the answer to a request, and the pieces of its text."""
         answer = Answer()
         called = self.library.ds_call(ctypes.byref(self.handle), ctypes.byref(request), text, len(text), ctypes.byref(answer))
         if called:
@@ -136,12 +136,12 @@ class Session:
         return answer, self.pieces(answer)
 
     def pieces(self, answer):
-        """All pieces of the last answer's text, as many as fit the room at a time."""
+        """Fetches all pieces of the last answer's text, as many at a time as fit into the room."""
         room, given, pieces = ctypes.create_string_buffer(self.room), Given(), []
         while len(pieces) < answer.pieces:
             called = self.library.ds_items(ctypes.byref(self.handle), len(pieces), room, self.room, ctypes.byref(given))
             if called or not given.count:
-                raise AssertionError(f"piece {len(pieces)} of {answer.pieces} wasn't given: call {called}, stop {given.stop}")
+                raise AssertionError(f"piece {len(pieces)} of {answer.pieces} wasn't returned: call {called}, stop {given.stop}")
             text = room.raw[: given.length]
             some = text.splitlines(keepends=True) if answer.word in range(6, 10) else [text]
             if len(some) != given.count:
@@ -151,13 +151,13 @@ class Session:
 
 
 class Runs(Session):
-    """The same, where one call makes many requests."""
+    """A session in which one call makes many requests."""
 
     def ask(self, command, line, taken):
         return self.answers([line], 2)[0]
 
     def answers(self, lines, places, is_script=True):
-        """What a script prints for the lines, each a request, with `places` answers at a time. Without `is_script` an offer is a merge of one."""
+        """Returns what a script prints for the lines, each a request, with up to `places` answers a call. Without `is_script` an offer is a Merge."""
         requests, text = (Request * len(lines))(), b""
         commands = [model.read(line) for line in lines]
         for request, line, (command, taken) in zip(requests, lines, commands):
@@ -180,7 +180,7 @@ RESTARTED = ["restarted"]
 
 
 def asked(command, line, taken):
-    """The request of a line, and its text."""
+    """Returns the request of a line, and its text."""
     request, text = Request(), b""
     request.command = COMMANDS.index(b"merge" if command == b"offer" else command)
     if command == b"publish":
@@ -237,7 +237,7 @@ def numbered(request, version):
 
 
 def under(request, scope):
-    """Sets the scope, and answers its pattern."""
+    """Sets the scope, and returns its pattern."""
     if scope is None:
         return b""
     request.under, request.kinds = 1, scope[1]
@@ -245,7 +245,7 @@ def under(request, scope):
 
 
 def valued(request, kind, spelled):
-    """Sets a label or a number, and answers the bytes of a string or memory."""
+    """Sets a label or a number, or returns the bytes of a string or memory."""
     if kind == 0:
         request.value, request.value_slot = map(int, spelled.split(b"/"))
     elif kind == 1:
@@ -258,7 +258,7 @@ def valued(request, kind, spelled):
 
 
 def told(answer, pieces, is_offer):
-    """What a script prints for the answer."""
+    """Returns what a script prints for the answer."""
     word = WORDS[answer.word]
     refusal = REFUSALS[answer.refusal - 1] if answer.refusal else ""
     refusal += f" {answer.epoch}.{answer.seq}" if refusal == "clash" else ""
@@ -266,7 +266,7 @@ def told(answer, pieces, is_offer):
     counts = f"{len(pieces)} {answer.before} {answer.after}"
     if word == "paged":
         counts = f"{len(pieces)} {'last' if answer.last else 'more'} {answer.before} {answer.after}"
-    says = {
+    lines = {
         "changed": "taken",
         "known": "known",
         "swept": f"swept {answer.count}",
@@ -280,11 +280,11 @@ def told(answer, pieces, is_offer):
         **{it: f"{LISTED[it]} {counts}" for it in LISTED},
     }
     bits = int.from_bytes(bytes(answer.owed), "little")
-    return shown + [says[word]] + ([f"owed {bits:032x}"] if bits else [])
+    return shown + [lines[word]] + ([f"owed {bits:032x}"] if bits else [])
 
 
 def found(answer, pieces):
-    """The value that was found, as a line spells it."""
+    """Returns the line of a found value, spelled as in a script."""
     text = b"".join(pieces)
     spelled = {
         1: f"{answer.value}/{answer.value_slot}",

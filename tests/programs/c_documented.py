@@ -1,4 +1,4 @@
-"""The lines by which docs/guide/c.md builds over the library, for tests/programs/c: they are run as they are written."""
+"""Runs the lines by which docs/guide/c.md builds over the library, just as they are written, for tests/programs/c."""
 import pathlib
 import re
 import shutil
@@ -9,13 +9,13 @@ MAKES_THE_LIBRARY = "tools/build ds_c"
 
 
 def shown():
-    """What is typed in the document's section on building."""
+    """Returns what is typed in the document's section on building."""
     section = re.search(r"^## Build\n(.*?)^## ", (ROOT / "docs/guide/c.md").read_text(), re.DOTALL | re.MULTILINE)[1]
     return re.findall(r"^    \$ (.*)$", section, re.MULTILINE)
 
 
 def copy(library, shared, root):
-    """Lays out what the lines need as it is at the repository's root, the libraries where their line makes them."""
+    """Lays out what the lines need as at the repository's root, with the libraries where their line puts them."""
     for it in ("c", "examples"):
         (root / it).symlink_to(ROOT / it)
     out = root / "crates/ds_c/out"
@@ -34,4 +34,4 @@ def run(library, shared, root):
     driver = (ROOT / "examples/c/driver.out").read_text()
     wanted = driver * sum(it.startswith("./") for it in lines) + (ROOT / "examples/names.out").read_text()
     assert (ran.returncode, ran.stderr) == (0, ""), f"status {ran.returncode}: {ran.stderr[:2000]}"
-    assert ran.stdout == wanted, f"they printed\n{ran.stdout}and not\n{wanted}"
+    assert ran.stdout == wanted, f"they printed\n{ran.stdout}instead of\n{wanted}"

@@ -1,4 +1,4 @@
-"""What the programs of examples/ print, in each language: also for more items than one answer or one room has.
+"""Works out what the programs of examples/ print, in each language, also for more items than one answer or one buffer holds.
 
 The store's answers are those of tests/model/store.py. `driver(1)` and `fileserver(1)` equal the .out files of examples/c.
 """
@@ -16,14 +16,14 @@ COUNTED = ("since", "snapshot")  # words of answers that have lines of items
 
 
 class Store:
-    """The model's store, asked by lines."""
+    """The model's store, called with lines."""
 
     def __init__(self, ring):
         self.session = stores.Session()
         self.session.answer(b"store 1 0 %d" % ring)
 
     def ask(self, line):
-        """The lines of items, the words of the answer, and whether a notice is owed."""
+        """Returns the lines of items, the words of the answer, and whether a notice is owed."""
         answers = self.session.answer(line.encode())[1]
         is_owed = answers[-1].startswith("owed ")
         *items, answer = answers[:-1] if is_owed else answers
@@ -90,7 +90,7 @@ class FileServer:
             self.printed.append(f"rs: {disk} runs at {generation}/{16 + at}")
 
     def take(self, what, line):
-        """How many items were taken, which are printed as new ones, and the words of the answer; nothing of a refusal."""
+        """Asks the store. Prints that all items were taken, unless it refuses. Returns their number and the answer's words."""
         items, (word, *rest), _ = self.store.ask(line)
         if word in COUNTED:
             self.printed.append(f"fs: {what}: {len(items)} items, {len(items)} taken, 0 stale")
@@ -108,7 +108,7 @@ class FileServer:
             self.take_all()
 
     def tell(self, round_, what):
-        """What becomes of a round of requests, one for each unit."""
+        """Prints what becomes of a round of requests, one for each unit."""
         units = min(len(self.disks), UNITS)
         self.printed += [f"fs: request {round_ * units + unit + 1} {what(unit)}" for unit in range(units)]
 
@@ -141,12 +141,12 @@ def fileserver(disks):
     return "".join(line + "\n" for line in server.printed)
 
 
-# The programs that take a number of entries: what each prints, and the numbers with which it runs.
+# The programs that take a number of entries: what each prints, and the numbers that it runs with.
 NUMBERED = {"driver": (driver, (MANY,)), "fileserver": (fileserver, (MANY, TOO_MANY))}
 
 
 def runs(name):
-    """The words with which the program of this name runs, in any language, each time with what it prints."""
+    """Yields the arguments of each run of the program of this name, in any language, and what it prints."""
     yield [], (EXAMPLES / "c" / f"{name}.out").read_text()
     said, numbers = NUMBERED.get(name, (None, ()))
     for number in numbers:
@@ -154,7 +154,7 @@ def runs(name):
 
 
 def script():
-    """A script of one store whose answers are long, and the answers."""
+    """Returns a script of one store whose answers are long, and the answers."""
     session = stores.Session()
     lines = [f"publish 0/2 new drv{it} label 1.0 = 1/{it}" for it in range(MANY)] + ["snapshot *", "show"]
     answers = [session.answer(line.encode())[1] for line in lines[:-1]]

@@ -1,7 +1,7 @@
-"""Calls of the library for C of which some growths of memory are refused, for tests/programs/store.
+"""Makes calls of the library for C and refuses them growths of memory, for tests/programs/store.
 
-The library is linked as a shared one with python/tests/refusing.c in it, so that no growth of Python's is counted. Only the calls that
-are under test are counted and refused: what opens a store or a map and what fetches a text isn't.
+The library is linked as a shared one with python/tests/refusing.c in it, so that no growth of Python's is counted. Growths are counted
+and refused in the calls under test alone: not in those that prepare a store or a map, or fetch a text.
 """
 import ctypes
 import itertools
@@ -28,14 +28,14 @@ def heap():
 
 
 def refusing(library, made):
-    """Links a shared library whose growths of memory can be refused, and returns its path. It shows the words by which they are."""
+    """Links a shared library whose growths of memory can be refused, and returns its path. It exports the variables that control this."""
     whole = ["-Wl,--whole-archive", library, "-Wl,--no-whole-archive", *REFUSED, heap()]
     subprocess.run([CC, *STRICT, "-shared", "-fPIC", "-o", made, *whole], check=True)
     return made
 
 
 class Memory:
-    """Refuses growths to one call, and says how many the last call asked for."""
+    """Refuses growths to one call, and counts those that the last call asked for."""
 
     def __init__(self, path):
         self.library = c_calls.loaded(path)
@@ -46,11 +46,11 @@ class Memory:
         self.planned, self.growths = None, 0
 
     def refuse(self, number, later=False):
-        """Plans to refuse the growth of this number, from 1, to the next call; with `later` all after it, too."""
+        """Plans to refuse to the next call its growth of this number, counted from 1; with `later`, all after it too."""
         self.planned = number - 1, not later
 
     def call(self, function, handle, *words):
-        """Makes a call, and refuses it what is planned."""
+        """Makes a call, and refuses it the planned growths."""
         left, once = self.planned or (-1, 0)
         self.planned, before = None, self.asked.value
         self.once.value, self.left.value = once, left
@@ -60,7 +60,7 @@ class Memory:
         return said
 
     def asker(self):
-        """Returns which function asked for the growth that was refused last, without its types; those in C only pass it on."""
+        """Returns the function that asked for the growth refused last, without its types. Functions in C only pass a request on."""
         stack = (ctypes.c_ulong * self.words.value).in_dll(self.library, "growths_stack")
         found = (it for it in self.askers.callers(bytes(stack)) if "::" in it and not askers.BELOW.search(it))
         return next(found, "-").partition("::<")[0]
@@ -74,7 +74,7 @@ class Store(c_calls.Runs):
         self.memory = memory
 
     def begin(self, line):
-        """Opens the store of a line `store INCARNATION FIRST RING`."""
+        """Opens the store of a line `store INCARNATION FIRST RING`, and returns the answer."""
         refused = self.open(*map(int, line.split()[1:4]))
         return ["ready"] if refused == 0 else [f"refused {c_calls.REFUSALS[refused - 1]}"]
 
@@ -94,7 +94,7 @@ class Store(c_calls.Runs):
         return c_calls.Session.ask(self, command, line, taken)
 
     def told(self, block):
-        """The answer to a command: a line, or `merge` and offers, or `run` and the lines that one call carries out."""
+        """Returns the answer to a command: a line, or `merge` and offers, or `run` and the lines that one call carries out."""
         if block[0] == "merge":
             text = items_of(block)
             request = c_calls.Request(command=c_calls.COMMANDS.index(b"merge"), text_length=len(text))
@@ -105,7 +105,7 @@ class Store(c_calls.Runs):
         return self.held() if block == ["held"] else self.answer(block[0].encode())
 
     def held(self):
-        """How much the store holds, its position and its incarnation."""
+        """Returns a line with how much the store holds, its position and its incarnation."""
         *items, snapshot = self.answer(b"snapshot *")
         floors = sum(it.startswith("! ") for it in items)
         _, _, incarnation, position = snapshot.split()
@@ -120,7 +120,7 @@ class Map(c_calls.Map):
         self.memory = memory
 
     def begin(self, line):
-        """Makes the map of a line `map "PATTERN" KINDS`."""
+        """Makes the map of a line `map "PATTERN" KINDS`, and returns the answer."""
         _, pattern, kinds = line.split('"')
         self.close()
         refused = self.make(pattern.encode(), int(kinds))
@@ -130,7 +130,7 @@ class Map(c_calls.Map):
         return self.memory.call(self.library.ds_map_new, self.handle, ctypes.c_uint8(kinds), pattern, ctypes.c_size_t(len(pattern)))
 
     def told(self, block):
-        """The answer to `take` and offers, or to `label NAME`."""
+        """Returns the answer to `take` and offers, or to `label NAME`."""
         if block[0] == "take":
             return self.ask(self.library.ds_map_take, items_of(block))
         return self.ask(self.library.ds_map_label, block[0].removeprefix("label ").encode())
@@ -144,7 +144,7 @@ class Map(c_calls.Map):
 
 
 def items_of(block):
-    """The lines of the items that are offered."""
+    """Returns the lines of the items that are offered."""
     return "".join(it.removeprefix("offer ") + "\n" for it in block[1:]).encode("latin1")
 
 
@@ -156,9 +156,9 @@ def blocks(lines):
 
 
 def reading(block):
-    """How many growths the library asks for to read a command, before it calls a store or a map.
+    """Returns how many growths the library asks for to read a command, before it calls a store or a map.
 
-    A text, memory and a pattern are copied once, and a list of items grows to 4 places, then to twice as many each time.
+    A text, memory or a pattern is copied once. A list of items grows to 4 places, then doubles each time.
     """
     if block[0] in ("merge", "take"):
         return growths_of_list(len(block) - 1) + sum(map(has_text, block[1:]))
@@ -169,10 +169,10 @@ def reading(block):
 
 
 def growths_of_list(count):
-    """How many growths a list asks for until it has `count` items."""
+    """Returns how many growths a list asks for until it has `count` items."""
     return 0 if count == 0 else sum(1 for power in range(2, 64) if count > (1 << power)) + 1
 
 
 def has_text(offer):
-    """Whether the item's value is a text or memory."""
+    """Returns whether the item's value is a text or memory."""
     return " = " in offer and (" str " in offer or " mem " in offer)

@@ -1,4 +1,4 @@
-"""Stores that read the lines of scripts themselves, for tests/programs/c: they print the text of their answers."""
+"""Runs scripts on stores that read the lines themselves, for tests/programs/c, and compares the texts of their answers."""
 import ctypes
 import pathlib
 import re
@@ -15,14 +15,14 @@ BY_RS = re.compile(rb"(?:publish|delete|sweep) 0/2 ")
 
 
 class Session(c_calls.Session):
-    """A store behind a handle; the text of its answers is fetched into a room of that many bytes at a time."""
+    """A store behind a handle. The text of its answers is fetched `room` bytes at a time."""
 
     def ask(self, command, line, taken):
         self.call_line(line)
         return self.text().decode("latin1").splitlines()
 
     def call_line(self, line):
-        """The answer to a line."""
+        """Returns the answer to a line."""
         answer = c_calls.Answer()
         called = self.library.ds_call_line(ctypes.byref(self.handle), line, len(line), ctypes.byref(answer))
         if called:
@@ -30,14 +30,14 @@ class Session(c_calls.Session):
         return answer
 
     def text(self):
-        """All of the last answer's text."""
+        """Fetches the whole text of the last answer."""
         room, given, text = ctypes.create_string_buffer(self.room), c_calls.Given(), b""
         while True:
             called = self.library.ds_text(ctypes.byref(self.handle), len(text), room, self.room, ctypes.byref(given))
             more = given.length == self.room and given.stop == TOO_SMALL
             text += room.raw[: given.length]
             if called or not (more or given.stop == WHOLE and given.count == len(text)):
-                raise AssertionError(f"byte {len(text)} of {given.count} wasn't given: call {called}, stop {given.stop}")
+                raise AssertionError(f"byte {len(text)} of {given.count} wasn't returned: call {called}, stop {given.stop}")
             if not more:
                 return text
 
@@ -55,19 +55,19 @@ class Stores(c_worlds.Stores):
 
 
 def is_served(script):
-    """Each line is a command of one store."""
+    """Returns whether each line is a command of one store."""
     return all(line.split(b" ")[0] in ASKED for line in script)
 
 
 def is_supervised(script):
-    """Each line is a command of one store or of RS, and can be read. The first one of RS opens it, or tries to."""
+    """Returns whether each line can be read and is a command of one store or of RS. The first one of RS opens it, or tries to."""
     words = [line.split(b" ")[0] for line in script]
     of_services = [it for it in words if it in SERVICES]
     return {*words} <= ASKED | SERVICES and of_services[:1] == [b"settings"] and not is_ended_early(script)
 
 
 def is_ended_early(script):
-    """Some line can't be read, so that a script ends there."""
+    """Returns whether some line can't be read, so that a script ends there."""
     try:
         return not all(model.read(line, at == 0) for at, line in enumerate(script))
     except model.BadLine:
@@ -75,7 +75,7 @@ def is_ended_early(script):
 
 
 def opened(store, text):
-    """Opens RS with the text of a line `settings`, and returns what a script prints, but for the number of slots."""
+    """Opens RS with the text of a line `settings`, and returns what a script prints, except for the number of slots."""
     fault = ctypes.create_string_buffer(16)
     refusal = store.library.ds_rs_open(ctypes.byref(store.handle), text, len(text), 1, 16, fault)
     if refusal:
@@ -87,19 +87,19 @@ def opened(store, text):
 
 
 def model_word(number):
-    """The word of a refusal's number, as c/ds.h has it."""
+    """Returns the word of a refusal's number, from c/ds.h."""
     return re.search(r"^enum ds_refusal \{(.*?)\};", HEADER, re.DOTALL | re.MULTILINE)[1].replace(" = 1", "").split()[number - 1].strip(",")[3:].lower().encode()
 
 
 def other_answer(line, is_open):
-    """What a line prints to which a script answers something else, or None: a command in RS's name, an event before RS is open."""
+    """Returns the answer to a line that a script answers differently, or None: a command in RS's name, or an event before RS is open."""
     if is_open and BY_RS.match(line):
         return b"refused notallowed\n"
     return b"" if not is_open and line.split(b" ")[0] in SERVICES - {b"settings"} else None
 
 
 def play(library, room, script, wanted):
-    """A store with RS answers the lines of a script as the script prints, up to the first one that a script answers otherwise."""
+    """A store with RS answers lines as a script does, up to the first one that a script answers differently."""
     store = Session(library, room)
     store.open(1, 0, 256)
     at, is_open = 0, False
@@ -109,7 +109,7 @@ def play(library, room, script, wanted):
             store.call_line(line)
             given = store.text()
             if given != other or store.close() != 0:
-                raise AssertionError(f"{line[:120]}: {given[:600]}, and not {other}")
+                raise AssertionError(f"{line[:120]}: {given[:600]}, wanted {other}")
             return
         if line.startswith(b"settings ") and not is_open:
             given = opened(store, line[9:])
@@ -120,14 +120,14 @@ def play(library, room, script, wanted):
             store.call_line(line)
             given = store.text()
         if not wanted.startswith(given, at):
-            raise AssertionError(f"{line[:120]}: {given[:600]}, and not {wanted[at:at + 600]}")
+            raise AssertionError(f"{line[:120]}: {given[:600]}, wanted {wanted[at:at + 600]}")
         at += len(given)
     if at != len(wanted) or store.close() != 0:
-        raise AssertionError(f"it printed {at} bytes, and not {len(wanted)}")
+        raise AssertionError(f"it printed {at} bytes, wanted {len(wanted)}")
 
 
 def read(library, script):
-    """Each line of a script is read as the model reads it, by a store that holds nothing: as a command of one store, as another, or as none."""
+    """An empty store reads each line of a script as the model does: as a command of one store, as another command, or as none."""
     for line in sorted(set(script)):
         store = Session(library, 4096)
         store.open(1, 0, 256)
@@ -139,5 +139,5 @@ def read(library, script):
             wanted = "bad_line", bad.place
         given = c_calls.WORDS[answer.word], answer.count
         if wanted and (given, store.text()) != (wanted, b"") or not wanted and (given[0] in ("no_request", "bad_line") or not store.text()):
-            raise AssertionError(f"{line[:120]}: {given}, and not {wanted or 'an answer'}")
+            raise AssertionError(f"{line[:120]}: {given}, wanted {wanted or 'an answer'}")
         store.close()

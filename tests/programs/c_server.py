@@ -1,4 +1,4 @@
-"""The server of examples/c, for tests/programs/c: clients send it lines, and each gets its answers and its notices."""
+"""Plays the server of examples/c, for tests/programs/c: clients send it lines, and each gets its answers and notices."""
 import contextlib
 import os
 import socket
@@ -22,7 +22,7 @@ class Client:
         self.socket.sendall(text.encode())
 
     def answer(self):
-        """The lines of the next answer or notice; None if the server hung up."""
+        """Returns the lines of the next answer or notice; None if the server hung up."""
         while b"\n\n" not in self.rest and not self.rest.startswith(b"\n"):
             try:
                 some = self.socket.recv(1 << 16)
@@ -43,7 +43,7 @@ class Client:
 
 
 def connected(path, server):
-    """A client, once the server is there."""
+    """Returns a client, once the server is there."""
     ends = time.monotonic() + PATIENCE
     while True:
         try:
@@ -55,7 +55,7 @@ def connected(path, server):
 
 @contextlib.contextmanager
 def served(program):
-    """Yields the socket's path and a client of a server that runs, and ends it."""
+    """Runs a server, yields its socket's path and a client, and ends it."""
     with tempfile.TemporaryDirectory() as room:
         path = os.path.join(room, "socket")
         server = subprocess.Popen([program, path], stdin=subprocess.DEVNULL)
@@ -68,7 +68,7 @@ def served(program):
 
 
 def is_now(given, wanted):
-    assert given == wanted, f"{given}, and not {wanted}"
+    assert given == wanted, f"{given}, wanted {wanted}"
 
 
 def play(program):
@@ -91,10 +91,10 @@ def play(program):
             is_now(rs.ask(f"offer mtu{at:03} u32 eth0 3.{at} = 1500"), ["taken"])
         is_now(len(rs.ask("show")), NAMES + 3)
         rude = Client(path)
-        rude.send("x" * 8192)  # no line is so long
+        rude.send("x" * 8192)  # longer than any line
         is_now(rude.answer(), None)
         inet.socket.close()
-        is_now(rs.ask("delete 0/2 eth0 label 3.1"), ["taken", owed])  # nobody is there to get the notice
+        is_now(rs.ask("delete 0/2 eth0 label 3.1"), ["taken", owed])  # no client is there to get the notice
         more = [Client(path) for _ in range(CLIENTS - 1)]
         is_now([it.ask("nameof 3/17") for it in more], [["named tty"]] * len(more))
         is_now(Client(path).answer(), None)  # all places are taken

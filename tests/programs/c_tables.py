@@ -1,4 +1,4 @@
-"""A driver table by its C calls, over a map, for tests/programs/c: drawn calls are answered as tests/model says.
+"""Draws calls in C on a driver table over a map, for tests/programs/c, and compares the answers with tests/model.
 
 The model has a map and a table too. What a table learns from a map is the model's `Session.learn`.
 """
@@ -43,7 +43,7 @@ class Table:
         assert (refused, self.answer.refusal) == (0, 0), f"{lines}: {refused} {self.answer.refusal}"
 
     def call(self, call, *words):
-        """Makes a call, and returns what it answers: a refusal, and the moves."""
+        """Makes a call. Returns its refusal, or None, and its moves."""
         refused = getattr(self.library, f"ds_table_{call}")(ctypes.byref(self.table), *words, ctypes.byref(self.answer))
         assert refused == 0, f"{call}: {refused}"
         if self.answer.word == NO_REQUEST:
@@ -53,7 +53,7 @@ class Table:
         return fault, self.moves()
 
     def moves(self):
-        """Fetches the moves in pieces of a few."""
+        """Fetches the moves, a few at a time."""
         found, room, given = [], (Move * 4)(), ctypes.c_size_t()
         while True:
             size, at = ctypes.c_size_t(self.chance.randrange(1, 5)), ctypes.c_size_t(len(found))
@@ -61,7 +61,7 @@ class Table:
             assert refused == 0 and given.value <= size.value
             found += [told(room[it]) for it in range(given.value)]
             if given.value < size.value:
-                assert len(found) == self.answer.count, f"{len(found)} moves, and {self.answer.count} are counted"
+                assert len(found) == self.answer.count, f"{len(found)} moves, and the answer counts {self.answer.count}"
                 return found
 
     def follow(self):
@@ -75,7 +75,7 @@ class Table:
 
 
 def told(move):
-    """A move as the model has it. The parts that its kind lacks are 0."""
+    """Returns a move as the model has it. The parts that its kind lacks must be 0."""
     endpoint, zeros = (move.generation, move.slot), (0, 0)
     if move.kind == 0:
         assert move.id == 0
@@ -96,11 +96,11 @@ class Drawn:
         self.generation, self.request, self.sent = 1, 0, [(1, 16)]
 
     def same(self, what, found, wanted):
-        assert found == wanted, f"{what}: {found}, and not {wanted}"
+        assert found == wanted, f"{what}: {found}, wanted {wanted}"
         self.sent += [it[2] for it in found[1] if it[0] == "send"]
 
     def learn(self, then=None):
-        """What the model's table learns from the map, and what a request brings after it."""
+        """Returns what the model's table learns from the map, and then the result of a request."""
         moves = []
         self.session.learn(self.wanted, self.map.held.held, moves)
         try:
@@ -109,7 +109,7 @@ class Drawn:
             return str(refused), moves
 
     def take(self):
-        """News of a label: mostly of a new generation."""
+        """Takes news of a label, mostly of a new generation."""
         self.generation += self.chance.random() < 0.6
         at = self.chance.randrange(len(LABELS))
         generation = max(1, self.generation - self.chance.choice([0, 0, 0, 0, 1, 2]))
@@ -157,7 +157,7 @@ class Drawn:
         assert self.table.close() == (0, 0)
 
     def submit_last(self):
-        """The last id of all: none is above it."""
+        """Submits the last id of all twice: none is above it."""
         for _ in range(2):
             self.same("the last id", self.table.submit(MOST_ID, 5), self.learn(lambda: self.wanted.submit(MOST_ID, 5)))
 

@@ -1,4 +1,4 @@
-"""The scripts of one world typed as C calls, for tests/programs/c.
+"""Runs the scripts of one world as C calls, for tests/programs/c.
 
 Its two stores and its maps have handles of their own. This module keeps what a caller in C would keep: the current side, the messages and
 their numbers.
@@ -9,13 +9,13 @@ import c_calls
 import model
 
 SERVED = {b"offer", *c_calls.COMMANDS} | {b"ring", b"side", b"show", b"all", b"map", b"deliver", b"entries", b"clear", b"restart"}
-GIVING = (b"check", b"since", b"snapshot", b"page")  # the commands whose items are the next message
+GIVING = (b"check", b"since", b"snapshot", b"page")  # the commands whose items become the next message
 AT_ONCE = 256  # items of one merge
 NAMES = re.compile(rb"([A-Za-z0-9._-]{1,64}) label\b")
 
 
 class Stores:
-    """Two stores and maps, asked by lines. `wanted` is all that the script must print."""
+    """Two stores and maps, called with lines. `wanted` is all that the script must print."""
 
     session = c_calls.Session
 
@@ -64,12 +64,12 @@ class Stores:
         return self.sides[side].answer(b"restart %s %d" % (side, incarnation))
 
     def all(self):
-        """All that is held: what a snapshot gives."""
+        """Returns all that is held, as a snapshot does."""
         lines = self.sides[self.current].ask(b"snapshot", b"snapshot *", (None,))[:-1]
         return [*lines, f"shown {len(lines)}"]
 
     def show(self):
-        """The puts of these."""
+        """Returns the puts among these."""
         lines = [it for it in self.all()[:-1] if " = " in it]
         return [*lines, f"shown {len(lines)}"]
 
@@ -96,7 +96,7 @@ class Stores:
         return self.maps[holder][0].take(b"".join(items[:count]))
 
     def merged(self, store, items):
-        """A store is given as many items at a time as a merge may have."""
+        """Merges items into a store, as many at a time as a merge may have."""
         total = store.merge(b"".join(items[:AT_ONCE]))
         for at in range(AT_ONCE, len(items), AT_ONCE):
             if c_calls.WORDS[total.word] == "stopped":
@@ -109,7 +109,7 @@ class Stores:
         return c_calls.told(total, [], False)
 
     def clear(self, number):
-        """A map that holds nothing is a new one."""
+        """Clears a map by making it again."""
         if number >= len(self.maps):
             return ["refused nomap"]
         held, query = self.maps[number]
@@ -118,7 +118,7 @@ class Stores:
         return ["cleared"]
 
     def entries(self, number):
-        """No call gives all that a map holds: what must be printed is taken, and each label of the script must be in the map as it says."""
+        """Returns the wanted lines, since no call returns all that a map holds. The map must have the script's labels as they show them."""
         if number >= len(self.maps):
             return ["refused nomap"]
         rest = self.wanted[len(self.printed) :]
@@ -128,18 +128,18 @@ class Stores:
             given = self.maps[number][0].label(name)
             at = labels.get(name.decode())
             if given != [f"found {at}" if at else "refused notfound"]:
-                raise AssertionError(f"map {number} has {name.decode()}: {given}, and not {at}")
+                raise AssertionError(f"map {number} has {name.decode()}: {given}, wanted {at}")
         return lines
 
 
 class Runs(Stores):
-    """The same, by the call for many requests."""
+    """Two stores and maps, called with many requests at once."""
 
     session = c_calls.Runs
 
 
 def is_served(script):
-    """Each line is a command of a world, and can be read."""
+    """Returns whether each line can be read and is a command of a world."""
     try:
         commands = [model.read(line, at == 0)[0] for at, line in enumerate(script)]
     except model.BadLine:
@@ -148,13 +148,13 @@ def is_served(script):
 
 
 def ask(stores, script):
-    """A script's lines as calls: what is printed is what must be."""
+    """Runs a script's lines as calls, and checks what they print."""
     wanted = stores.wanted
     for at, line in enumerate(script):
         before = len(stores.printed)
         stores.ask(line, at == 0)
         if stores.printed[before:] != wanted[before : len(stores.printed)]:
-            raise AssertionError(f"line {at + 1}, {line[:80]}: {stores.printed[before:]}, and not {wanted[before:before + 8]}")
+            raise AssertionError(f"line {at + 1}, {line[:80]}: {stores.printed[before:]}, wanted {wanted[before:before + 8]}")
     if stores.printed != wanted:
-        raise AssertionError(f"it printed {len(stores.printed)} lines, and not {len(wanted)}")
+        raise AssertionError(f"it printed {len(stores.printed)} lines, wanted {len(wanted)}")
     stores.close()

@@ -1,11 +1,11 @@
-"""Each refusal of each command to a store, with lines that lead there, for tests/programs/store.
+"""Lists each refusal of each command to a store, with lines that lead to it, for tests/programs/store.
 
-A case ends with one command that has several causes to be refused, as far as one command can: the answer is the first in the order of
-docs/reference/refusals.md. It was worked out from that page, and not from a store's answer. With no memory at all for the store the answer is
-the same, but for what a pattern needs.
+A case ends with one command that has several causes to be refused, as far as one command can. The answer is the first in the order of
+docs/reference/refusals.md. It was worked out from that page, and not from a store's answer. With no memory at all for the store the
+answer is the same, except for what a pattern needs.
 
-Other cases have commands that aren't refused. Without memory, those that take none have the usual answer, and the others `noroom`. No change
-of a held number or label, no void change and no higher floor of an owner that has one takes memory, however much the floor drops.
+Other cases have commands that aren't refused. Without memory, those that take none have the usual answer, and the others `noroom`. No memory
+is taken by a change of a held number or label, a void change, or a higher floor of an owner that has one, however much the floor drops.
 """
 from dataclasses import dataclass, replace
 from typing import List, Tuple
@@ -17,7 +17,7 @@ MOST_ITEMS = 256  # of one Merge
 
 @dataclass
 class Case:
-    """Lines that lead there, a command of one or more lines, and its answer: with ample memory, and with none."""
+    """Lines that come first, a command of one or more lines, and its answer: with ample memory, and with none."""
 
     name: str
     before: List[str]
@@ -27,7 +27,7 @@ class Case:
 
 
 def case(name, before, command, ample, *without):
-    """A case, from texts of lines; `without` is by default the one answer that comes with ample memory too."""
+    """Returns a case from texts of lines. By default `without` is the one answer that comes with ample memory too."""
     return Case(name, before.splitlines(), command.splitlines(), ample.splitlines(), tuple(it.splitlines() for it in without or (ample,)))
 
 
@@ -36,24 +36,24 @@ def merge(*offers):
 
 
 def store(first=0, ring=256):
-    """The line that opens a store: where positions and stamps begin, and how many items the journal keeps."""
+    """Returns the line that opens a store: where positions and stamps begin, and how many items the journal keeps."""
     return f"store 1 {first} {ring}\n"
 
 
 def begins(left, ring=256):
-    """The beginning of a store with that many positions left."""
+    """Returns the line that opens a store with `left` positions left."""
     return store(LAST - left, ring)
 
 
 def full(keys=MOST_KEYS):
-    """As many keys as there may be: the label of eth0, which lives in 3/17, and numbers of tty's."""
+    """Returns lines for `keys` keys: the label of eth0, which lives in 3/17, and numbers of tty's."""
     names = [f"tty{n} u32 tty 1.0 = {n}" for n in range(keys - 1)]
     blocks = [names[at : at + MOST_ITEMS] for at in range(0, len(names), MOST_ITEMS)]
     return ETH + "\n".join(merge(*it) for it in blocks)
 
 
 def floors(count):
-    """The floors of `count` owners, at generation 1."""
+    """Returns lines for the floors of `count` owners, at generation 1."""
     return "".join(f"offer ! o{n} 1\n" for n in range(count))
 
 
@@ -176,7 +176,7 @@ MERGE = [
     case("worn", begins(1) + HELD, merge(OLDER, NEW), "stopped 1 worn"),
     case("known and stale", begins(1) + HELD, merge(SAME, OLDER), "merged 2 0 1"),
     case("of a number of a held key", "offer mtu u32 eth0 3.0 = 7\n" + SUB, merge("mtu u32 eth0 3.1 = 8"), "merged 1 1 0" + OWED),
-    case("of a new key behind a known one", HELD, merge(SAME, NEW), "merged 2 1 0", "stopped 1 noroom"),
+    case("of a new key after a known one", HELD, merge(SAME, NEW), "merged 2 1 0", "stopped 1 noroom"),
     case("of a new key before another owner's", HELD, merge(NEW, FOREIGN), "stopped 1 notowner", "stopped 0 noroom"),
     case("of another owner's before a new key", HELD, merge(FOREIGN, NEW), "stopped 0 notowner"),
     case("full of floors", begins(MOST_FLOORS) + floors(MOST_FLOORS), merge("! o0 1", "! o0 0", "! eth0 3"), "stopped 2 full"),
@@ -264,7 +264,7 @@ VOID = [
     case("of a held key", offers("mtu u32 eth0 4.0 = 9", "! eth0 3"), "offer mtu u32 eth0 3.1 = 7", "stale"),
     case("of another owner's key", offers(OF_TTY, "! eth0 3"), "offer irq u32 eth0 3.1 = 7", "refused notowner"),
     case("where all keys are used", full() + "\n" + offers("! eth0 3"), "offer mtu u32 eth0 3.1 = 7", "stale"),
-    case("but of a label, which none is", offers("! rs 9"), "offer " + LABEL, "taken", NOROOM),
+    case("except of a label, which is never void", offers("! rs 9"), "offer " + LABEL, "taken", NOROOM),
     case("above the floor", offers("! eth0 3"), "offer mtu u32 eth0 4.0 = 7", "taken", NOROOM),
 ]
 
@@ -298,7 +298,7 @@ SEVERAL = [
     case("of a higher floor", ALL_KINDS + offers("! eth0 1"), merge("! eth0 2", LABEL), "merged 2 1 0"),
     case("of numbers of held keys", ALL_KINDS, merge("mtu u32 eth0 2.2 = 7", "link u32 eth0 2.4 = 1"), "merged 2 2 0"),
     case("of a new owner's floor", ALL_KINDS, merge("! tty 3", NUMBER), "merged 2 1 0", "stopped 0 noroom"),
-    case("clash behind a known one", ALL_KINDS, merge(TEXT, "mtu u32 eth0 2.1 = 7"), "stopped 1 clash 2.1"),
+    case("clash after a known one", ALL_KINDS, merge(TEXT, "mtu u32 eth0 2.1 = 7"), "stopped 1 clash 2.1"),
 ]
 
 COMMANDS = {
@@ -322,7 +322,7 @@ COMMANDS = {
 
 
 def opened(lines):
-    """The lines after the one that opens a store."""
+    """Returns the lines, with one that opens a store before them if they have none."""
     return lines if lines and lines[0].startswith("store ") else store().splitlines() + lines
 
 

@@ -1,6 +1,6 @@
-"""A store that fills up, for tests/programs/store: each growth of memory of each line is refused once, and nothing held may change.
+"""Fills a store, for tests/programs/store: each growth of memory of each line is refused once, and nothing held may change.
 
-Keys arrive in no order, and sweeps drop some, so that what is inserted takes the place of what was dropped.
+Keys arrive in random order, and sweeps drop some, so that new entries take the places of dropped ones.
 """
 import itertools
 import random
@@ -16,7 +16,7 @@ UNREAD = ["refused noroom"]
 
 
 def lines():
-    """Yields two publishes for each driver, a sweep after every fourth, and at last a check and each driver's name."""
+    """Yields two publishes for each driver, a sweep after every fourth, and finally a check and a question for each driver's name."""
     chance = random.Random(95)
     slots = list(range(FIRST_SLOT, FIRST_SLOT + DRIVERS))
     chance.shuffle(slots)
@@ -34,7 +34,7 @@ def lines():
 
 
 def line_fault(memory, store, line, ample, held):
-    """Refuses each growth of a line, until it is answered as with memory. Returns what is wrong, or None."""
+    """Refuses each growth of a line, one per call, until the answer is the one with memory. Returns what is wrong, or None."""
     for n in itertools.count(1):
         memory.refuse(n)
         answered = store.told([line])
@@ -57,7 +57,7 @@ def fault(memory):
         wrong = line_fault(memory, store, line, ample, held)
         held = store.told([SNAPSHOT])
         if not wrong and held != model.answer(SNAPSHOT.encode())[1]:
-            wrong = "what is held then isn't what the model holds"
+            wrong = "what it then holds isn't what the model holds"
         if wrong:
             return f"{line}: {wrong}"
     store.close()

@@ -1,17 +1,17 @@
-"""What tests/programs/followers asks of threads: writers change a store at a desk, and followers of it are refreshed meanwhile.
+"""Runs writers that change a store at a desk while followers of it are refreshed, for tests/programs/followers.
 
 The program gives one store the writers' calls in the order of their places, and compares each map that was brought up to a place with
 what that store then holds. Each line, `WRITERS FOLLOWERS CALLS`, is answered by one line, which is the same in whatever order the threads run.
 
-If the n-th growth is refused, one of these happens. The run ends as `noroom`. Or one call of a writer is refused so, and changes nothing. Or
-a refresh fails, and the follower begins again, so that its next map is compared as usual. Or a thread couldn't be made, and everything is as
-with ample memory.
+If the n-th growth is refused, one of these happens. The run ends with `noroom`. Or one call of a writer has that answer, and changes nothing.
+Or a refresh fails, and the follower begins again, so that its next map is compared as usual. Or a thread can't be created, and everything is
+as with ample memory.
 """
 import pathlib
 
 import harness
 
-RUNS = 5  # of each crew, since every run takes its turns otherwise
+RUNS = 5  # of each crew, since the order of turns differs from run to run
 SIZES = ((1, 1, 2000), (2, 2, 500), (1, 7, 300), (8, 8, 100), (32, 32, 20))
 REFUSED = ((1, 1, 3), (2, 1, 2))
 UNREAD = ("", "1 1", "0 1 1", "1 0 1", "33 1 1", "1 33 1", "one 1 1", "1 1 -1", "1 1 1 ")
@@ -28,28 +28,28 @@ def shared_out(threads):
 
 
 def fault(program, sizes):
-    """Runs a crew, and says what is wrong with what it prints, or answers None."""
+    """Runs a crew, and returns what is wrong with what it prints, or None."""
     ran = harness.run([program], asked(*sizes))
     wrong = harness.difference(ran.output, EQUAL)
     return wrong or (None if (ran.status, ran.error) == (0, b"") else f"status {ran.status}, standard error {ran.error[:200]!r}")
 
 
 def case_of(room, sizes):
-    """A crew as a case in a file of its own."""
+    """Returns a crew as a case in a file of its own."""
     given = pathlib.Path(room) / "_".join(["followers", *map(str, sizes)])
     given.write_bytes(asked(*sizes))
     return harness.Case(given.name, [], given, EQUAL)
 
 
 def refused_fault(ran):
-    """Says what is wrong with a run of which one growth was refused, or answers None."""
+    """Returns what is wrong with a run in which one growth was refused, or None."""
     if (ran.status, ran.error, ran.output) in ((3, b"noroom\n", b""), (0, b"", EQUAL)):
         return None
     return f"status {ran.status}, output {ran.output[:200]!r}, standard error {ran.error[:200]!r}"
 
 
 def growths(refuser, room, sizes):
-    """Refuses each growth of one crew, one a run. Returns what is wrong with the first bad answer, or None."""
+    """Refuses each growth of one crew, one per run. Returns what is wrong with the first bad answer, or None."""
     ended = []
 
     def refused(ran):
@@ -61,7 +61,7 @@ def growths(refuser, room, sizes):
 
 
 def input_faults(program):
-    """Lines that can't be read end the program with status 1, after those before them."""
+    """Checks that a line that can't be read ends the program with status 1, after the answers before it. Returns a fault or None."""
     good = asked(1, 1, 2)
     for sizes in UNREAD:
         line = f"{sizes}\n".encode()
@@ -72,7 +72,7 @@ def input_faults(program):
 
 
 def faults(refuser, room):
-    """What was wrong with each crew, each several times, and with the growths of small ones, or None."""
+    """Runs each crew several times, and refuses the growths of small ones. Returns the names, each with what was wrong or None."""
     named = []
     for sizes in SIZES:
         runs = (fault(refuser.program, sizes) for _ in range(RUNS))

@@ -1,4 +1,4 @@
-/* Growths of memory that are refused: of a program in one file that is linked with -Wl,--wrap=malloc,--wrap=realloc. */
+/* Refuses growths of memory to a program in one file that is linked with -Wl,--wrap=malloc,--wrap=realloc. */
 #ifndef GROWTHS_H
 #define GROWTHS_H
 
@@ -6,7 +6,7 @@
 
 void *__real_malloc(size_t);
 void *__real_realloc(void *, size_t);
-static long left = -1, asked; /* how many growths succeed before one is refused, -1: all; how many there were */
+static long left = -1, asked; /* how many growths succeed before one is refused, -1: all; how many were asked for */
 static int once;              /* whether only one is refused, and not all after it */
 
 static int fails(void) {

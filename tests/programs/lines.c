@@ -1,5 +1,5 @@
-/* A store that is asked by lines of a script: what is wrong is told with its place; a text comes whole however small the room is, and
- * however often memory is wanting. Link with -Wl,--wrap=malloc,--wrap=realloc. */
+/* Calls a store with lines of a script. A fault is reported with its place. A text arrives whole however small the buffer is, and
+ * however often memory runs out. Link with -Wl,--wrap=malloc,--wrap=realloc. */
 #include "ds.h"
 #include "growths.h"
 #include <stdio.h>
@@ -13,7 +13,7 @@ static char text[4096];
 static size_t length; /* of the text */
 static long waited, bad;
 
-/* Fetches the whole text of the last answer, so many bytes at a time, however often memory is wanting on the way. */
+/* Fetches the whole text of the last answer, at most `most` bytes at a time, however often memory runs out on the way. */
 static void fetch(size_t most) {
     char room[sizeof text];
     length = 0;
@@ -72,7 +72,7 @@ static void misuse(void) {
     line("all");
 }
 
-/* The text is the same however small the room is. */
+/* Checks that the text is the same however small the buffer is. */
 static void small(void) {
     static char whole[sizeof text];
     if (ds_call_line(&store, "all", 3, &answer)) exit(1);
@@ -112,8 +112,8 @@ static const char *const script[] = {
 };
 enum { LINES = sizeof script / sizeof *script };
 
-/* The script is asked with memory for n allocations: each answer is that of a run with memory, or says that there was none, and then a
- * line that is asked again is answered. */
+/* Runs the script with memory for n allocations. Each answer is that of a run with enough memory, or reports that memory ran out; then
+ * the line is sent again, and is answered. */
 static void run(long n, char (*wanted)[512], size_t *lengths) {
     left = n;
     uint32_t open = ds_open(&store, 1, 0, 256);

@@ -1,8 +1,8 @@
-"""Single calls of a subscriber's map, for tests/programs/store: each growth of memory is refused to the one call, one by one and all.
+"""Lists single calls of a subscriber's map, for tests/programs/store. Each growth of the one call is refused, one by one and all together.
 
-No label takes memory, and neither does an item that isn't asked about by the map's pattern and takes no place: a floor of an owner who has
-one. A `take` that memory stops keeps the items in front. What a map has besides its labels is shown by the lines `entries` and `clear` of
-scripts.
+Reading a label takes no memory. Neither does an item that isn't matched against the map's pattern and needs no place: a floor of an owner
+that has one. A `take` that runs out of memory keeps the items before. The lines `entries` and `clear` of scripts show what a map has
+besides its labels.
 """
 from dataclasses import replace
 
@@ -26,7 +26,7 @@ TAKE = [
     case("of a floor", take(ETH), take("! eth0 2"), "merged 1 1 0", "stopped 0 noroom"),
     case("of a higher floor", take(ETH, ID, "! eth0 2"), take("! eth0 3") + "\n" + take(VOID), "merged 1 1 0\nmerged 1 0 1"),
     case("of a lower one", take(ETH, "! eth0 2"), take("! eth0 1", "! eth0 2"), "merged 2 0 1"),
-    case("of a new key behind a floor", take(ETH, "! eth0 2"), take("! eth0 3", MTU.replace("3.0", "4.0")) + "\n" + take(VOID),
+    case("of a new key after a floor", take(ETH, "! eth0 2"), take("! eth0 3", MTU.replace("3.0", "4.0")) + "\n" + take(VOID),
          "merged 2 2 0\nmerged 1 0 1", "stopped 1 noroom\nmerged 1 0 1"),
     case("clash", take(MTU), take("mtu u32 eth0 3.0 = 9"), "stopped 0 clash 3.0", "stopped 0 noroom"),
     case("notowner", take(MTU), take("mtu u32 tty 9.0 = 9"), "stopped 0 notowner", "stopped 0 noroom"),
@@ -43,7 +43,7 @@ CALLS = {"take": TAKE, "read": READ}
 
 
 def of_map(it, name):
-    """The case, of a map that is made first, of all but `tty`."""
+    """Returns the case, with a map that is made first, of all names but `tty`."""
     return replace(it, name=f"map: {name}", before=['map "[^t].*" 15', *it.before])
 
 

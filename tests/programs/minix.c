@@ -1,4 +1,4 @@
-/* MINIX 3's calls over the library: each of them, with the errors that docs/reference/minix.md names. */
+/* Makes each of MINIX 3's calls over the library, with the errors that docs/reference/minix.md names. */
 #include "minix_ds.h"
 #include <errno.h>
 #include <stdio.h>
@@ -38,7 +38,7 @@ static void check(struct ds_caller *caller) {
     else printf("check: %s, type %d, owner %u/%u\n", key, type, (unsigned)owner / 1024, (unsigned)owner % 1024);
 }
 
-/* Retrieves an entry, whatever it is. */
+/* Retrieves an entry of any type. */
 static int retrieve(struct ds_caller *caller, const char *key, int type) {
     char text[300];
     size_t length = sizeof text;
@@ -52,7 +52,7 @@ static int retrieve(struct ds_caller *caller, const char *key, int type) {
     }
 }
 
-/* A check, and whether what it names is there. */
+/* Makes a check, and retrieves the entry that it names. */
 static void check_and_retrieve(struct ds_caller *caller) {
     char key[DS_MAX_KEYLEN] = "";
     int type = -1;
@@ -65,7 +65,7 @@ static void check_and_retrieve(struct ds_caller *caller) {
     }
 }
 
-/* A caller that subscribes after deletions is given the entries that are there, as by DS, which forgets a deleted entry. */
+/* A caller that subscribes after deletions gets the entries that are there, as from DS, which forgets a deleted entry. */
 static void after_deletions(struct ds_caller *eth) {
     static struct ds_caller late = {.server = &server, .endpoint = DS_ENDPOINT(0, 6), .sub = 48};
     said("subscribe after deletions", ds_subscribe(&late, "eth0.*", DSF_INITIAL));
@@ -87,7 +87,7 @@ static void after_deletions(struct ds_caller *eth) {
     check_and_retrieve(&late);
 }
 
-/* The owner of an entry may be gone when the entry is given, which is no refusal of the check. */
+/* The owner of an entry may be gone when a check returns the entry. The check isn't refused for that. */
 static void owner_is_gone(struct ds_caller *rs, struct ds_caller *other) {
     static struct ds_caller follower = {.server = &server, .endpoint = DS_ENDPOINT(0, 7), .sub = 56};
     said("subscribe to tty's", ds_subscribe(&follower, "tty0.*", DSF_TYPE_U32));

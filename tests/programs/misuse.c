@@ -1,4 +1,4 @@
-/* What a caller may get wrong: each is answered by a word, and what was sound before and behind it goes on. */
+/* Makes the mistakes that a caller may make. Each is answered by a word, and sound calls before and after it work. */
 #include "ds.h"
 #include <stdio.h>
 #include <string.h>
@@ -97,7 +97,7 @@ static void run(const char *what, const struct ds_request *asks, size_t count, s
     puts("");
 }
 
-/* Four requests: a label, what is no request, all that is held, and the label again. */
+/* Makes four requests: a label, an invalid one, all that is held, and the label again. */
 static void runs(void) {
     struct ds_request asks[4] = {label("eth0"), label("eth0"), {.command = DS_SNAPSHOT}, label("eth0")};
     asks[1].command = 99;

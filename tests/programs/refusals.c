@@ -1,5 +1,5 @@
-/* The words of ds_refusal_text: of each number, and beside what ds_text prints for each refusal that a line of a script meets. The words of
- * ds_word_text, and the library's version. */
+/* Prints the words of ds_refusal_text: for each number, and beside what ds_text returns for each refusal of a script's line. Also prints
+ * the words of ds_word_text, and the library's version. */
 #include "ds.h"
 #include <inttypes.h>
 #include <stdio.h>
@@ -22,7 +22,7 @@ static void reopen(uint64_t first, uint32_t ring) {
     }
 }
 
-/* Asks a line, and prints by what it was refused, if it was, in both ways. */
+/* Sends a line. If it is refused, prints the refusal in both ways. */
 static void ask(const char *line) {
     struct ds_answer said;
     struct ds_given given;
@@ -95,13 +95,13 @@ static void worn(void) {
     ask("publish 0/2 new eth0 label 3.0 = 3/16");
 }
 
-/* Opens RS with a settings text, and prints by what it is refused. */
+/* Opens RS with a settings text, and prints the refusal. */
 static void settle(const char *text, uint32_t next) {
     struct ds_settings_fault fault;
     printf("settings: %s\n", ds_refusal_text(ds_rs_open(&store, text, strlen(text), next, 16, &fault)));
 }
 
-/* Each fault of a settings text, and each of an event. */
+/* Provokes each fault of a settings text, and each of an event. */
 static void services(void) {
     settle("[[service", 1);
     settle("services = []", 1);
@@ -124,7 +124,7 @@ static void services(void) {
     ask("publish 0/2 over disk label 2.0 = 2/16");
 }
 
-/* RS with its last generation, and RS with one slot for two services. */
+/* Runs RS with its last generation, and RS with one slot for two services. */
 static void spent(void) {
     static const char few[] = "slots = 1\n[[service]]\nlabel = \"a\"\nclass = \"server\"\n[[service]]\nlabel = \"b\"\nclass = \"server\"\n";
     settle(few, 2097152);

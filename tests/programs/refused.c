@@ -1,5 +1,5 @@
-/* Memory that runs out at each allocation in turn, alone or with all behind it. Every answer is that of a run with memory, or
- * says that there was none; no text is lost; and the handle goes on. Link with -Wl,--wrap=malloc,--wrap=realloc. */
+/* Refuses each allocation, alone or with all after it. Every answer is that of a run with enough memory, or reports that memory
+ * ran out; no text is lost; and the handle stays usable. Link with -Wl,--wrap=malloc,--wrap=realloc. */
 #include "ds.h"
 #include "growths.h"
 #include <stdio.h>
@@ -32,7 +32,7 @@ static void prepare(void) {
     }
 }
 
-/* All pieces of the last answer's text are fetched, however often memory is wanting on the way. */
+/* Fetches all pieces of the last answer's text, however often memory runs out on the way. */
 static int whole(const struct ds_answer *answer, long *wanting) {
     char room[128];
     struct ds_given given;
@@ -44,7 +44,7 @@ static int whole(const struct ds_answer *answer, long *wanting) {
     return 1;
 }
 
-/* A map is made, takes some items and says where a label is: however often memory is wanting, what it was given is there in the end. */
+/* Makes a map, which takes some items and finds a label. However often memory runs out, it has all the items in the end. */
 static int mapped(long n, long *wanting) {
     static const char items[] = "! tty 1\neth0 label rs 3.0 = 3/16\neth0.s str eth0 3.1 = \"a value\"\neth1 label rs 4.0 = 4/17\n";
     static struct ds_map map = DS_CLOSED;

@@ -1,9 +1,9 @@
-"""What tests/programs/services asks of the reincarnation server: settings and events drawn by a seed.
+"""Draws settings and events for the reincarnation server from a seed, for tests/programs/services.
 
-They are answered by the program and by tests/model/restarts.py, which must agree: settings with and without faults, services
-that fail, wait and are given up, slots and generations that run out, and 64 services that start and stop 40 times in 1, 63, 64
-and 1008 slots. Where the n-th growth of a short script is refused, settings or an event are answered `refused noroom`, or the
-program ends so, and after a refusal every answer is the model's for an RS to which that never came.
+The program and tests/model/restarts.py answer them, and must agree: settings with and without faults, services that fail, wait and are
+given up, slots and generations that run out, and 64 services that start and stop 40 times in 1, 63, 64 and 1008 slots. If the n-th
+growth of a short script is refused, settings or an event are answered `refused noroom`, or the program ends with `noroom`. After a
+refusal every answer is the model's for an RS that never got the refused line.
 """
 import demos
 from model.restarts import Session
@@ -14,7 +14,7 @@ FAULTS = 400  # settings with something wrong
 
 
 class Script(demos.Script):
-    """Settings and events drawn by a seed."""
+    """Settings and events drawn from a seed."""
 
     def __init__(self, seed):
         super().__init__(seed, Session)
@@ -27,13 +27,13 @@ class Script(demos.Script):
         return answers
 
     def may_lack_room(self, command, ample):
-        """Settings without a fault take memory, and an event that has actions."""
+        """Returns whether the command takes memory: settings without a fault, or an event that has actions."""
         if command[0] == "settings":
             return ample[-1].startswith("services ")
         return any(it.startswith("actions ") and it != "actions 0" for it in ample)
 
     def settings(self, most):
-        """RS begins with up to that many services, some of them with few slots or few generations left."""
+        """Begins RS with up to `most` services, sometimes with few slots or few generations left."""
         count = self.random.randint(1, most)
         slots = self.random.choice([None, 1008, count, max(1, count - 1), 1])
         services = [self.service(n) for n in range(count)]
@@ -63,7 +63,7 @@ class Script(demos.Script):
         return service
 
     def draw(self):
-        """One more command: mostly events in order, now and then one that is late, or a question."""
+        """Draws one more command: mostly an event in order, now and then a late one, or a question."""
         drawn = self.random.random()
         if drawn < 0.25:
             self.now += self.random.choice([0, 1, 1, 2, 5, 20, 40])
@@ -81,7 +81,7 @@ class Script(demos.Script):
             self.read()
 
     def read(self):
-        """What is read of RS between two events."""
+        """Reads something from RS between two events."""
         drawn = self.random
         self.ask(*drawn.choice([
             ("key",), ("next",), ("due",), ("due",), ("service", drawn.randint(0, 64)), ("instance", self.endpoint()),
@@ -90,7 +90,7 @@ class Script(demos.Script):
         ]))
 
     def tick(self):
-        """A tick, now and then repeated until it has no actions or is refused, as a caller would."""
+        """Sends a tick, now and then repeated until it has no actions or is refused, as a caller would."""
         for _ in range(self.random.choice([1, 2, 200])):
             answers = self.ask("tick", self.when())
             if answers == ["actions 0"] or answers[0].startswith("refused"):
@@ -128,7 +128,7 @@ def short_script(seed):
 
 
 def last_script():
-    """What no seed is sure to draw: the last tick, the last numbers, and settings that are refused, after which RS continues."""
+    """Returns what no seed is sure to draw: the last tick, the last numbers, and settings that are refused, after which RS continues."""
     script = Script(0)
     script.ask("tick", 0)
     script.ask("settings", 1, {"service": [{"label": "eth0", "class": "network", "unit": 0}]})
@@ -148,7 +148,7 @@ def last_script():
 
 
 def slots_script(slots):
-    """64 services start over and over, until no slot is free: each that stops leaves its slot to a later start."""
+    """Returns a script in which 64 services start over and over until no slot is free. Each that stops leaves its slot to a later start."""
     script = Script(slots)
     labels = [f"service{n}" for n in range(64)]
     script.ask("settings", 1, {"slots": slots, "service": [{"label": label, "class": "server"} for label in labels]})
@@ -163,7 +163,7 @@ def slots_script(slots):
 
 
 def faults():
-    """Scripts of settings with one to three faults, the first of which must be reported."""
+    """Returns scripts of settings with one to three faults, the first of which must be reported."""
     scripts = []
     for seed in range(FAULTS):
         script = Script(5000 + seed)
@@ -178,7 +178,7 @@ def faults():
 
 
 def spoil(drawn, settings):
-    """Changes one thing, mostly to what is wrong."""
+    """Changes one thing, mostly to something wrong."""
     services = settings["service"]
     one = drawn.choice(services)
     other = drawn.choice(services)

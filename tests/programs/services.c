@@ -1,4 +1,4 @@
-/* RS beside a store: what a caller may get wrong, each action by its struct, and memory that runs out at each allocation in turn. Link with
+/* Runs RS beside a store: a caller's mistakes, each action by its struct, and memory that runs out at each allocation. Link with
  * -Wl,--wrap=malloc,--wrap=realloc. */
 #include "ds.h"
 #include "growths.h"
@@ -79,7 +79,7 @@ static void may(const char *what, uint32_t generation, uint16_t slot, unsigned k
     printf("%s may publish: %s\n", what, ds_refusal_text(ds_rs_may_publish(&store, generation, slot, (uint8_t)kind, name, strlen(name))));
 }
 
-/* What the instance may do to the service with a label. */
+/* Prints what the instance may do to the service with a label. */
 static void deals(const char *what, uint32_t generation, uint16_t slot, const char *label) {
     printf("%s, %s: complain %s, connect %s\n", what, label,
            ds_refusal_text(ds_rs_may_complain(&store, generation, slot, label, strlen(label))),
@@ -182,7 +182,7 @@ static void services(void) {
            ds_refusal_text(ds_rs_action(&store, 0, &action)));
 }
 
-/* A request in RS's name, which RS alone sends, by each of the calls that could. */
+/* Makes a request in RS's name, which RS alone may make, by each call that could. */
 static void barred(void) {
     struct ds_request it = {.command = DS_PUBLISH, .slot = 2, .kinds = DS_LABEL, .epoch = 99, .value = 99, .value_slot = 99,
                             .overwrite = 1, .name_length = 4, .name = "disk"};
@@ -197,7 +197,7 @@ static void barred(void) {
     printf("by ds_call_line: %s\n", ds_refusal_text(answer.refusal));
 }
 
-/* The same by lines: what is printed is the text. */
+/* Sends a line, and prints the text of its answer. */
 static void line(const char *it) {
     char text[512];
     struct ds_given given;
@@ -219,7 +219,7 @@ static void lines(void) {
     printf("actions: %d\n", ds_rs_action(&store, 0, &action) == 0);
 }
 
-/* Who may complain of whom, and connect to whom: by class, and by lists. vfs has no lists, mfs and disk have. */
+/* Prints which service may complain of which, and connect to which: by class, and by lists. vfs has no lists; mfs and disk have. */
 static void dealings(void) {
     static const char some[] =
         "service = [{label = \"vfs\", class = \"server\"}, {label = \"disk\", class = \"block\", unit = 3, complains = [\"vfs\"], connects = []},"
@@ -240,7 +240,7 @@ static void dealings(void) {
     deals("of the dead", 2, 17, "vfs");
 }
 
-/* `forget` and `startup` by C: an instance that was up for 10 ticks leaves no failures, and has 20 ticks to start. */
+/* Tries `forget` and `startup` from C: an instance that was up for 10 ticks leaves no failures, and has 20 ticks to start. */
 static void forgetting(void) {
     static const char one[] =
         "service = [{label = \"disk\", class = \"block\", unit = 3, period = 5, limit = 1, forget = 10, startup = 20}]";
@@ -259,8 +259,8 @@ static void forgetting(void) {
     show(0);
 }
 
-/* Other settings while services run: what is refused and changes nothing, what stays by its label, what is new. The second pair has the
- * services in another order. */
+/* Gives RS other settings while services run. Some are refused and change nothing; services stay by their labels, and others are new. The
+ * second pair has the services in another order. */
 static void rs_renew(const char *what, const char *text) {
     memset(&fault, 0xee, sizeof fault);
     uint32_t call = ds_rs_renew(&store, text, strlen(text), &fault);
@@ -309,7 +309,7 @@ static void renewals(void) {
     line("retrieve tty label");
 }
 
-/* One that was given up may be left out. */
+/* New settings may leave out a service that was given up. */
 static void renewal_of_one_given_up(void) {
     static const char two[] = "service = [{label = \"tty\", class = \"character\", unit = 4}, " VFS "]";
     rs_open("RS with one that is given up", two, sizeof two - 1, 1, 16);
@@ -323,7 +323,7 @@ static void renewal_of_one_given_up(void) {
     show(0);
 }
 
-/* A history with memory for n allocations. What is refused for memory is reported again: nothing has changed. */
+/* In a history with memory for n allocations, what is refused for memory is reported again: nothing has changed. */
 static uint32_t again(uint32_t refusal) {
     if (refusal == DS_NOROOM) left = -1, waited++;
     return refusal == DS_NOROOM;
@@ -336,7 +336,7 @@ static void run(long n, uint64_t *wanted) {
     } steps[] = {{DS_RS_UP, 0, 0, 1}, {DS_RS_BEAT, 1, 0, 2}, {DS_RS_TICK, 0, 0, 6}, {DS_RS_DEATH, 1, 4, 7}, {DS_RS_TICK, 0, 0, 8}, {DS_RS_DEATH, 2, 1, 9}};
     char text[512];
     struct ds_given given;
-    int missed = 0; /* the store had no memory for an offer: from there on it may hold less */
+    int missed = 0; /* the store ran out of memory for an offer: from then on it may hold less */
     left = n;
     while (again(ds_open(&store, 1, 0, 256))) {}
     while (again(ds_rs_open(&store, settings, sizeof settings - 1, 1, 16, &fault))) {}
@@ -367,7 +367,7 @@ static void insist(struct ds_rs_event it) {
     bad += answer.word != DS_ACTED;
 }
 
-/* Other settings with memory for n allocations. A refused call leaves what RS knows, and the next one has it all. */
+/* Gives RS other settings with memory for n allocations. A refused call changes nothing, and the next one changes everything. */
 static void renew_with(long n) {
     static const char more[] = "slots = 4\nservice = [" TTY ", " DISK "]\n";
     uint32_t refusal;

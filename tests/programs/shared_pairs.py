@@ -1,18 +1,18 @@
-"""What tests/programs/sharers asks of threads: callers share RS and its store at a desk, and followers of that store are refreshed meanwhile.
+"""Runs callers that share RS and its store at a desk while followers of that store are refreshed, for tests/programs/sharers.
 
 The program gives RS and a store of one thread the callers' calls in the order of their places, and compares each reply, and each map that
 was brought up to a place with what that store then holds. Each line, `CALLERS FOLLOWERS CALLS`, is answered by one line, which is the same
 in whatever order the threads run.
 
-If the n-th growth is refused, one of these happens. The run ends as `noroom`. Or one call is refused so, and changes nothing. Or a refresh
-fails, and the follower begins again, so that its next map is compared as usual. Or a thread couldn't be made, and everything is as with ample
-memory.
+If the n-th growth is refused, one of these happens. The run ends with `noroom`. Or one call has that answer, and changes nothing. Or a
+refresh fails, and the follower begins again, so that its next map is compared as usual. Or a thread can't be created, and everything is as
+with ample memory.
 """
 import pathlib
 
 import harness
 
-RUNS = 5  # of each crew, since every run takes its turns otherwise
+RUNS = 5  # of each crew, since the order of turns differs from run to run
 SIZES = ((1, 0, 2000), (8, 0, 250), (32, 0, 60), (1, 1, 1000), (2, 2, 500), (1, 7, 300), (8, 8, 100), (32, 32, 20))
 REFUSED = ((1, 0, 40), (2, 0, 20), (1, 1, 6), (2, 1, 3))
 UNREAD = ("", "1 1", "0 1 1", "33 1 1", "1 33 1", "one 1 1", "1 1 -1", "1 1 1 ", "notices")
@@ -33,35 +33,35 @@ def shared_out(threads, chance):
 
 
 def counted(callers, followers, calls):
-    """What such a crew does, for the sums of tests/soak. In 16 turns a caller reports three ticks and a death."""
+    """Returns what such a crew does, for the sums of tests/soak. In 16 turns a caller reports three ticks and a death."""
     done = {"calls of RS and its store": calls, "ticks": sum(it % 16 in (5, 10, 13) for it in range(calls)), "deaths": (calls + 9) // 16}
     refreshed = {"refreshes of a follower of RS's store": followers * calls}
     return {**{what: callers * count for what, count in done.items()}, **refreshed, "threads": callers + followers}
 
 
 def fault(program, sizes):
-    """Runs a crew, and says what is wrong with what it prints, or answers None."""
+    """Runs a crew, and returns what is wrong with what it prints, or None."""
     ran = harness.run([program], asked(*sizes))
     wrong = harness.difference(ran.output, answer(*sizes))
     return wrong or (None if (ran.status, ran.error) == (0, b"") else f"status {ran.status}, standard error {ran.error[:200]!r}")
 
 
 def case_of(room, sizes):
-    """A crew as a case in a file of its own."""
+    """Returns a crew as a case in a file of its own."""
     given = pathlib.Path(room) / "_".join(["pairs", *map(str, sizes)])
     given.write_bytes(asked(*sizes))
     return harness.Case(given.name, [], given, answer(*sizes))
 
 
 def refused_fault(ran, sizes):
-    """Says what is wrong with a run of which one growth was refused, or answers None."""
+    """Returns what is wrong with a run in which one growth was refused, or None."""
     if (ran.status, ran.error, ran.output) in ((3, b"noroom\n", b""), (0, b"", answer(*sizes))):
         return None
     return f"status {ran.status}, output {ran.output[:200]!r}, standard error {ran.error[:200]!r}"
 
 
 def growths(refuser, room, sizes):
-    """Refuses each growth of one crew, one a run. Returns what is wrong with the first bad answer, or None."""
+    """Refuses each growth of one crew, one per run. Returns what is wrong with the first bad answer, or None."""
     ended = []
 
     def refused(ran):
@@ -73,7 +73,7 @@ def growths(refuser, room, sizes):
 
 
 def input_faults(program):
-    """Lines that can't be read end the program with status 1, after those before them."""
+    """Checks that a line that can't be read ends the program with status 1, after the answers before it. Returns a fault or None."""
     good = asked(1, 1, 2)
     for sizes in UNREAD:
         line = f"{sizes}\n".encode()
@@ -84,7 +84,7 @@ def input_faults(program):
 
 
 def faults(refuser, room):
-    """What was wrong with each crew, each several times, and with the growths of small ones, or None."""
+    """Runs each crew several times, and refuses the growths of small ones. Returns the names, each with what was wrong or None."""
     named = []
     for sizes in SIZES:
         runs = (fault(refuser.program, sizes) for _ in range(RUNS))

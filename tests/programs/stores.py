@@ -1,8 +1,8 @@
-"""A store that gets drawn commands, for tests/programs/store and c.
+"""Draws commands for a store, for tests/programs/store and c.
 
-The store and tests/model/store.py answer them, and must agree. This module also says which commands may run out of memory. These may not: a
-change of a held key, but for a copied text or blob; a tombstone; a floor of an owner that has one; a question for a label or a number; a
-restart; and a command that is refused for another reason, but for what a pattern needs.
+The store and tests/model/store.py answer them, and must agree. This module also decides which commands may run out of memory. These may
+not: a change of a held key, except for a copied text or blob; a tombstone; a floor of an owner that has one; a question for a label or a
+number; a restart; and a command that is refused for another reason, except for what a pattern needs.
 """
 import behaviour
 import causes
@@ -16,17 +16,17 @@ OPENING = [
     b"publish 1/16 new mtu u32 1.0 = 1500",
 ]
 NOT_COMMANDS = (b"map", b"entries", b"show", b"all")
-RING = 5  # items of every second script's journal
+RING = 5  # items in the journal of every second script
 
 
 class Session:
-    """The model's store, asked by lines."""
+    """The model's store, called with lines."""
 
     def __init__(self):
         self.store = model.Store()
 
     def answer(self, line, _may=None):
-        """The line as it is given to the store, and its answers."""
+        """Returns the line as the store gets it, and the answers."""
         if line.startswith(b"store "):
             incarnation, first, ring = map(int, line.split()[1:])
             self.store = model.Store(ring, incarnation, first)
@@ -37,7 +37,7 @@ class Session:
 
 
 class Script(demos.Script):
-    """Commands for a store, each with whether it may be refused memory."""
+    """Commands for a store, each with why it may be refused memory, if it may."""
 
     def __init__(self, seed, count, subscribes):
         super().__init__(seed, Session)
@@ -55,7 +55,7 @@ class Script(demos.Script):
             self.ask(line, may_take(self.model.store, line))
 
     def may_lack_room(self, command, ample):
-        """Whether the command, which has this answer with ample memory, may be refused memory."""
+        """Returns whether the command, which has this answer with ample memory, may be refused memory."""
         may = command[1]
         if may is SHOWN:
             return not ample[0].startswith(("checked 0", "since 0", "snapshot 0", "page 0", "refused"))
@@ -63,27 +63,27 @@ class Script(demos.Script):
 
 
 def reading_by_chance(chance, store):
-    """A line with which a reader asks the store, or, seldom, a restart."""
+    """Returns a reader's question to the store, or, rarely, a restart."""
     end = len(store.accepted)
     position = chance.choice([end, max(end - 1, 0), max(end - chance.randrange(1, 9), 0), end + (chance.random() < 0.1), 0])
     incarnation = store.incarnation + (chance.random() < 0.05)
     most = chance.choice([1, 1, 2, 3, 256, 256 + (chance.random() < 0.2)])
     scope = chance.choice([b"*", b"*", b'"m.*" 15', b'"eth0|id" %d' % chance.randrange(1, 16), b'".*" 2'])
     if incarnation != store.incarnation or not end - min(store.ring, end) <= position <= end:
-        scope = b"*"  # what asks a pattern may want memory, of which no answer tells where the cursor is refused
+        scope = b"*"  # a pattern may take memory, and no answer reports its refusal if the cursor is refused
     after = chance.choice([b"-", b"-", b"eth0 label", b"mac u32", b"id str", b"mtu mem"])
     asked = [b"since %s %d %d %d" % (scope, incarnation, position, most), b"snapshot " + scope, b"page %s %s %d" % (scope, after, most)]
     return b"restart a %d" % (incarnation + 1) if chance.random() < 0.03 else chance.choice(asked)
 
 
 # Why a command may be refused memory.
-ANSWERED = "its pattern is compiled before what stands behind it in the order is judged"
+ANSWERED = "its pattern is compiled before what comes later in the order is judged"
 SHOWN = "it copies what it shows"
 NEW = "a key that isn't held, or an owner without a floor, needs a place, and a string or memory is copied to the journal"
 
 
 def may_take(store, line):
-    """Why the command may be refused memory in this state, or None where no growth may be refused it."""
+    """Returns why the command may be refused memory in this state, or None if it may not."""
     command, taken = model.read(line)
     if command in (b"since", b"snapshot", b"page"):
         *before, scope = taken

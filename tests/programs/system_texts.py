@@ -1,7 +1,7 @@
-"""Systems and their events, drawn by a seed, for tests/programs/system.
+"""Draws systems and their events from a seed, for tests/programs/system.
 
-Services mostly live, and publish what they may. Both servers' maps are fed now and then, late or at once, so that requests come before a
-driver is known, while it lives, and after its end. A service's change is drawn for either store, and comes again.
+Services mostly live, and publish what they may. Both servers' maps are fed now and then, late or at once. So requests arrive before a
+driver is known, while it lives, and after its end. A service's change is drawn for either store, and is repeated.
 """
 import random
 
@@ -16,7 +16,7 @@ REFUSED = [b"system 0 1 0 0 1 0 256", b"system 1 1 0 0 1 0 256", b"system 1 1 0 
 
 
 class Drawn:
-    """A part that is drawn."""
+    """A drawn part."""
 
     def __init__(self, seed, count):
         self.chance, self.now, self.lines, self.side = random.Random(seed), 0, [], b"a"
@@ -35,7 +35,7 @@ class Drawn:
             self.ask(self.line())
 
     def service(self, unit, label):
-        """What the settings tell of a service."""
+        """Returns a service of the settings."""
         kind, chance = CLASSES[label], self.chance
         table = {"label": label, "class": kind, **({} if kind == "server" else {"unit": unit})}
         if chance.random() < 0.4:
@@ -46,13 +46,13 @@ class Drawn:
         return self.head + b"".join(it + b"\n" for it in self.lines)
 
     def ask(self, line):
-        """Adds an event, which happens in the model."""
+        """Adds an event, which also happens in the model."""
         self.lines.append(line)
         self.model.world.current = self.side
         self.model.happen(line)
 
     def line(self):
-        """The next event. (Events that prepare it are in the list already.)"""
+        """Returns the next event. Events that prepare it are added first."""
         kinds = [self.service_event] * 6 + [self.written] * 6 + [self.again] * 2 + [self.fed] * 5 + [self.submit] * 4 + [self.reply] * 3
         return self.chance.choice([*kinds, self.follow, self.question, self.of_world])()
 
@@ -63,12 +63,12 @@ class Drawn:
         return self.chance.choice(known if self.chance.random() < 0.95 else ["nobody"]).encode()
 
     def living(self):
-        """Mostly a service that is up, if one is."""
+        """Returns the label of a service, mostly of one that is up."""
         up = [label for label, state in self.model.rs.states.items() if state[0] == "up"]
         return self.chance.choice(up).encode() if up and self.chance.random() < 0.8 else self.label()
 
     def endpoint(self):
-        """Mostly of an instance that lives, or of one before."""
+        """Returns an endpoint, mostly of an instance that lives, or of an earlier one."""
         up = [state[1] for state in self.model.rs.states.values() if state[0] == "up"]
         near = (max(self.model.rs.next - 2, 1), 16)
         return self.chance.choice(up) if up and self.chance.random() < 0.85 else near
@@ -86,7 +86,7 @@ class Drawn:
         return b"service %s %s %d" % (chance.choice([b"up", b"up", b"down", b"refresh", b"restart"]), self.label(), self.now)
 
     def written(self):
-        """A service's put, or its remove, mostly of what it declares, to the current store, or now and then to the other one."""
+        """Returns a service's put or remove, mostly of what it declares, to the current store, or now and then to the other one."""
         chance, label = self.chance, self.living()
         if chance.random() < 0.1:
             self.side = b"b" if self.side == b"a" else b"a"
@@ -104,7 +104,7 @@ class Drawn:
     # ---- the world ----
 
     def fed(self):
-        """A map, or a store, is given what the store holds or took last; mostly a server then looks."""
+        """Delivers what the store holds, or took last, to a map or a store. Returns an event of the servers, which mostly look then."""
         chance, world = self.chance, self.model.world
         store = world.stores[self.side]
         since = b"since * %d %d 256" % (store.incarnation, max(store.position() - chance.randrange(1, 5), store.first))
@@ -134,7 +134,7 @@ class Drawn:
         return b"follow 0"
 
     def submit(self):
-        """A request, mostly for a unit that there is, and numbered above all before."""
+        """Returns a request, mostly for a unit that exists, and with a number above all before."""
         chance, server = self.chance, self.chance.choice([b"file", b"file", b"net"])
         table = self.model.tables[server]
         number = max(table.requests, default=0) + (chance.random() < 0.95)
@@ -142,7 +142,7 @@ class Drawn:
         return b"submit %s %d %d 0" % (server, number, unit)
 
     def reply(self):
-        """An answer, mostly to a request that was sent, and by the endpoint that it was last sent to."""
+        """Returns a reply, mostly to a request that was sent, and by the endpoint that it was last sent to."""
         chance, tables = self.chance, self.model.tables
         sending = [name for name, table in tables.items() if any(it in table.sends for it in table.pending())]
         server = chance.choice(sending or [*tables])
@@ -154,5 +154,5 @@ class Drawn:
 
 
 def text_of(seed, count):
-    """A part with that many lines, of a seed."""
+    """Returns a part of about `count` lines, drawn from a seed."""
     return Drawn(seed, count).text()

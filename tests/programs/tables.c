@@ -1,5 +1,5 @@
-/* A server's driver table: what a caller may get wrong, each move by its struct, and memory that runs out at each allocation in turn. Link
- * with -Wl,--wrap=malloc,--wrap=realloc. */
+/* Runs a server's driver table: a caller's mistakes, each move by its struct, and memory that runs out at each allocation. Link with
+ * -Wl,--wrap=malloc,--wrap=realloc. */
 #include "ds.h"
 #include "growths.h"
 #include <inttypes.h>
@@ -131,7 +131,7 @@ static void files(void) {
     submit("none is above it", UINT64_MAX, 3);
 }
 
-/* Moves in pieces: from each of them on, into rooms of each size. */
+/* Fetches moves in pieces: from each of them on, into buffers of each size. */
 static void pieces(void) {
     struct ds_move all[ROOM], some[ROOM];
     size_t count, given;
@@ -166,7 +166,7 @@ static void ports(void) {
     printf("closed: %s\n", ds_refusal_text(ds_table_close(&table)));
 }
 
-/* A history with memory for n allocations. What is refused for memory is called again: what came of it before stays. */
+/* In a history with memory for n allocations, what is refused for memory is called again; what it did before that stays. */
 static uint32_t again(uint32_t refusal) {
     if (refusal == DS_NOROOM) left = -1, waited++;
     return refusal == DS_NOROOM;

@@ -1,9 +1,9 @@
-"""What tests/programs/exchanges asks of a follower of one desk's store, and of exchanges with the store at another desk.
+"""Models a follower of one desk's store, and exchanges with the store at another desk, for tests/programs/exchanges.
 
-The rows are those of crates/test_threads, each in new stores, and the model below answers them too. Memory may run out at one point of a row.
-A call that is refused for that is an entry of its desk's history and changes nothing. A follower that meets it is lost: it keeps the part of
-the map that it had, and begins again with its next refresh. An exchange that meets it ends and keeps what it merged, and the next one
-exchanges everything once more.
+The rows are those of crates/test_threads, each in new stores, and the model below prints them too. Memory may run out at one point of a row.
+A call that is refused for that is an entry of its desk's history and changes nothing. A follower that runs out of memory is lost: it keeps
+its part of the map, and begins again with its next refresh. An exchange that runs out of memory ends and keeps what it merged, and the next
+one exchanges everything once more.
 """
 import functools
 import re
@@ -15,7 +15,7 @@ from model import world
 RS = (0, 2)
 MOST = 256  # items of a Check, of a question in an exchange, and of a Merge
 NOROOM = "out of memory"
-WORDS = {  # what is printed of a refusal
+WORDS = {  # what is printed for a refusal
     b"behind": "the journal doesn't reach back to the cursor",
     b"clash": "the key has another change of version Version {{ epoch: Generation {{ number: {} }}, seq: {} }}",
 }
@@ -51,7 +51,7 @@ ROWS = [
 ]
 
 
-class Wanting(Exception):
+class OutOfMemory(Exception):
     """Memory runs out, after `done` items if the store reports how many."""
 
     def __init__(self, done=None):
@@ -60,13 +60,13 @@ class Wanting(Exception):
 
 
 class Desk:
-    """A store, how far its history goes, and the notices that nobody took."""
+    """A store, the length of its history, and the notices that no server took."""
 
     def __init__(self, store):
         self.store, self.place, self.pending = store, 0, set()
 
     def call(self, command, taken):
-        """What the store answers; the masks are kept."""
+        """Calls the store, and returns its answer without the masks, which are kept."""
         self.place += 1
         answer = self.store.answer(command, taken)
         masks = [int(it.split()[1], 16) for it in answer if it.startswith(b"owed ")]
@@ -89,17 +89,17 @@ class Playing:
     def say(self, word, number=None):
         self.lines.append(word if number is None else f"{word} {number}")
 
-    def is_wanting(self, *point):
-        """Whether memory runs out at this point."""
+    def runs_out(self, *point):
+        """Returns whether memory runs out at this point."""
         self.points.append((self.step, point))
         return (self.step, point) == self.fault
 
     # ---- calls ----
 
     def ask(self, verb, *given, desk=None, number=0):
-        """Calls a desk's store, which mostly prints nothing."""
+        """Calls a desk's store, and prints only a refusal."""
         desk = desk or self.first
-        if self.is_wanting("asked", number):
+        if self.runs_out("asked", number):
             desk.place += 1
             return self.say(f"refused: {NOROOM}")
         answer = desk.call(*getattr(self, f"command_of_{verb}")(*given))
@@ -125,7 +125,7 @@ class Playing:
         self.say("front", self.first.place)
 
     def take(self):
-        """The notices of server 0, which has the first eight subscriptions."""
+        """Takes the notices of server 0, which has the first eight subscriptions."""
         bits = sum(1 << it for it in self.first.pending if it < 8)
         self.first.pending = {it for it in self.first.pending if it >= 8}
         self.say("taken", bits)
@@ -143,7 +143,7 @@ class Playing:
     def refresh(self, limit):
         try:
             place = self.called(limit) if 2 <= limit <= 65536 else "the limit isn't 2 to 65536 calls"
-        except Wanting:
+        except OutOfMemory:
             place = NOROOM
         if isinstance(place, str):
             self.stamp = None
@@ -161,27 +161,27 @@ class Playing:
         return None
 
     def subscribe(self, number):
-        if self.is_wanting("copied", number):
-            raise Wanting
-        if self.is_wanting("called", number):
+        if self.runs_out("copied", number):
+            raise OutOfMemory
+        if self.runs_out("called", number):
             self.first.place += 1
-            raise Wanting
+            raise OutOfMemory
         (answer,) = self.first.call(b"subscribe", (self.row.sub, (self.row.pattern, 15), True, True))
         self.map = world.Map(self.map.query)  # only now: a refusal keeps what the follower knew
         self.stamp = int(answer.split()[1])
 
     def check(self, number):
-        if self.is_wanting("called", number):
+        if self.runs_out("called", number):
             self.first.place += 1
-            raise Wanting
-        *items, told = self.first.call(b"check", (self.row.sub, MOST))
-        before, after = map(int, told.split()[2:])
+            raise OutOfMemory
+        *items, answer = self.first.call(b"check", (self.row.sub, MOST))
+        before, after = map(int, answer.split()[2:])
         if before != self.stamp:
             self.stamp = None
             return None
         for done, line in enumerate(items):
-            if self.is_wanting("taking", number, done):
-                raise Wanting
+            if self.runs_out("taking", number, done):
+                raise OutOfMemory
             self.map.merge([model.lines.item(line)])
         self.stamp = after
         return self.first.place if len(items) < MOST else None
@@ -201,8 +201,8 @@ class Playing:
         """Delivers what one store has to the other. Returns where the next exchange begins, or None after a fault."""
         try:
             done, taken, more, cursor = self.given(one, other, cursor)
-        except Wanting as wanting:
-            return self.say(NOROOM if wanting.done is None else f"stopped after {wanting.done} items: {NOROOM}")
+        except OutOfMemory as stop:
+            return self.say(NOROOM if stop.done is None else f"stopped after {stop.done} items: {NOROOM}")
         except model.store.Refused as refused:
             return self.say(str(refused))
         for word, number in (("done", done), ("taken", taken), ("more", int(more)), ("position", cursor)):
@@ -210,46 +210,46 @@ class Playing:
         return cursor
 
     def given(self, one, other, cursor):
-        """How many items were given and took effect, whether there may be more, and the cursor to go on from."""
+        """Returns how many items were delivered and took effect, whether there may be more, and the cursor to continue from."""
         if cursor is not None:
-            items, told = self.asked(one, 0, b"since", (1, cursor, MOST, None))
-            return len(items), self.merged(other, items, 0), len(items) >= MOST, int(told[3])
+            items, words = self.asked(one, 0, b"since", (1, cursor, MOST, None))
+            return len(items), self.merged(other, items, 0), len(items) >= MOST, int(words[3])
         first, after, done, taken, is_last = None, None, 0, 0, False
         while not is_last:
-            items, told = self.asked(one, done, b"page", (MOST, after, None))
-            first, is_last = first if first is not None else int(told[4]), told[2] == b"last"
+            items, words = self.asked(one, done, b"page", (MOST, after, None))
+            first, is_last = first if first is not None else int(words[4]), words[2] == b"last"
             after = next((model.lines.item(it).key for it in reversed(items) if not it.startswith(b"! ")), after)
             taken += self.merged(other, items, done)
             done += len(items)
         return done, taken, False, first
 
     def asked(self, desk, number, command, taken):
-        """The items that a store returns, and the words after them."""
-        if self.is_wanting("asked", number):
+        """Returns the items of a store's answer, and the words after them."""
+        if self.runs_out("asked", number):
             desk.place += 1
-            raise Wanting
-        *items, told = desk.call(command, taken)
-        if told.startswith(b"refused"):
-            raise model.store.Refused("the store refused: " + WORDS[told.split()[1]])
-        return items, told.split()
+            raise OutOfMemory
+        *items, answer = desk.call(command, taken)
+        if answer.startswith(b"refused"):
+            raise model.store.Refused("the store refused: " + WORDS[answer.split()[1]])
+        return items, answer.split()
 
     def merged(self, desk, items, before):
-        """Gives items by Merges. How many took effect."""
+        """Delivers items by Merges, and returns how many took effect."""
         taken = 0
         for at in range(0, len(items), MOST):
             part = items[at : at + MOST]
-            if self.is_wanting("split", before + at):
-                raise Wanting
+            if self.runs_out("split", before + at):
+                raise OutOfMemory
             taken += self.merged_at_once(desk, part, before + at)
         return taken
 
     def merged_at_once(self, desk, items, before):
-        """One Merge, which memory may stop at each item."""
-        stop = next((at for at in range(len(items)) if self.is_wanting("merged", before, at)), None)
+        """Makes one Merge, in which memory may run out at each item."""
+        stop = next((at for at in range(len(items)) if self.runs_out("merged", before, at)), None)
         (answer,) = desk.call(b"merge", ([model.lines.item(it) for it in items[:stop]],))
         word, done, taken, *cause = answer.split()
         if stop is not None:
-            raise Wanting(stop)
+            raise OutOfMemory(stop)
         if word == b"stopped":
             cause = WORDS[taken].format(*cause[0].decode().split("."))
             raise model.store.Refused(f"stopped after {done.decode()} items: {cause}")
@@ -258,7 +258,7 @@ class Playing:
     # ---- the end ----
 
     def compare(self):
-        """The first store and the map, or both stores."""
+        """Compares the first store and the map, or both stores."""
         self.step = len(self.row.steps)
         self.begun.append(len(self.lines))
         scope = (self.row.pattern, 15)
@@ -269,27 +269,27 @@ class Playing:
 
 
 def texts(rows):
-    """The lines of rows that were played."""
+    """Returns the lines of rows that were played."""
     return "".join(f"{line}\n" for it in rows for line in it.lines).encode()
 
 
 @functools.lru_cache(maxsize=None)
 def all_played():
-    """All rows, with ample memory."""
+    """Plays all rows with ample memory."""
     return [Playing(row) for row in ROWS]
 
 
 def likely(row, played, local, rest):
-    """The points of a row at which memory may have run out, the likeliest first: its text differs from this line on."""
+    """Returns the points of a row at which memory may have run out, the likeliest first. The row's text differs from line `local` on."""
     asking = rest.startswith(b"refused: ")
-    told = re.match(rb"stopped after (\d+) |.*\nkeys (\d+)\n", rest)
-    number = int(told[1] or told[2]) if told else None
+    found = re.match(rb"stopped after (\d+) |.*\nkeys (\d+)\n", rest)
+    number = int(found[1] or found[2]) if found else None
     points = [it for it in played.points if played.begun[it[0]] <= local and row.steps[it[0]][0].startswith(("ask", "start")) == asking]
     return sorted(points, key=lambda it: (it[1][0] in ("merged", "taking") and it[1][-1] != number, -it[0]))
 
 
 def judged(output):
-    """Returns what is wrong with an output of all rows, in one of which memory ran out, or None; and at what point, and of which step."""
+    """Returns what is wrong with an output of all rows, in one of which memory ran out, or None; and the step and the point."""
     played = all_played()
     lines, ample, at = output.splitlines(True), texts(played).splitlines(True), 0
     differs = next((it for it, (one, other) in enumerate(zip(lines, ample)) if one != other), min(len(lines), len(ample)))
@@ -302,4 +302,4 @@ def judged(output):
     for step, point in likely(row, played[number], local, b"".join(lines[differs:])):
         if before + texts([Playing(row, (step, point))]) + after == output:
             return None, (row.steps[step][0], point[0])
-    return f"as if memory were wanting nowhere: line {differs + 1} is {lines[differs : differs + 1]}, row {number + 1}", None
+    return f"memory ran out at none of the points: line {differs + 1} is {lines[differs : differs + 1]}, row {number + 1}", None

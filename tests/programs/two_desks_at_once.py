@@ -1,7 +1,7 @@
-"""What tests/programs/live and tests/soak ask of `dsctl live`: threads at two desks, one of which exchanges what their stores hold.
+"""Runs `dsctl live` for tests/programs/live and tests/soak: threads at two desks, and one that exchanges what their stores hold.
 
-The report of some sizes is the same in whatever order the threads run. If a growth or a thread is refused, the run ends by a word and prints
-nothing, or the report is the usual one.
+The report for given sizes is the same in whatever order the threads run. If a growth or a thread is refused, the run ends with a word and
+prints nothing, or the report is the usual one.
 """
 import pathlib
 
@@ -13,19 +13,19 @@ ENDS = (b"noroom\n", b"nothread\n", b"stopped\n")  # how a run may end if memory
 
 
 def words_of(sizes):
-    """The arguments for these numbers of publishers, subscribers and turns; none for the defaults."""
+    """Returns the arguments for these numbers of publishers, subscribers and turns. The defaults need no options."""
     publishers, subscribers, changes = map(str, sizes)
     options = ["--publishers", publishers, "--subscribers", subscribers, "--changes", changes]
     return ["live"] + (options if sizes != DEFAULTS else [])
 
 
 def report_of(sizes):
-    """What a run reports: a label and a number of each publisher, and all is as it is to be."""
+    """Returns what a run reports: a label and a number of each publisher, and that everything agrees."""
     return f"entries {2 * sizes[0]}\nmaps equal\nreplicas equal\naccount exact\n".encode()
 
 
 def fault(program, sizes):
-    """Runs these sizes, and says what is wrong with the answer, or answers None."""
+    """Runs these sizes, and returns what is wrong with the report, or None."""
     ran = harness.run([program, *words_of(sizes)], b"")
     wrong = harness.difference(ran.output, report_of(sizes))
     return wrong or (None if (ran.status, ran.error) == (0, b"") else f"status {ran.status}, standard error {ran.error[:200]!r}")
@@ -38,7 +38,7 @@ def case_of(sizes, room):
 
 
 def refused_fault(ran, sizes):
-    """Says what is wrong with a run of which one growth was refused, or answers None."""
+    """Returns what is wrong with a run in which one growth was refused, or None."""
     if (ran.status, ran.error, ran.output) == (0, b"", report_of(sizes)) or (ran.status == 3 and ran.error in ENDS and ran.output == b""):
         return None
     return f"status {ran.status}, output {ran.output[:200]!r}, standard error {ran.error[:200]!r}"

@@ -1,15 +1,15 @@
-"""What tests/programs/desk asks of two passes of one desk that call a store alternately.
+"""Runs two passes of one desk that call a store alternately, for tests/programs/desk.
 
-The program and the model below answer the rows, and must agree. Then each row runs under tests/kit/refuse.c with its n-th growth refused, for
-n = 1, 2, .. up to the last. The run ends as `noroom`, after the lines that it had printed; or one call is answered so, which is one entry of
-the history and changes nothing, and later calls have their usual answers; or a close is refused so, and the desk stays open; or a library did
-without.
+The program and the model below print the rows, and must agree. Then each row runs under tests/kit/refuse.c with its n-th growth refused, for
+n = 1, 2, .. up to the last. The run ends with `noroom`, after the lines that it had printed. Or one call reports it, is one entry of the
+history and changes nothing, and later calls have their usual answers. Or a close is refused for it, and the desk stays open. Or a library
+does without.
 """
 import pathlib
 
 import harness
 
-END = 2**62  # the first place, and the first position, that there isn't
+END = 2**62  # the first place, and the first position, past the end
 WANTED = ("refused: out of memory, owed 0, raised 0", "refused by the desk: out of memory")
 
 # What each row does, in order: `refuse PASSES PLACE`, `open PLACE POSITION`, `follow SUB`, `start`, `front`, `take SERVER`, `stop CAUSE`, `close SUB`, which prints the row of SUB.
@@ -31,10 +31,10 @@ CALLED_ON = ("notice", "bits")  # rows that call a desk again after a call that 
 
 
 class Row:
-    """A desk over a store, and the lines that its calls print; `wanting` has the numbers of those without memory."""
+    """A desk over a store, and the lines that its calls print. `lacking` has the numbers of the lines at which memory runs out."""
 
-    def __init__(self, steps, wanting=()):
-        self.lines, self.wanting = [], wanting
+    def __init__(self, steps, lacking=()):
+        self.lines, self.lacking = [], lacking
         for step in steps:
             getattr(self, step[0])(*step[1:])
 
@@ -50,8 +50,8 @@ class Row:
     def say(self, line):
         self.lines.append(line)
 
-    def is_wanting(self):
-        return len(self.lines) in self.wanting
+    def runs_out(self):
+        return len(self.lines) in self.lacking
 
     def call(self, words, owed):
         raised = owed & ~self.pending
@@ -64,10 +64,10 @@ class Row:
             rows[sub] += bits >> sub & 1
 
     def asks(self, worn):
-        """Whether the store is called, and has room and numbers for it; if not, the call is answered here."""
+        """Returns whether a call succeeds: the desk and the store have memory and numbers left for it. If not, prints its answer."""
         if self.place == END:
             self.say("refused by the desk: worn out")
-        elif self.is_wanting():
+        elif self.runs_out():
             self.call("refused: out of memory", 0)
         elif worn:
             self.call("refused: all positions or stamps are used", 0)
@@ -97,10 +97,10 @@ class Row:
         return self.say(f"server {server}: bits {bits}, floor {self.place}")
 
     def stop(self, cause):
-        self.say(f"refused by the desk: {'out of memory' if self.is_wanting() else cause}")
+        self.say(f"refused by the desk: {'out of memory' if self.runs_out() else cause}")
 
     def close(self, sub):
-        if self.is_wanting():
+        if self.runs_out():
             return self.say("refused by the desk: out of memory")
         pending = "true" if self.pending >> sub & 1 else "false"
         return self.say(f"closed: position {self.position}, raises {self.raises[sub]}, takes {self.takes[sub]}, pending {pending}")
@@ -129,49 +129,49 @@ def input_faults(program):
 
 
 def judged(ran, name):
-    """A call or a close that is refused memory says so, and the others are answered as the model says."""
+    """Returns what is wrong with a run in which one growth was refused, or None. One call or close reports it, and the others answer as usual."""
     lines = ran.output.decode().splitlines()
-    wanting = [at for at, line in enumerate(lines) if line.endswith(WANTED)]
-    if len(wanting) != 1:
-        return f"{len(wanting)} answers are noroom"
-    return fault(ran, text(Row(ROWS[name], wanting).lines))
+    lacking = [at for at, line in enumerate(lines) if line.endswith(WANTED)]
+    if len(lacking) != 1:
+        return f"{len(lacking)} answers are noroom"
+    return fault(ran, text(Row(ROWS[name], lacking).lines))
 
 
 def goes_on(lines):
-    """Whether a call was answered noroom, and the next call of the desk was answered otherwise."""
+    """Returns whether a call was answered noroom, and the desk was called again after it."""
     calls = [line for line in lines if line.startswith("place ")]
     return any(one.endswith(WANTED[0]) and not next_one.startswith("place 0:") for one, next_one in zip(calls, calls[1:]))
 
 
 def growths(refuser, room, name):
-    """Refuses each growth of a row, one a run. Returns what is wrong with the first bad answer, or None."""
+    """Refuses each growth of a row, one per run. Returns what is wrong with the first bad answer, or None."""
     given = pathlib.Path(room) / name
     given.write_bytes(text([name]))
     case = harness.Case(name, [], given, text(Row(ROWS[name]).lines))
-    answered = went_on = 0
+    answered = continued = 0
 
     def refused(ran):
-        nonlocal answered, went_on
+        nonlocal answered, continued
         if ran.status == 3:
             return None if ran.error == b"noroom\n" and case.output.startswith(ran.output) else f"it ended with {ran.output[-200:]!r}, {ran.error!r}"
         if ran.output == case.output:
             return refuser.unseen_fault()
         answered += 1
-        went_on += goes_on(ran.output.decode().splitlines())
+        continued += goes_on(ran.output.decode().splitlines())
         return judged(ran, name)
 
     wrong = refuser.each_growth(case, refused)
     if wrong:
         return wrong
     if not answered and "close" in {step for step, *_ in ROWS[name]}:
-        return "no refused growth was answered by name in a line"
-    if not went_on and name in CALLED_ON:
-        return "no call was answered noroom with one behind it that was answered"
+        return "no line reported a refused growth"
+    if not continued and name in CALLED_ON:
+        return "no call that was answered noroom had another after it"
     return None
 
 
 def faults(refuser, room):
-    """What was wrong with each row, and with its growths, or None."""
+    """Runs each row, and refuses its growths. Returns the names, each with what was wrong or None."""
     named = [(f"row {name}", row_fault(refuser.program, name)) for name in ROWS]
     named.append(("rows that can't be read", input_faults(refuser.program)))
     return named + [(f"growths of row {name}", growths(refuser, room, name)) for name in ROWS]

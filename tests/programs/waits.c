@@ -1,5 +1,5 @@
-/* MINIX's calls while memory runs out at each allocation in turn, alone or with all behind it: whoever checks is given every entry,
- * once and in order, though a call between may have been refused. Link with -Wl,--wrap=malloc,--wrap=realloc. */
+/* Makes MINIX's calls while memory runs out at each allocation, alone or with all after it. A caller that checks gets every entry,
+ * once and in order, though a call between may be refused. Link with -Wl,--wrap=malloc,--wrap=realloc. */
 #include "minix_ds.h"
 #include "growths.h"
 #include <errno.h>
@@ -12,7 +12,7 @@ static struct ds_server server = DS_SERVER_CLOSED;
 static struct ds_caller rs, inet, tty;
 static long waited;
 
-/* Checks until there is nothing more, and lists what was given. With memory again where it was wanting, but another asks meanwhile. */
+/* Checks until there is nothing more, and lists what it gets. If memory runs out, another caller calls before and after it is back. */
 static void all(struct ds_caller *caller, struct ds_caller *other, char *listed) {
     for (;;) {
         char key[DS_MAX_KEYLEN], line[DS_MAX_KEYLEN + 40];
@@ -32,7 +32,7 @@ static void all(struct ds_caller *caller, struct ds_caller *other, char *listed)
     }
 }
 
-/* A run from the opening: what both were given, or that there was no room for the entries themselves. */
+/* Runs from the opening on, and lists what both callers get. Returns whether the close is refused. */
 static int run(long n, char *given) {
     char name[8];
     memset(&rs, 0, sizeof rs), memset(&inet, 0, sizeof inet), memset(&tty, 0, sizeof tty);

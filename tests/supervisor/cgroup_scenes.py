@@ -1,4 +1,4 @@
-"""What a supervisor does with cgroups, a function each. They need a cgroup of version 2 in which this user may make others."""
+"""Scenes of what a supervisor does with cgroups. They need a cgroup of version 2 in which this user may make others."""
 import contextlib
 import os
 import pathlib
@@ -9,7 +9,7 @@ import time
 from scenes import LIVES, scene
 from supervisors import Skipped, equal, lives, until
 
-# Starts what leaves the group, the session, and the environment of the service: a chain of sessions, whose last process notes its number.
+# Starts processes that leave the service's group, session and environment: a chain of sessions, whose last process notes its number.
 CHAIN = """
 import os, sys, time
 if os.fork(): os._exit(0)
@@ -23,11 +23,11 @@ LEAVES = f"""
 def leave():
     subprocess.run(["/usr/bin/env", "-i", sys.executable, "-c", {CHAIN!r}, label + " " + me])
 """
-SOON = 3  # seconds, in which a chain isn't killed link by link
+SOON = 3  # seconds, too few to kill a chain link by link
 
 
 def mounted():
-    """Where cgroups of version 2 are mounted."""
+    """Returns where cgroups of version 2 are mounted."""
     for line in pathlib.Path("/proc/self/mountinfo").read_text().splitlines():
         before, _, after = line.partition(" - ")
         if after.startswith("cgroup2 "):
@@ -36,13 +36,13 @@ def mounted():
 
 
 def own():
-    """The path of the cgroup of this process in its hierarchy."""
+    """Returns the path of this process's cgroup in its hierarchy."""
     return next(line[4:] for line in pathlib.Path("/proc/self/cgroup").read_text().splitlines() if line.startswith("0::/"))
 
 
 @contextlib.contextmanager
 def cgroup(host):
-    """A cgroup of this test's own, which is empty in the end."""
+    """Makes a cgroup of this test's own, and removes it in the end, with all that is in it."""
     path = mounted() / own() / f"dsrs-test-{os.getpid()}-{host.home.name}"
     try:
         path.mkdir()
@@ -73,7 +73,7 @@ def below(path):
 
 @scene
 def a_cgroup_for_each_instance(host):
-    """Each instance begins in a cgroup of its own, and that is gone once it is."""
+    """Each instance begins in a cgroup of its own, which is removed after it."""
     body = 'note("in " + open("/proc/self/cgroup").read().split("0::")[1].split()[0])\nlive()\n'
     with cgroup(host) as path:
         host.start({"a": ({}, body), "b": ({"limit": 3}, body)}, options=("--cgroup", path))
@@ -88,7 +88,7 @@ def a_cgroup_for_each_instance(host):
 
 @scene
 def nothing_gets_out_of_a_cgroup(host):
-    """What left the group, the session and the environment ends at once with its instance, before the next one starts, and not earlier."""
+    """A process that left group, session and environment ends at once with its instance, before the next one starts, and not earlier."""
     body = LEAVES + '''
 left = [int(it.split()[-1]) for it in open("../../notes").read().splitlines() if " left " in it] if os.path.exists("../../notes") else []
 note("older " + str(any(os.path.exists(f"/proc/{pid}/exe") and os.readlink(f"/proc/{pid}/exe") for pid in left)))
@@ -116,7 +116,7 @@ live()
 
 @scene
 def the_next_run_ends_what_is_left(host):
-    """After SIGKILL of the supervisor, the next run ends what the services left, before it starts any."""
+    """After a SIGKILL of the supervisor, the next run ends what the services left, before it starts any."""
     with cgroup(host) as path:
         host.start({"a": ({}, LEAVES + "leave()\nlive()\n")}, options=("--cgroup", path))
         pid = int(host.noted("a 1/16 left").split()[-1])
@@ -131,7 +131,7 @@ def the_next_run_ends_what_is_left(host):
 
 @scene
 def a_cgroup_that_is_refused(host):
-    """A folder that isn't a cgroup, or is another one's, is reported, and nothing starts."""
+    """A folder that isn't a cgroup, or that another supervisor uses, is reported, and nothing starts."""
     with cgroup(host) as path:
         for folder, word in ((host.home, "isn't a cgroup"), (host.home / "none", "No such file")):
             host.start({"a": ({}, LIVES)}, options=("--cgroup", folder))
@@ -150,7 +150,7 @@ def a_cgroup_that_is_refused(host):
 
 @scene
 def a_delegated_cgroup_is_used(host):
-    """Without an option the cgroup of dsrs itself is used, if systemd's mark is on it."""
+    """Without an option dsrs uses its own cgroup, if systemd's mark is on it."""
     with cgroup(host) as path:
         enter = ["sh", "-c", 'echo $$ > "$0/cgroup.procs" && exec "$@"', str(path)]
         words, host.words = host.words, [*enter, *host.words]

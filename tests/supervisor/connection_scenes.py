@@ -1,10 +1,10 @@
-"""Connections that a supervisor hands out, a function each."""
+"""Scenes of connections that a supervisor hands out."""
 import os
 
 from scenes import LIVES, scene
 from supervisors import until
 
-# What a service does with what comes over descriptor 3: a message, and the descriptor that came with it. Each is the last of its piece.
+# Receives messages over descriptor 3, and the descriptors that come with them, each with the last message of its piece.
 HANDED = '''
 def next_message():
     global rest
@@ -35,7 +35,7 @@ while True:
 
 @scene
 def connections_are_handed_out(host):
-    """`connect ENDPOINT` gives both ends of a pair, and dsrs says to each who has the other one."""
+    """`connect ENDPOINT` hands over both ends of a pair, and dsrs names to each the owner of the other end."""
     asks = HANDED + '''
 dsrs.sendall(b"show\\nshow\\nconnect 1/16\\nshow\\n" + 4 * b"connect 1/16\\n")
 seen = []
@@ -59,7 +59,7 @@ live()
 
 @scene
 def the_settings_say_who_may_deal_with_whom(host):
-    """`connects` and `complains` list labels, and a server that has them may do nothing else; empty ones list none."""
+    """`connects` and `complains` list the labels that a server may connect to or complain of. An empty list allows none."""
     asks = '''
 before = "b 2/17 there" if label == "none" else "none 3/18 complain 2/17"
 while not os.path.exists("../../notes") or before not in open("../../notes").read(): time.sleep(0.01)
@@ -80,7 +80,7 @@ live()
 
 @scene
 def a_connection_ends_with_its_instance(host):
-    """Who talks to an instance hears that it ends, and an old endpoint is refused; the next instance is connected to at once."""
+    """A peer of an instance notices its end, and its old endpoint is refused. A connection to the next instance works at once."""
     asks = HANDED + '''
 dsrs.sendall(b"connect 1/16\\n")
 _, _, (it,) = next_message()
@@ -106,7 +106,7 @@ live()
 
 @scene
 def connections_that_nobody_takes(host):
-    """An instance that reads nothing is handed a few hundred connections, and no more; others are served, and nothing is left open."""
+    """An instance that reads nothing is handed a few hundred connections at most. Others are served, and nothing is left open."""
     asks = '''
 dsrs.setblocking(True)
 said = ""
@@ -130,7 +130,7 @@ live()
 
 @scene
 def descriptors_that_services_send_are_not_kept(host):
-    """What comes with a message of a service, or with its lines, doesn't stay open in the supervisor."""
+    """Descriptors that come with a service's messages or lines don't stay open in the supervisor."""
     body = '''
 it = socket.socket(socket.AF_UNIX, socket.SOCK_DGRAM)
 it.connect(os.environ["NOTIFY_SOCKET"])

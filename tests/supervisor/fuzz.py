@@ -1,4 +1,4 @@
-"""Drawn lines, spoiled too, on both sockets of a supervisor: each is answered once, and no answer or entry is another's."""
+"""Random lines, spoiled ones too, on both sockets of a supervisor: each is answered once, and no answer or entry is another's."""
 import random
 import socket
 
@@ -23,7 +23,7 @@ while True:
 
 
 def line(draw, is_user):
-    """A line, mostly of a command's words. Those that end services are left out for a user, whose they are."""
+    """Returns a random line, mostly of a command's words. A user's line never ends a service, which only a user may do."""
     text = " ".join([draw.choice(WORDS), *(draw.choice(PARTS) for _ in range(draw.randrange(9)))])
     if draw.random() < 0.2 and text:
         at = draw.randrange(len(text))
@@ -52,7 +52,7 @@ def answers(it, count, rest):
 
 
 def connected(host, slot):
-    """A connection to the relay of an instance: what is sent there comes from the instance."""
+    """Connects to the relay of an instance: what is sent there comes from the instance."""
     it = socket.socket(socket.AF_UNIX, socket.SOCK_SEQPACKET)
     it.connect(f"{host.path}.d/{slot}")
     it.settimeout(20)
@@ -82,8 +82,8 @@ def talk(host, count, draw: random.Random):
 
 
 def check(host):
-    """Every entry is its publisher's: `a.n` is a's, `b.n` is b's, and both labels are as RS began them."""
+    """Checks that every entry is its publisher's: `a.n` is a's, `b.n` is b's, and both labels are RS's."""
     for entry in host.ask("show").splitlines()[:-1]:
         name, kind, owner = entry.split()[:3]
         wanted = {"a": "rs", "b": "rs", "a.n": "a", "b.n": "b"}
-        assert owner == wanted.get(name) and (kind == "label") == (owner == "rs"), f"an entry of another: {entry}"
+        assert owner == wanted.get(name) and (kind == "label") == (owner == "rs"), f"an entry of another publisher: {entry}"

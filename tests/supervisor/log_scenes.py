@@ -1,4 +1,4 @@
-"""The log programs of services, a function each."""
+"""Scenes of the log programs of services."""
 import os
 import signal
 import time
@@ -14,7 +14,7 @@ def lines(host, label="a"):
 
 @scene
 def a_log_program_reads_what_its_service_prints(host):
-    """LABEL/log/run reads it, in its folder, and what was printed last, too; it gets nothing of an instance's."""
+    """LABEL/log/run, in its folder, reads what its service prints, the last lines too. It gets nothing that is an instance's."""
     says = "print('bye', flush=True), os._exit(0)"
     host.service("a", f"signal.signal(signal.SIGTERM, lambda *_: ({says}))\nprint('one', flush=True)\nprint('two', file=sys.stderr, flush=True)\nwhile True: signal.pause()\n")
     host.service("a/log", '#!/bin/sh\necho "$DS_LABEL $DS_ENDPOINT$DS_FD$NOTIFY_SOCKET$(ls /proc/self/fd | wc -l)" > out\ncat >> out\necho end >> out\n')
@@ -28,7 +28,7 @@ def a_log_program_reads_what_its_service_prints(host):
 
 @scene
 def a_log_program_that_ends_is_started_again(host):
-    """It starts again a second later, and misses no line; its service isn't touched."""
+    """A log program that ends starts again a second later, and misses no line. Its service isn't touched."""
     host.service("a", "#!/bin/sh\necho one; echo two; echo three\nexec sleep 1000\n")
     host.service("a/log", '#!/bin/sh\nread line && echo "$line" >> out\nexit 5\n')
     host.start({"a": ({}, None)})
@@ -43,7 +43,7 @@ def a_log_program_that_ends_is_started_again(host):
 
 @scene
 def a_log_program_that_fails_or_stays(host):
-    """One that isn't executable is tried again; one that doesn't end is killed after the grace; the end of dsrs loses nothing."""
+    """A log program that can't run is tried again. One that doesn't end is killed after the grace. The end of dsrs loses nothing."""
     host.service("a", "#!/bin/sh\necho one\nexec sleep 1000\n")
     host.service("a/log", "#!/no/such/shell\n")
     host.service("b", "#!/bin/sh\nexec sleep 1000\n")
@@ -69,7 +69,7 @@ def a_log_program_is_killed_with_its_supervisor(host):
 
 @scene
 def who_was_told_is_in_the_log(host):
-    """`log` says which servers got a notice of a death."""
+    """`log` shows which servers got a notice of a death."""
     server = 'ask(\'subscribe 0 "d" 1 first new\')\nask("check 0 9")\nask("listen 0")\nnote("listens")\nlive()\n'
     host.start({"d": ({"limit": 5}, LIVES), "f": ({"class": "server"}, server)})
     host.noted("listens")

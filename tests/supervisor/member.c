@@ -1,5 +1,5 @@
-/* member SEED: a service of the storm. It holds a lock of its label as long as anything of its group lives, notes if it
- * finds it held, and then does what chance says; nothing, if SEED is `quiet`. */
+/* member SEED: a service of the storm. It holds its label's lock as long as anything of its group lives, and notes
+ * if the lock is held already. Then it acts at random, or does nothing if SEED is `quiet`. */
 #include <fcntl.h>
 #include <poll.h>
 #include <signal.h>
@@ -35,7 +35,7 @@ static void publish(void) {
     say(line);
 }
 
-/* Asks for connections to others, of which some are up. What comes is dropped. */
+/* Requests connections to others, some of which are up. What arrives is dropped. */
 static void connect_around(void) {
     for (int i = 0; i < CONNECTIONS; i++) {
         char line[64];
@@ -45,7 +45,7 @@ static void connect_around(void) {
     }
 }
 
-/* What it does at its start. A stray leaves the lock, and nothing else. */
+/* Acts at the start. A stray gives up the lock, and nothing else. */
 static void begin(int what, int lock) {
     if (what == 0 && !fork()) wait_for_ever();
     if (what == 1 && !fork()) {
@@ -63,7 +63,7 @@ static void begin(int what, int lock) {
     if (what == 3) signal(SIGTERM, SIG_IGN);
 }
 
-/* What it does when its time has come. */
+/* Acts when its time has come. */
 static void act(int what, int *is_mute) {
     switch (what) {
     case 4: exit(0);
@@ -71,7 +71,7 @@ static void act(int what, int *is_mute) {
     case 6: raise(SIGSEGV); break;
     case 7: *is_mute = 1; break;
     case 8: raise(SIGSTOP); break;
-    case 9: /* it asks much, and reads nothing */
+    case 9: /* it sends much, and reads nothing */
         for (int i = 0; i < LINES; i++) say("show\n");
         break;
     case 10:

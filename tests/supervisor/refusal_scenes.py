@@ -1,4 +1,4 @@
-"""What a supervisor does when a call fails: for memory, a process, a socket, a descriptor, a file. One after another is refused."""
+"""Scenes of a supervisor whose calls fail: for memory, a process, a socket, a descriptor, a file. Each is refused in order."""
 import concurrent.futures
 import os
 import pathlib
@@ -21,24 +21,24 @@ def build(room):
 
 
 def run(host, library, number, count):
-    """A short life of a supervisor, of which some calls fail. Returns whether one did."""
+    """Runs a supervisor for a short while, with some calls that fail. Returns whether one did."""
     made = host.home / "refused"
     host.words = ["env", f"LD_PRELOAD={library}", f"REFUSE={number}", f"REFUSALS={count}", f"REFUSED={made}", *host.words]
     host.start({"a": ({"limit": 9}, LIVES), "b": ({"limit": 9}, LIVES)}, tick=1, options=("--grace", "100"))
     try:
         asked(host, "status")
     except Ended:
-        host.ended(3)  # it said why, and left nothing
+        host.ended(3)  # it reported why, and left nothing
         assert "ERROR" in host.log(), f"no error is logged: {host.log()!r}"
         equal(host.processes(), [])
         return made.exists()
-    for label in "ab":  # one that memory lacked for at the start isn't started, and the log says so
+    for label in "ab":  # a service for which memory ran out at the start isn't started, and the log reports it
         if host.has_logged(f"noroom {label}"):
             asked(host, f"service up {label}")
     first = until(lambda: both_up(host), lambda: f"both are up: {host.log()}")["a"]
     os.kill(first, signal.SIGKILL)
     until(lambda: both_up(host).get("a", first) != first, lambda: f"it is back: {host.log()}")
-    assert not lives(first), f"process {first} lives beside its next: {host.log()}"
+    assert not lives(first), f"process {first} lives beside its successor: {host.log()}"
     asked(host, "service refresh b")
     until(lambda: both_up(host), lambda: f"it is replaced: {host.log()}")
     reload(host)
@@ -49,7 +49,7 @@ def run(host, library, number, count):
 
 
 def reload(host):
-    """Has settings read that leave b out, and have c, until they are in force. The process of a is the same."""
+    """Reloads settings with c in place of b, until they are in force. The process of a must stay the same."""
     host.service("c", LIVES)
     (host.home / "settings.toml").write_text(toml({"a": {"limit": 9}, "c": {"limit": 9}}))
     first, next_time = processes(host)["a"], time.monotonic()
@@ -70,7 +70,7 @@ class Ended(Exception):
 
 
 def asked(host, line):
-    """An answer, also where the supervisor hung up on a client for which memory ran out."""
+    """Returns an answer, even if the supervisor hung up on a client because memory ran out."""
     for _ in range(40):
         try:
             return host.ask(line)
@@ -79,25 +79,25 @@ def asked(host, line):
             time.sleep(0.02)
             if host.process.poll() is not None:
                 raise Ended from None
-    raise AssertionError(f"it hangs up on everybody: {host.log()[-500:]}")
+    raise AssertionError(f"it hangs up on every client: {host.log()[-500:]}")
 
 
 def processes(host):
-    """The process of each service that is up, by its label."""
+    """Returns the process of each service that is up, by its label."""
     rows = [it.split() for it in asked(host, "status").splitlines()[:-1]]
     return {it[0]: int(it[3]) for it in rows if it[1] == "up" and it[3] != "-"}
 
 
 def both_up(host):
-    """The processes of both services, once both are up and run; else nothing."""
+    """Returns the processes of both services if both are up and run, and otherwise none."""
     found = processes(host)
     return found if len(found) == 2 and all(map(lives, found.values())) else {}
 
 
 def refused_in_turn(host, count):
-    """Lives of supervisors: in each some calls fail from another one on, until none is left."""
+    """Runs supervisors: in each `count` calls fail, from another call on, until no call is left."""
     if b"__asan_init" in pathlib.Path(host.words[0]).read_bytes():
-        raise Skipped("sanitizers take the calls for memory themselves")
+        raise Skipped("sanitizers replace the calls for memory")
     library = build(host.home)
 
     def work(number):
@@ -116,7 +116,7 @@ def refused_in_turn(host, count):
 
 @scene
 def one_call_after_another_is_refused(host):
-    """Whichever call fails, either it doesn't start, or all services run, restart and end as ever."""
+    """Whichever call fails, either the supervisor doesn't start, or all services run, restart and end as usual."""
     refused_in_turn(host, 1)
 
 

@@ -1,5 +1,5 @@
-/* A library that is preloaded into a supervisor: REFUSALS calls from number REFUSE on fail, of those below. What the supervisor
- * starts isn't touched. The file REFUSED is made once a call failed. */
+/* A library that is preloaded into a supervisor: of the calls below, REFUSALS calls fail, from number REFUSE on. The supervisor's
+ * children aren't affected. The file REFUSED is made once a call failed. */
 #include <dlfcn.h>
 #include <errno.h>
 #include <fcntl.h>
@@ -41,7 +41,7 @@ void *malloc(size_t size) { return refuses(ENOMEM) ? NULL : __libc_malloc(size);
 void *calloc(size_t count, size_t size) { return refuses(ENOMEM) ? NULL : __libc_calloc(count, size); }
 void *realloc(void *old, size_t size) { return refuses(ENOMEM) ? NULL : __libc_realloc(old, size); }
 
-/* Passes a call on, unless it is the one. */
+/* Passes a call on, unless it is to fail. */
 #define PASSED(type, name, error, parameters, arguments)                                                                     \
     type name parameters {                                                                                                   \
         type (*real) parameters = (type(*) parameters)dlsym(RTLD_NEXT, #name);                                               \

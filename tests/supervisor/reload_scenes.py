@@ -1,4 +1,4 @@
-"""Other settings while services run, by SIGHUP, a function each."""
+"""Scenes of settings that are reloaded by SIGHUP while services run."""
 import os
 import pathlib
 import re
@@ -11,12 +11,12 @@ STAYS = "signal.signal(signal.SIGTERM, lambda *_: note('asked'))\nwhile True: ti
 
 
 def described(label, unit, more=""):
-    """The settings of a driver."""
+    """Returns the settings of a driver."""
     return f'[[service]]\nlabel = "{label}"\nclass = "block"\nunit = {unit}\n{more}\n'
 
 
 def reload(host, text):
-    """Has other settings read."""
+    """Writes other settings, and lets the supervisor reload them."""
     (host.home / "settings.toml").write_text(text)
     host.process.send_signal(signal.SIGHUP)
 
@@ -26,7 +26,7 @@ def in_force(host, times=1):
 
 
 def order(host, *words):
-    """The events with these words, each with its label."""
+    """Returns the events that begin with these words, each with its label."""
     return [" ".join(it.split()[:2]) for it in host.events() if it.startswith(words)]
 
 
@@ -42,7 +42,7 @@ def catches(host, label):
 
 @scene
 def unchanged_services_keep_their_process(host):
-    """They keep their endpoint, their failures and their order in the file may change. New ones start, unless a file keeps them down."""
+    """Unchanged services keep endpoint and failures; their order in the file may change. New ones start, unless a file keeps them down."""
     for label in "abcd":
         host.service(label, LIVES)
     host.start(settings=described("a", 0, "limit = 5") + described("b", 1, "period = 50"))
@@ -70,7 +70,7 @@ def unchanged_services_keep_their_process(host):
 
 @scene
 def changed_services_get_another_instance(host):
-    """Where the period, the class or the unit is another one; what else is new holds for the instance that runs."""
+    """A service gets another instance if its period, class or unit changes. Other changes apply to the running instance."""
     body = 'note("usec " + os.environ.get("WATCHDOG_USEC", "none") + " sub " + os.environ.get("DS_SUB", "none"))\n'
     says = body + 'while ask(f"publish {me} over {label}.n u32 {generation}.1 = 5") != "taken": time.sleep(0.01)\nnote("published")\nlive()\n'
     for label in "abcd":
@@ -92,7 +92,7 @@ def changed_services_get_another_instance(host):
 
 @scene
 def removed_services_go_down_first(host):
-    """Each has its grace. What is new starts after nothing is left of them, and their log programs read all."""
+    """Removed services have their grace, and their log programs read everything. New services start once nothing is left of them."""
     host.service("a", STAYS.replace("note('asked')", "(note('asked'), print('bye', flush=True))"))
     host.service("a/log", "#!/bin/sh\ncat > out\necho end >> out\n")
     host.service("n", LIVES)
@@ -118,7 +118,7 @@ def removed_services_go_down_first(host):
 
 @scene
 def settings_that_change_nothing(host):
-    """A fault is logged with its line or service. Fewer slots, too, stop nobody, and nor do the same settings."""
+    """Settings with a fault, too few slots, or no change stop no service. A fault is logged with its line or service."""
     host.start({"a": ({}, LIVES), "b": ({}, LIVES)})
     host.logged("began b 2/17")
     path = host.home / "settings.toml"
@@ -143,7 +143,7 @@ def settings_that_change_nothing(host):
 
 @scene
 def reloads_in_a_row(host):
-    """A reload that isn't done is replaced by the next one. What it took down and is in the settings again starts again."""
+    """The next reload replaces one that isn't done. A service that it took down starts again if it is in the settings again."""
     host.service("c", LIVES)
     host.start({"a": ({}, STAYS), "b": ({}, LIVES)}, options=("--grace", "500"))
     host.logged("began b 2/17")
@@ -173,7 +173,7 @@ def reloads_in_a_row(host):
 
 @scene
 def servers_keep_their_numbers(host):
-    """A server's subscriptions stay its own, and a new server has others."""
+    """A server keeps its subscription numbers, and a new server gets others."""
     server = 'note("sub " + os.environ["DS_SUB"])\nnote(ask(f\'subscribe {os.environ["DS_SUB"]} "b" 1 later new\'))\nlive()\n'
     describe = '[[service]]\nlabel = "{}"\nclass = "server"\n'.format
     for label in "fgh":

@@ -1,4 +1,4 @@
-"""What a supervisor must do, a function each. A scene gets a Host, and starts its supervisor."""
+"""Scenes of what a supervisor must do. A scene gets a Host, and starts its supervisor."""
 import json
 import os
 import pathlib
@@ -9,7 +9,7 @@ import socket
 import subprocess
 import time
 
-from supervisors import ROOT, equal, lives, until
+from supervisors import ROOT, Skipped, equal, lives, until
 
 LIVES = "live()\n"
 SCENES = []
@@ -20,12 +20,12 @@ def scene(function):
     return function
 
 
-# ---- who may say what ----
+# ---- rights ----
 
 
 @scene
 def who_holds_the_socket_is_the_instance(host):
-    """An instance publishes under its own endpoint, and what its settings name; nobody else publishes; nobody speaks as RS."""
+    """An instance publishes only under its own endpoint, and only what its settings name. No client publishes, and none acts as RS."""
     body = '''
 note("own " + ask(f"publish {me} new {label}.n u32 {generation}.1 = 5"))
 note("other " + ask("publish 1/16 over a.n u32 1.2 = 6" if label == "b" else "publish 2/17 new b.n u32 2.2 = 6"))
@@ -52,10 +52,10 @@ live()
 
 @scene
 def another_user_may_read_and_no_more(host):
+    if os.geteuid():
+        raise Skipped("only root may become another user")
     host.start({"d": ({}, LIVES)})
     equal(host.ask("retrieve d label"), "found 1/16")
-    if os.geteuid():
-        return
     script = '''
 import os, socket, sys
 os.setuid(65534)
@@ -74,7 +74,7 @@ while some := it.recv(9999): print(some.decode(), end="")
 
 @scene
 def complaints(host):
-    """A server complains of an instance of a driver, by its endpoint: a late complaint hits no newer instance."""
+    """A server complains about a driver's instance by its endpoint, so a late complaint hits no newer instance."""
     server = '''
 while not os.path.exists("../../notes"): time.sleep(0.01)
 note("self " + ask("complain 2/17"))
@@ -98,7 +98,7 @@ live()
 
 @scene
 def last_lines_are_answered(host):
-    """What an instance said before it died is carried out, however much it is. It dies while the supervisor is stopped, so both are new at once."""
+    """All lines that an instance sent before it died are carried out. It dies while the supervisor is stopped, which then sees both at once."""
     body = """
 note(f"pid {os.getpid()}")
 while not os.path.exists("../../go"): time.sleep(0.01)
@@ -151,7 +151,7 @@ def lines_that_are_none(host):
     equal(host.ask("service up nobody"), "refused unknownlabel")
     equal(host.ask("service up " + 65 * "x"), "norequest")
     equal(host.ask("service up a 5"), "norequest")
-    assert host.ask("service over a").startswith("badline"), "a verb that is none"
+    assert host.ask("service over a").startswith("badline"), "an unknown verb is accepted"
     equal(host.ask("retrieve a label"), "found 1/16")
     it = host.client("half")
     it.sendall(b"retrieve a label\nservice down a")
@@ -211,11 +211,11 @@ live()
     equal(len(members), 4)
     assert host.ask("service refresh a").endswith("actions 5")
     host.logged("began a 2/16")
-    assert not any(map(lives, members)), "an older instance runs on"
+    assert not any(map(lives, members)), "an older instance still runs"
     child = int(host.noted("a 2/16 child").split()[-1])
     os.kill(host.pid("a"), signal.SIGKILL)
     host.logged("began a 3/16")
-    assert not lives(child), "what a dead process left runs on"
+    assert not lives(child), "a dead process's child still runs"
     host.end()
 
 
@@ -228,7 +228,7 @@ def is_in_group(pid, group):
 
 @scene
 def what_is_told_to_go_down_may_end_itself(host):
-    """`service down` sends SIGTERM, and SIGKILL after the grace; a death by a missing heartbeat is SIGKILL at once."""
+    """`service down` sends SIGTERM, and SIGKILL after the grace. A missing heartbeat leads to SIGKILL at once."""
     body = '''
 signal.signal(signal.SIGTERM, lambda *_: (note("asked to end"), os._exit(0) if label == "kind" else None))
 note("there")
@@ -277,7 +277,7 @@ live()
 
 @scene
 def a_helper_of_a_living_instance_lives(host):
-    """What a service starts in a session of its own lives as long as its instance, whatever else dies."""
+    """A helper that a service starts in a session of its own lives as long as its instance, whatever else dies."""
     helper = '''
 if not os.fork():
     os.setsid()
@@ -315,7 +315,7 @@ def a_program_that_is_not_there_is_a_death(host):
 
 @scene
 def an_endpoint_is_connected_to_and_refused_afterwards(host):
-    """Who finds a label may connect at once, and waits until the process accepts; an old endpoint is refused."""
+    """A client that finds a label may connect at once, and waits until the process accepts. An old endpoint is refused."""
     body = '''
 time.sleep(0.3)
 listener = socket.socket(fileno=int(os.environ["DS_LISTEN"]))
@@ -387,7 +387,7 @@ def a_supervisor_that_stood_still_kills_nobody(host):
 
 @scene
 def idle_is_idle(host):
-    """With nothing due, no time is used."""
+    """A supervisor with nothing due uses no processor time."""
     host.start({f"s{i}": ({}, "#!/bin/sh\nexec sleep 1000\n") for i in range(16)}, tick=1)
     host.logged("began s15")
     time.sleep(0.5)
@@ -399,7 +399,7 @@ def idle_is_idle(host):
 
 
 def used(pid):
-    """Hundredths of a second of the processor, and how often it waited."""
+    """Returns a process's processor time in hundredths of a second, and how often it waited."""
     parts = pathlib.Path(f"/proc/{pid}/stat").read_text().rpartition(")")[2].split()
     waits = next(int(it.split()[1]) for it in pathlib.Path(f"/proc/{pid}/status").read_text().splitlines() if it.startswith("voluntary"))
     return int(parts[11]) + int(parts[12]), waits
@@ -417,7 +417,7 @@ def waits_longer_after_each_failure(host):
     host.end()
 
 
-# ---- its beginning and its end ----
+# ---- start and end ----
 
 
 @scene
@@ -443,7 +443,7 @@ def a_second_signal_waits_for_nobody(host):
 
 @scene
 def ends_with_its_supervisor_however_that_ends(host):
-    """SIGKILL of the supervisor ends its services, and the next run's generations are above all that were."""
+    """SIGKILL of the supervisor ends its services, and the next run's generations are above all earlier ones."""
     body = "note(f'pid {os.getpid()}')\ntime.sleep(1000)\n"
     host.start({label: ({"limit": 9}, body) for label in "ab"})
     pids = [int(host.noted(f"{label} {endpoint} pid").split()[-1]) for label, endpoint in (("a", "1/16"), ("b", "2/17"))]
@@ -473,7 +473,7 @@ def a_file_down_keeps_it_down(host):
 
 @scene
 def a_start_that_is_refused(host):
-    """Bad settings, words and files are reported, with a status, and nothing is left."""
+    """Bad settings, arguments and files are reported, with a status, and nothing is left."""
     cases = (
         ('[[service]]\nlabel = "a"\nclass = "block"\n', "missing"),
         ('[[service]]\nlabel = ".."\nclass = "server"\n', "begins with a dot"),
@@ -515,7 +515,7 @@ def one_that_talks_without_end_holds_up_nobody(host):
 
 @scene
 def clients_that_read_nothing_cost_little(host):
-    """Of a client that asks for ever and reads nothing, about a megabyte is kept; others are served."""
+    """A client that sends lines without end and reads nothing costs about a megabyte. Others are served."""
     host.start({"a": ({}, "#!/bin/sh\nexec sleep 1000\n")}, options=("--grace", "0"))
     for _ in range(200):
         host.ask("service refresh a")
@@ -544,7 +544,7 @@ def memory(host):
 
 @scene
 def few_descriptors(host):
-    """Without descriptors for all, services that can't start fail as others do, and the rest runs."""
+    """If there aren't descriptors for all, services that can't start fail like others, and the rest runs."""
     host.words = ["prlimit", "--nofile=60:60", *host.words]
     host.start({f"s{i}": ({"limit": 2}, "#!/bin/sh\nexec sleep 1000\n") for i in range(12)})
     host.logged("descriptors 60 are allowed")
@@ -558,7 +558,7 @@ def few_descriptors(host):
 
 
 def asked(host, *words, **how):
-    """Status, output and errors of a dsask."""
+    """Returns the status, output and errors of a dsask."""
     ran = subprocess.run([host.room / "dsask", *words], capture_output=True, text=True, timeout=20, **how)
     return ran.returncode, ran.stdout, ran.stderr
 
@@ -589,7 +589,7 @@ def asks_from_a_shell(host):
 
 @scene
 def watches_from_a_shell(host):
-    """`--watch` prints what is there, then what changes, to a pipe at once; two watch at a time, and nobody else's subscriptions are used up."""
+    """`--watch` prints what is there, then each change, to a pipe at once. Two may watch, and other clients' subscriptions aren't used up."""
     host.start({"a": ({}, LIVES), "b": ({}, LIVES)})
     host.logged("began b")
     watchers = [subprocess.Popen([host.room / "dsask", "--watch", "a", host.path], stdout=subprocess.PIPE, text=True) for _ in range(2)]
@@ -623,13 +623,13 @@ def hangs_up_when_the_supervisor_ends(host):
 
 
 def shape(text):
-    """A text with its process numbers and times left out."""
+    """Returns a text without its process numbers and times."""
     return re.sub(r" +", " ", re.sub(r"(?<=/1[67]) +\d+|\b\d+s\b", "", text)).strip()
 
 
 @scene
 def the_session_of_the_guide(host):
-    """docs/guide/supervise.md: each command prints what the page has."""
+    """Each command of docs/guide/supervise.md prints what the page shows."""
     page = (ROOT / "docs/guide/supervise.md").read_text()
     session = re.search(r"(?:^    .*\n)+", page[page.index("    $ dsask") :], re.MULTILINE)[0]
     shutil.copytree(ROOT / "examples/services", host.home / "services")
@@ -648,7 +648,7 @@ def the_session_of_the_guide(host):
 
 @scene
 def labels_stand_before_lines(host):
-    """What services print is in the log line by line, with the label in front, also after the last newline, and however much it is."""
+    """The log has each line that services print, after the label: also a last line without newline, and however many there are."""
     flood = "#!/bin/sh\ni=0\nwhile [ $i -lt 3000 ]; do echo \"line $i of many\"; i=$((i + 1)); done\nexec sleep 1000\n"
     host.start({"a": ({}, "#!/bin/sh\necho one; echo two >&2; printf three\nexit 1\n"), "flood": ({}, flood)})
     host.logged("givenup a")
@@ -661,7 +661,7 @@ def labels_stand_before_lines(host):
 
 @scene
 def a_log_of_objects_of_json(host):
-    """With --log-format json every line of standard error is an object, that of a service too, whatever bytes it prints."""
+    """With --log-format json every line of standard error is an object, a service's too, whatever bytes it prints."""
     body = r"""
 os.write(1, b"a \"quote\", a \\ and \x1b\xe9\n")
 live()

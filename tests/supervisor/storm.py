@@ -1,4 +1,4 @@
-"""A storm: services that do what chance says, killed by chance as well, under locks that show two instances at once."""
+"""A storm: services that act at random, and are killed at random, under locks that show two instances at once."""
 import os
 import pathlib
 import random
@@ -15,8 +15,8 @@ SIGNALS = (signal.SIGKILL, signal.SIGSTOP, signal.SIGSEGV, signal.SIGTERM, signa
 VERBS = ("up", "up", "down", "refresh", "refresh", "restart", "restart")
 TICK = 5  # milliseconds
 SILENCE = 300  # milliseconds of a period
-FILES = 20  # that a supervisor without running services and clients has open, at most, besides two for each service
-MANY = [f"m{i}" for i in range(64)]  # as many services as there may be
+FILES = 20  # the most that a supervisor without running services and clients has open, besides two for each service
+MANY = [f"m{i}" for i in range(64)]  # the most services that there may be
 
 
 def build(room):
@@ -26,7 +26,7 @@ def build(room):
 
 
 def victim(host, label):
-    """A descriptor of an instance's process by what it published, or None."""
+    """Returns a descriptor of an instance's process, by what it published, or None."""
     found = host.ask(f"retrieve {label}.pid u32").split()
     if found[0] != "found":
         return None
@@ -41,7 +41,7 @@ def victim(host, label):
 
 
 def harm(host, draw):
-    """Asks for something, or kills a service."""
+    """Sends a command about a service, or kills one."""
     label = draw.choice(LABELS)
     if draw.random() < 0.5:
         host.ask(f"service {draw.choice(VERBS)} {label}")
@@ -64,7 +64,7 @@ def start(host, draw):
 
 
 def at_rest(host, labels=LABELS):
-    """Once all services are down, nothing is left: no label, no process, no descriptor."""
+    """Takes all services down, and checks that nothing is left: no label, no process, no descriptor."""
     for label in labels:
         host.ask(f"service down {label}")
     until(lambda: not host.processes(), lambda: f"processes are left: {host.processes()}")
@@ -83,7 +83,7 @@ def parent_of(pid):
 
 
 def blow(host, seconds, draw: random.Random):
-    """Returns what happened; it fails by what was wrong."""
+    """Harms services for some seconds, and returns what happened. Fails if something was wrong."""
     start(host, draw)
     end = time.monotonic() + seconds
     while time.monotonic() < end:
@@ -96,7 +96,7 @@ def blow(host, seconds, draw: random.Random):
 
 
 def starts(host):
-    """How many instances there were, none beside another one of its label."""
+    """Returns how many instances there were. Checks that no two of a label ran at once."""
     notes = host.notes().splitlines()
     twice = [it for it in notes if "TWO AT ONCE" in it]
     assert not twice, f"two instances of a label at once: {twice[:3]}"
@@ -104,7 +104,7 @@ def starts(host):
 
 
 def kill(host, count, draw: random.Random):
-    """As many services as there may be, one of which is killed at a time, COUNT times; each comes back."""
+    """Runs the most services that there may be, and kills one at a time, COUNT times. Each must return."""
     run = f"#!/bin/sh\nexec {host.room}/member quiet\n"
     host.start({label: ({"class": "server", "limit": 1000, "publishes": [f"{label}.pid"]}, run) for label in MANY}, tick=1)
     until(lambda: host.ask("show").endswith(f"shown {2 * len(MANY)}"), "all are there")
@@ -125,6 +125,6 @@ def kill(host, count, draw: random.Random):
 
 
 def resident(host):
-    """Bytes that the supervisor has in memory."""
+    """Returns how many bytes the supervisor has in memory."""
     text = pathlib.Path(f"/proc/{host.process.pid}/status").read_text()
     return next(int(line.split()[1]) * 1024 for line in text.splitlines() if line.startswith("VmRSS:"))

@@ -1,4 +1,4 @@
-"""Supervisors of two hosts over one redis server, a function each. They need redis-server, and a dsrs that was built with hiredis."""
+"""Scenes of supervisors on two hosts over one redis server. They need redis-server, and a dsrs that was built with hiredis."""
 import contextlib
 import os
 import shutil
@@ -11,7 +11,7 @@ from supervisors import Host, Skipped, equal, until
 
 @contextlib.contextmanager
 def redis(host):
-    """A server of this test's own; its URL."""
+    """Starts a server of this test's own, and yields its URL."""
     path = host.home / "redis"
     if not shutil.which("redis-server"):
         raise Skipped("redis-server is missing")
@@ -64,13 +64,13 @@ while True:
                 equal(one.ask("service up d").split("\n")[0], "start d 3/16")
                 two.noted("seen d label rs 3.0 = 3/16")
                 one.end()
-                until(lambda: two.ask("retrieve d label") == "refused notfound", "an orderly end is told")
+                until(lambda: two.ask("retrieve d label") == "refused notfound", "an orderly end crosses")
                 two.end()
 
 
 @scene
 def a_supervisor_does_without_its_server(host):
-    """Services start and restart while there is no server, and all reaches the others once there is one."""
+    """Services start and restart while there is no server. Everything reaches the other hosts once there is one."""
     with redis(host) as url:
         with in_step(host, url, {"d": ({"limit": 9}, LIVES)}) as one:
             other = f"unix://{host.home}/redis2"
@@ -79,7 +79,7 @@ def a_supervisor_does_without_its_server(host):
             os.kill(host.pid("e"), signal.SIGKILL)
             host.logged("began e 2/200")
             os.symlink(host.home / "redis", host.home / "redis2")
-            until(lambda: one.ask("retrieve e label") == "found 2/200", "it is told")
+            until(lambda: one.ask("retrieve e label") == "found 2/200", "the label crosses")
             equal(host.ask("retrieve d label"), "found 1/16")
             host.end()
             one.end()
@@ -87,7 +87,7 @@ def a_supervisor_does_without_its_server(host):
 
 @scene
 def a_stream_that_is_refused(host):
-    """A URL that can't be read ends it; one of the environment isn't passed on to services."""
+    """A URL that can't be read ends the supervisor. One from the environment isn't passed on to services."""
     host.start({"a": ({}, 'note("has " + str([it for it in os.environ if "STREAM" in it]))\nlive()\n')}, options=("--stream", "nonsense"))
     host.ended(3)
     assert "badurl" in host.log() or "without hiredis" in host.log(), host.log()

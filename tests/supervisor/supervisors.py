@@ -1,4 +1,4 @@
-"""A dsrs over a folder of its own, with services, for tests/rs: how it is built, started, asked, and what its services do."""
+"""A dsrs over a folder of its own, with services, for tests/rs: how it is built, started and queried, and what its services do."""
 import fcntl
 import os
 import pathlib
@@ -17,7 +17,7 @@ SLOW = 10  # milliseconds of a tick
 FAULT = re.compile(r"^.*(ERROR: |runtime error|==\d+== ).*$", re.MULTILINE)  # of a sanitizer, or of valgrind
 EVENT = re.compile(r'^\w+ event=(\w+) text="(.*)"$', re.MULTILINE)
 
-# What a service of a scene begins with.
+# How the program of each service in a scene begins.
 SERVICE = '''#!/usr/bin/env python3
 import os, signal, socket, subprocess, sys, time
 dsrs = socket.socket(fileno=os.dup(int(os.environ["DS_FD"])))
@@ -56,7 +56,7 @@ class Skipped(Exception):
 
 
 def until(so, what, seconds=PATIENCE):
-    """Waits until it is so, and returns that; else it fails with what was waited for."""
+    """Waits until `so` returns something true, and returns that. Otherwise it fails and names what was waited for."""
     end = time.monotonic() + seconds
     while True:
         found = so()
@@ -87,7 +87,7 @@ def build(library, room, *flags, folder=ROOT / "rs"):
 
 
 def toml(services):
-    """Settings of services, each a label with its fields."""
+    """Returns the settings of services, each a label with its fields."""
     text = ""
     for unit, (label, fields) in enumerate(services.items()):
         fields = {"class": "block", **fields}
@@ -98,10 +98,10 @@ def toml(services):
 
 
 class Host:
-    """A supervisor, and all that it started; all of it ends with the `with`."""
+    """A supervisor, and everything that it started. All of it ends with the `with`."""
 
     def __init__(self, words, room):
-        self.words, self.room = words, room  # what a supervisor is started by; the folder of what was built
+        self.words, self.room = words, room  # the command that starts a supervisor; the folder of the built programs
         self.home = pathlib.Path(tempfile.mkdtemp(prefix="dsrs"))
         self.path = self.home / "s"
         self.process, self.clients = None, {}
@@ -146,7 +146,7 @@ class Host:
             self.process.wait()
 
     def end(self, status=0, number=signal.SIGTERM):
-        """Ends the supervisor: nothing of it is left, and no sanitizer complained."""
+        """Ends the supervisor, and checks that nothing of it is left and no sanitizer complained."""
         self.process.send_signal(number)
         self.ended(status)
         left = [it for it in (self.path, f"{self.path}.d", f"{self.path}.lock") if os.path.exists(it)]
@@ -163,7 +163,7 @@ class Host:
         assert code == status, f"it ended with status {code}: {self.log()[-500:]}"
 
     def processes(self):
-        """The processes that this host started, by a variable of their environment."""
+        """Returns the processes that this host started, found by a variable of their environment."""
         found = []
         for pid in filter(str.isdigit, os.listdir("/proc")):
             try:
@@ -178,7 +178,7 @@ class Host:
         for pid in self.processes() if self.process else ():
             os.kill(pid, signal.SIGKILL)
 
-    # ---- what it says ----
+    # ---- what it reports ----
 
     def client(self, name=0):
         def connected():
@@ -198,7 +198,7 @@ class Host:
         return self.clients[name]
 
     def ask(self, line, name=0):
-        """The answer to a line, of a client by its name."""
+        """Sends a line as the client of this name, and returns the answer."""
         it, said = self.client(name), b""
         it.sendall(line.encode() + b"\n")
         while not said.endswith(b"\n\n"):
@@ -209,7 +209,7 @@ class Host:
         return said.decode().removesuffix("\n\n")
 
     def status(self):
-        """Each service's state, endpoint, process, seconds, failures, cause and text, by its label."""
+        """Returns each service's state, endpoint, process, seconds, failures, cause and text, by its label."""
         return {line.split()[0]: line.split(" ", 7)[1:] for line in self.ask("status").splitlines()[:-1]}
 
     def pid(self, label):
@@ -219,11 +219,11 @@ class Host:
         return (self.home / "log").read_text()
 
     def events(self):
-        """What it logged: `WORD TEXT` each."""
+        """Returns the events that it logged, each as `WORD TEXT`."""
         return [" ".join(it) for it in EVENT.findall(self.log())]
 
     def logged(self, text, times=1):
-        """Waits for events that begin so, and returns the last of them."""
+        """Waits for this many events that begin with the text, and returns the last of them."""
         found = lambda: [it for it in self.events() if it.startswith(text)]  # noqa: E731
         return until(lambda: found()[times - 1 :], lambda: f"{times} times `{text}`: {self.log()[-1000:]}")[-1]
 

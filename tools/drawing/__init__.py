@@ -28,7 +28,7 @@ def chosen(rows, first, last, most=MOST):
 
 
 def left_out(rows, shown):
-    """Says in words what isn't shown of a script, or returns None if all of it is."""
+    """Returns in words what isn't shown of a script, or None if all of it is."""
     missing = [it + 1 for it in range(len(rows)) if it not in shown]
     if not missing:
         return None

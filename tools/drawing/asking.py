@@ -1,4 +1,4 @@
-"""What a script's run did: each line with its answer, and what every holder holds after it.
+"""The run of a script: each line with its answer, and what every holder holds after it.
 
 The program runs once, on more than the script: each line is followed by lines that show what both stores and all maps hold. These make
 no message and change nothing, so only the program's answers are needed.
@@ -59,10 +59,10 @@ def run(program, script):
         side = words[1] if words[0] == "side" and words[1:] in (["a"], ["b"]) else side
         maps.append((maps[-1] if maps else 0) + (words[0] == "map"))
         asked += [line, "side a", "all", "side b", "all", *(f"entries {it}" for it in range(maps[number])), f"side {side}"]
-    told = subprocess.run(program, input="".join(it + "\n" for it in asked), capture_output=True, text=True)
-    if told.returncode not in (0, 1):
-        raise Unanswered(f"{program[0]} ended with status {told.returncode}: {told.stderr.strip()}")
-    return list(rows_of(lines, maps, iter(told.stdout.splitlines())))
+    ran = subprocess.run(program, input="".join(it + "\n" for it in asked), capture_output=True, text=True)
+    if ran.returncode not in (0, 1):
+        raise Unanswered(f"{program[0]} ended with status {ran.returncode}: {ran.stderr.strip()}")
+    return list(rows_of(lines, maps, iter(ran.stdout.splitlines())))
 
 
 def rows_of(lines, maps, said):
@@ -72,7 +72,7 @@ def rows_of(lines, maps, said):
         answer = [next(said)]
         bad = BAD_LINE.fullmatch(answer[0])
         if bad:
-            yield Row(number, line, [f"badline {place + 1} {bad[1]}"], held, side)  # which counts commands alone
+            yield Row(number, line, [f"badline {place + 1} {bad[1]}"], held, side)  # which counts only commands
             return
         answer += iter(lambda: next(said), "side a")
         side = line.split(" ")[1] if answer[0] in ("side a", "side b") else side

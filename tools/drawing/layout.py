@@ -76,14 +76,14 @@ class Layout:
 
     def holders(self):
         """Returns the stores that are ever used, and the maps."""
-        told = {it.end for it in self.story.strokes} | {it.lane for it in self.story.notes} | {row.side for row in self.rows}
-        used = [it for it in asking.STORES if it in told or any(row.held[it] for row in self.rows)]
+        named = {it.end for it in self.story.strokes} | {it.lane for it in self.story.notes} | {row.side for row in self.rows}
+        used = [it for it in asking.STORES if it in named or any(row.held[it] for row in self.rows)]
         return used + sorted({it for row in self.rows for it in row.held if it[0] == "m"}, key=lambda it: int(it[1:]))
 
     def subscribers(self, side):
         """Returns the lanes of the subscriptions at a store."""
-        told = [it for one in self.story.strokes for it in (one.begin, one.end)] + [it.lane for it in self.story.notes]
-        found = {it for it in told if it and it.startswith(f"sub {side} ")}
+        named = [it for one in self.story.strokes for it in (one.begin, one.end)] + [it.lane for it in self.story.notes]
+        found = {it for it in named if it and it.startswith(f"sub {side} ")}
         return sorted(found, key=lambda it: int(it.split(" ")[2]))
 
     def set_lanes(self):

@@ -6,7 +6,7 @@ from .layout import TEXT, TOP, SIDE
 from .look import shade, style_of
 from .sizes import CHIP, LINE, MONO, SMALL, TINY, chip_width, sans_width
 
-# What a picture may have, and what that means, in the order of the words below it.
+# The parts that a picture may have, and what they mean, in the order of the legend below it.
 LEGEND = {
     "strips": "Across a band there is a strip for each driver, in the shade of the generation that its holder takes for living.",
     "hatched": "A hatched strip lags: RS knows better. No strip goes back to an older generation.",

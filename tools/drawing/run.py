@@ -1,4 +1,4 @@
-"""The picture of a supervisor's run, from its log: each service's instances along the time, their ends, and who got a notice."""
+"""The picture of a supervisor's run, from its log: each service's instances over time, their ends, and which services got a notice."""
 import math
 import re
 from html import escape
@@ -8,7 +8,7 @@ from .sizes import LINE, SMALL, TINY, sans_width
 
 EVENT = re.compile(r"(\d+\.\d{3}) (\w+)(?: (.*))?")
 CAUSES = ("down", "exit", "exception", "signal", "heartbeat", "complaint", "update")
-LAST = 300  # seconds that are drawn, unless others are asked for
+LAST = 300  # seconds that are drawn by default
 WIDE, LANE, TOP, EDGE = 1000, 34, 46, 14  # the picture's width; the height of a lane; above the lanes; around
 STEPS = (0.001, 0.002, 0.005, 0.01, 0.02, 0.05, 0.1, 0.2, 0.5, 1, 2, 5, 10, 20, 30, 60, 120, 300, 600, 1800, 3600, 7200, 21600, 86400)
 LEGEND = (
@@ -25,7 +25,7 @@ class Life:
 
 
 class Run:
-    """What a log says: by label the instances, and what else happened to it."""
+    """The events of a log: by label the instances, and what else happened to it."""
 
     def __init__(self, text):
         self.lives, self.marks, self.first, self.last = {}, [], None, 0.0
@@ -156,12 +156,12 @@ class Drawing:
 
 
 def is_log(text):
-    """Whether a text is what a supervisor answers to `log`."""
+    """Returns whether a text is a supervisor's answer to `log`."""
     return EVENT.fullmatch(text.partition("\n")[0]) is not None or re.fullmatch(r"events \d+\n?", text) is not None
 
 
 def drawn(text, first=None, last=None):
-    """Returns the picture of a log, from a second to another: else the last minutes."""
+    """Returns the picture of a log from one second to another, or of the last minutes."""
     run = Run(text)
     end = run.last if last is None else last
     begin = max(run.first or 0.0, end - LAST) if first is None else first

@@ -170,7 +170,7 @@ class Teller:
         self.from_caller(row, self.life_at(row.words[1]), (row.words[2], int(row.words[3])))
 
     def offer(self, row):
-        """Adds an item that came from elsewhere, as by way of another replica, and not from its owner itself."""
+        """Adds an item that arrived from elsewhere, such as another replica, and not from its owner."""
         item = row.line[len("offer "):]
         tone = tone_of(item)
         life = self.life(*tone)
@@ -203,14 +203,14 @@ class Teller:
     def deliver(self, row):
         if row.is_refused:
             return
-        number, told = int(row.words[1]), row.last.split(" ")
-        is_vain = told[0] == "merged" and told[2] == "0"
+        number, result = int(row.words[1]), row.last.split(" ")
+        is_vain = result[0] == "merged" and result[2] == "0"
         maker, _ = self.story.makers[number]
-        self.stroke(maker, row.words[2], is_vain=is_vain, is_stopped=told[0] == "stopped", message=number, is_delivery=True)
+        self.stroke(maker, row.words[2], is_vain=is_vain, is_stopped=result[0] == "stopped", message=number, is_delivery=True)
         if is_vain:
             self.note(row.words[2], "nothing new")
-        elif told[0] == "stopped":
-            self.note(row.words[2], " ".join(told[:1] + told[2:]), True)
+        elif result[0] == "stopped":
+            self.note(row.words[2], " ".join(result[:1] + result[2:]), True)
 
     def restart(self, row):
         if not row.is_refused:
@@ -334,5 +334,5 @@ class Teller:
 
 
 def stops(answer):
-    """Returns whether an answer says that nothing changed."""
+    """Returns whether an answer means that nothing changed."""
     return answer == "stale" or answer.startswith("refused ")

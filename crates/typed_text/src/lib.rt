@@ -1,5 +1,5 @@
-//! Texts that a user typed or wrote: which kind one is of, the known word nearest to a word, and settings, as lines and
-//! with sentences about their faults.
+//! Texts that a user typed or wrote: their kind, the known word nearest to an unknown one, and settings, printed as lines
+//! or explained by sentences about their faults.
 //!
 //! The reader of settings reports a cause and a service; here the text is searched for the field and its line.
 //! `ds_explain` and `dsctl_cli` use the words, `dsctl` the settings. This project's.

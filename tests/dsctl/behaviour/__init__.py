@@ -1,4 +1,4 @@
-"""Behaviours of the program that no file of input and output can show: each function of ALL is one, and asserts what it says.
+"""Behaviours of the program that no file of input and output can show: each function of ALL is one, and asserts what its docstring states.
 
 A run that doesn't end in time fails its behaviour.
 """

@@ -1,4 +1,4 @@
-"""What somebody at a terminal is shown: the greeting, the prompts, and the places of bad lines."""
+"""The program at a terminal: the greeting, the prompts, and the places of bad lines."""
 import os
 import re
 import subprocess
@@ -14,7 +14,7 @@ GREETING = b"dsctl: `help` shows the lines, ^D ends. Bad lines are skipped\n"
 
 
 def greets_and_prompts(program):
-    """Somebody who types the script is greeted, prompted before each line, and answered."""
+    """A user who types the script is greeted, prompted before each line, and answered."""
     ran = terminal.session(program, [], [b"show\n", b"all\n"])
     assert (ran.seen, ran.status) == (GREETING + b"> show\nshown 0\n> all\nshown 0\n> \n", 0), f"{ran}"
 
@@ -22,38 +22,38 @@ def greets_and_prompts(program):
 def points_at_the_place(program):
     """At a terminal the sentence about an unreadable line shows that line with a caret; elsewhere it doesn't."""
     line = b'map "a" 16\n'
-    told = b"dsctl: line 1, byte 8: KINDS was expected, 1 to 15 (label 1, u32 2, str 4, mem 8); `16` was found\n"
+    sentence = b"dsctl: line 1, byte 8: KINDS was expected, 1 to 15 (label 1, u32 2, str 4, mem 8); `16` was found\n"
     ran = terminal.session(program, [], [line])
-    wanted = b'> map "a" 16\nbadline 1 8\n  map "a" 16\n' + b" " * 10 + b"^\n" + told + b"> \n"
+    wanted = b'> map "a" 16\nbadline 1 8\n  map "a" 16\n' + b" " * 10 + b"^\n" + sentence + b"> \n"
     assert ran.seen.endswith(wanted) and ran.status == 1, f"{ran}"
-    expect(harness.run([program], line), b"badline 1 8\n", 1, told)
+    expect(harness.run([program], line), b"badline 1 8\n", 1, sentence)
 
 
 def goes_on_at_a_terminal(program):
-    """At a terminal a line that can't be read is answered, and the next one is asked for; with --keep-going too."""
-    told = b"dsctl: line 1, byte 0: `shwo` isn't a command, the nearest is `show`: see help\n"
-    wanted = b"> shwo\nbadline 1 0\n  shwo\n  ^\n" + told + b"> show\nshown 0\n> \n"
+    """At a terminal a line that can't be read is answered, and the program prompts for the next one; with --keep-going, too."""
+    sentence = b"dsctl: line 1, byte 0: `shwo` isn't a command, the nearest is `show`: see help\n"
+    wanted = b"> shwo\nbadline 1 0\n  shwo\n  ^\n" + sentence + b"> show\nshown 0\n> \n"
     for words in ([], ["replay"], ["replay", "--keep-going"]):
         ran = terminal.session(program, words, [b"shwo\n", b"show\n"])
         assert (ran.seen, ran.status) == (GREETING + wanted, 1), f"{words}: {ran}"
 
 
 def stops_where_it_is_asked_to(program):
-    """With --stop a line that can't be read ends the script at a terminal, as it does elsewhere with and without it."""
+    """With --stop a line that can't be read ends the script at a terminal; elsewhere it does so with and without --stop."""
     ran = terminal.session(program, ["replay", "--stop"], [b"show\n", b"shwo\n"])
-    told = b"dsctl: line 2, byte 0: `shwo` isn't a command, the nearest is `show`: see help\n"
-    wanted = b"> show\nshown 0\n> shwo\nbadline 2 0\n  shwo\n  ^\n" + told
+    sentence = b"dsctl: line 2, byte 0: `shwo` isn't a command, the nearest is `show`: see help\n"
+    wanted = b"> show\nshown 0\n> shwo\nbadline 2 0\n  shwo\n  ^\n" + sentence
     assert ran.seen.endswith(b"^D or a bad line ends\n" + wanted) and ran.status == 1, f"{ran}"
     expect(harness.run([program, "replay", "--stop"], b"show\nshwo\nshow\n"), b"shown 0\nbadline 2 0\n", 1)
 
 
 def takes_words_of_its_own_at_the_prompt(program):
-    """At the prompt an empty line and a comment are nothing, `help` and `?` show lines, `quit` and `exit` end: none is a line of the script."""
+    """At the prompt an empty line and a comment do nothing, `help` and `?` show lines, and `quit` and `exit` end: none is a line of the script."""
     lines = harness.run([program, "-h"], b"").output.partition(b"Lines of a script")[2]
-    for words, told in (((b"help", b"?", b" help  ", b"HELP", b"help help"), b"The commonest lines:\n"), ((b"help all", b"? ALL"), lines)):
+    for words, shown in (((b"help", b"?", b" help  ", b"HELP", b"help help"), b"The commonest lines:\n"), ((b"help all", b"? ALL"), lines)):
         for word in words:
             ran = terminal.session(program, [], [b"\n", b"  \n", b"# a comment\n", word + b"\n", b"shwo\n"])
-            assert told in ran.seen and b"badline 1 0" in ran.seen and ran.status == 1, f"{word}: {ran}"
+            assert shown in ran.seen and b"badline 1 0" in ran.seen and ran.status == 1, f"{word}: {ran}"
     for word in (b"quit", b"exit", b"Quit", b"quit now"):
         ran = terminal.session(program, [], [b"show\n", word + b"\n"])
         assert (ran.seen, ran.status) == (GREETING + b"> show\nshown 0\n> " + word + b"\n", 0), f"{ran}"
@@ -62,13 +62,13 @@ def takes_words_of_its_own_at_the_prompt(program):
 
 
 def shows_the_commonest_lines_on_one_screen(program):
-    """At the prompt `help` shows ten lines and three to begin with, which do what it says, in fewer rows and columns than a terminal has."""
-    said = said_at_the_prompt(program, b"help").decode()
-    rows = said.splitlines()
-    assert len(rows) < 24 and max(map(len, rows)) <= 80, said
+    """At the prompt `help` shows ten lines, and three to begin with, which work; it has fewer rows and columns than a terminal."""
+    text = said_at_the_prompt(program, b"help").decode()
+    rows = text.splitlines()
+    assert len(rows) < 24 and max(map(len, rows)) <= 80, text
     known = {it.split()[0].decode() for it in GOOD}
-    told = [it.split()[0] for it in rows[1:11]]
-    assert len(set(told)) == 10 and set(told) <= known, told
+    words = [it.split()[0] for it in rows[1:11]]
+    assert len(set(words)) == 10 and set(words) <= known, words
     first = [re.split(" {3,}", it.strip())[0] for it in rows if it.startswith("  ")][10:]
     ran = harness.run([program], "".join(it + "\n" for it in first).encode())
     assert len(first) == 3 and ran.output == b"taken\ntaken\nfound 1500\n", f"{first}: {ran}"
@@ -86,24 +86,24 @@ REFUSED = [
 
 
 def explains_refusals_at_the_prompt(program):
-    """At the prompt a refusal is followed by one line that says what it means; elsewhere it isn't."""
-    for line, told in REFUSED:
+    """At the prompt a refusal is followed by one line that explains it; elsewhere it isn't."""
+    for line, row in REFUSED:
         ran = terminal.session(program, [], [line + b"\n"])
         answer = harness.run([program], line + b"\n")
-        assert answer.error == b"" and answer.output.startswith(b"refused " + told.split(b":")[0]), f"{line}: {answer}"
-        wanted = GREETING + b"> " + line + b"\n" + answer.output + b"dsctl: " + told + b"\n> \n"
+        assert answer.error == b"" and answer.output.startswith(b"refused " + row.split(b":")[0]), f"{line}: {answer}"
+        wanted = GREETING + b"> " + line + b"\n" + answer.output + b"dsctl: " + row + b"\n> \n"
         assert (ran.seen, ran.status) == (wanted, 0), f"{line}: {ran}"
     twice = terminal.session(program, [], [b"settings slots = 1\n"] * 2)
     assert b"refused exists\ndsctl: exists: settings were accepted already: RS begins once\n" in twice.seen, f"{twice}"
 
 
 def reads_format_2_at_the_prompt(program):
-    """At the prompt `script 2` is taken as the first line, and answers nothing."""
+    """At the prompt `script 2` is accepted as the first line, and isn't answered."""
     ran = terminal.session(program, [], [b"script 2\n", b"# a comment\n", b"show\n"])
     assert (ran.seen, ran.status) == (GREETING + b"> script 2\n> # a comment\n> show\nshown 0\n> \n", 0), f"{ran}"
 
 
-# What help says of a word at the prompt: what its rows begin with, and what they have.
+# A line for help at the prompt, how the rows that explain the word begin, and what they have.
 EXPLAINED = [
     (b"help publish", [b"  publish CALLER new NAME KIND EPOCH.SEQ = VALUE\n"], b"put a value in the caller's name"),
     (b"help offer", [b"  offer CHANGE ", b"  offer FLOOR "], b"merge one change, from any owner\n"),
@@ -123,7 +123,7 @@ EXPLAINED = [
     (b"help stale", [b"  stale ", b"  stale "], b"it comes too late\n"),
     (b"help refused", [b"  refused WORD "], b""),
 ]
-# What it says of a word that it doesn't have.
+# The answer for a word that help doesn't have.
 UNEXPLAINED = [
     (b"help nocallr", b"dsctl: `nocallr` isn't a line, an answer, a refusal or a kind, the nearest is `nocaller`: see help\n"),
     (b"help retreive", b"dsctl: `retreive` isn't a line, an answer, a refusal or a kind, the nearest is `retrieve`: see help\n"),
@@ -135,33 +135,33 @@ UNEXPLAINED = [
 
 
 def explains_a_word_at_the_prompt(program):
-    """At the prompt `help WORD` shows what the help has of a line, an answer, a refusal or a kind, and else the nearest such word."""
+    """At the prompt `help WORD` shows the help on a line, an answer, a refusal or a kind, or else the nearest such word."""
     rows = harness.run([program, "--help"], b"").output
     for line, begins, has in EXPLAINED:
-        said = said_at_the_prompt(program, line)
-        found = [it + b"\n" for it in said.splitlines() if not it.startswith(b"   ")]
-        assert len(found) == len(begins) and all(map(bytes.startswith, found, begins)) and has in said, f"{line}: {said!r}"
-        assert all(it in rows.splitlines() for it in said.splitlines()), f"{line}: not all of the help: {said!r}"
+        answer = said_at_the_prompt(program, line)
+        found = [it + b"\n" for it in answer.splitlines() if not it.startswith(b"   ")]
+        assert len(found) == len(begins) and all(map(bytes.startswith, found, begins)) and has in answer, f"{line}: {answer!r}"
+        assert all(it in rows.splitlines() for it in answer.splitlines()), f"{line}: not all of the help: {answer!r}"
     for line, wanted in UNEXPLAINED:
         assert said_at_the_prompt(program, line) == wanted, line
 
 
 def explains_each_word_at_the_prompt(program):
-    """At the prompt help explains each refusal that docs/reference/refusals.md has, each line that its short help has, and each first word of
-    an answer, and each part of a line, that docs/reference/lines.md has."""
+    """At the prompt help explains each refusal in docs/reference/refusals.md, and each line of its short help. It also explains each first
+    word of an answer and each part of a line in docs/reference/lines.md."""
     document = (harness.DOCUMENTS / "reference" / "refusals.md").read_text()
     refusals = re.findall(r"`(\w+)`", "".join(re.findall("^## .*$", document, re.MULTILINE)))
     lines = sorted({it.split()[0] for it in GOOD} - {b"all"})  # `help all` shows all lines
     typed = [f"help {it}\n".encode() for it in refusals + words_of_lines()] + [b"help %s\n" % it for it in lines]
     ran = terminal.session(program, [], typed)
     assert ran.status == 0 and b"isn't" not in re.sub(rb"(?m)^ .*$", b"", ran.seen), f"{ran.seen[-600:]}"
-    said = re.split(rb"^> help (\w+)\n", ran.seen, flags=re.MULTILINE)[1:]
-    silent = [word for word, told in zip(said[::2], said[1::2]) if not re.search(rb"(?m)^  %s " % word, told)]
-    assert len(said) == 2 * len(typed) and not silent, f"{silent}"
+    answers = re.split(rb"^> help (\w+)\n", ran.seen, flags=re.MULTILINE)[1:]
+    silent = [word for word, answer in zip(answers[::2], answers[1::2]) if not re.search(rb"(?m)^  %s " % word, answer)]
+    assert len(answers) == 2 * len(typed) and not silent, f"{silent}"
 
 
 def words_of_lines():
-    """The parts of lines, and the words that answers begin with, as docs/reference/lines.md has them in its tables."""
+    """Returns the parts of lines, and the words that answers begin with, as docs/reference/lines.md has them in its tables."""
     document = (harness.DOCUMENTS / "reference" / "lines.md").read_text()
     parts = re.findall(r"[A-Z]+", re.search(r"\| Part \| Spelling \|\n\|---\|---\|\n((?:\| .*\n)*?)\| VALUE", document)[1].replace("Part", ""))
     parts = [it for it in parts if it not in ("ASCII", "RS", "A", "Z")]
@@ -172,7 +172,7 @@ def words_of_lines():
 
 
 def said_at_the_prompt(program, line):
-    """What a line is answered at the prompt, which has to leave the script alone."""
+    """Returns the answer to a line at the prompt, which must leave the script alone."""
     ran = terminal.session(program, [], [line + b"\n"])
     before, after = GREETING + b"> " + line + b"\n", b"> \n"
     assert ran.status == 0 and ran.seen.startswith(before) and ran.seen.endswith(after), f"{ran}"
@@ -180,13 +180,13 @@ def said_at_the_prompt(program, line):
 
 
 def takes_a_line_in_two_pieces(program):
-    """A line that ^D cut in two is one line, whatever the second piece is, and no word of the prompt's."""
+    """A line that ^D cut in two is one line, whatever the second piece is, and not a word of the prompt."""
     ran = terminal.pieces(program, [b"sh", b"\x04", b"ow\n", b"cle", b"\x04", b"help\n"])
     assert b"shown 0\n" in ran.seen and b"badline 2 0" in ran.seen and ran.status == 1, f"{ran}"
 
 
 def ends_at_one_end(program):
-    """One ^D where a read begins ends the program, also after a text without a newline: the terminal isn't read once more."""
+    """One ^D where a read begins ends the program, also after a text without a newline: the terminal isn't read again."""
     for words, of_nothing, of_show in ((), 0, 0), (("settings",), 0, 1), (("verify",), 1, 1), (("upgrade",), 1, 1), (("record",), 0, 1):
         for typed, status in ([], of_nothing), ([b"show", b"\x04"], of_show):
             ran = terminal.pieces(program, typed, words)
@@ -197,8 +197,8 @@ def names_the_keys_of_a_terminal(program):
     """The bytes of a cursor key are reported by its name, anywhere in a line, and end nothing."""
     for bytes_, name, place in ((b"\x1b[A", b"Up", 0), (b"\x1bOB", b"Down", 0), (b"show\x1b[C", b"Right", 4), (b"nameof 3/1\x1b[D", b"Left", 10)):
         ran = terminal.session(program, [], [bytes_ + b"\n", b"show\n"])
-        told = b"dsctl: line 1, byte %d: the %s key was found: `rlwrap dsctl` adds history and editing\n> show\nshown 0\n> \n" % (place, name)
-        assert ran.seen.endswith(told) and ran.status == 1, f"{name}: {ran}"
+        sentence = b"dsctl: line 1, byte %d: the %s key was found: `rlwrap dsctl` adds history and editing\n> show\nshown 0\n> \n" % (place, name)
+        assert ran.seen.endswith(sentence) and ran.status == 1, f"{name}: {ran}"
 
 
 def greets_who_types_settings(program):
@@ -211,8 +211,8 @@ def greets_who_types_a_trace(program):
     """A user who types a trace sees what the program waits for, and no prompt, which would look like the beginning of an entry."""
     for word, header in (("verify", b"trace 2 INCARNATION FIRST RING SUBS KEYS"), ("upgrade", b"trace 1 INCARNATION FIRST RING")):
         ran = terminal.session(program, [word], [], prompt=b"ends\n")
-        told = b"dsctl: a trace, as in dsctl verify --help, ^D ends\nbadline 1\n" + NO_HEADER % header
-        assert (ran.seen, ran.status) == (told, 1), f"{word}: {ran}"
+        wanted = b"dsctl: a trace, as in dsctl verify --help, ^D ends\nbadline 1\n" + NO_HEADER % header
+        assert (ran.seen, ran.status) == (wanted, 1), f"{word}: {ran}"
 
 
 # A trace that can't be upgraded, the word for it, and the sentence that follows at a terminal.
@@ -227,16 +227,16 @@ NOT_UPGRADED = [
 
 
 def explains_an_upgrade_at_a_terminal(program):
-    """Where standard error is a terminal, a sentence follows the word of a trace that can't be upgraded; elsewhere the word is all."""
-    for trace, word, told in NOT_UPGRADED:
+    """If standard error is a terminal, a sentence follows the word for a trace that can't be upgraded; elsewhere the word comes alone."""
+    for trace, word, sentence in NOT_UPGRADED:
         ran = harness.run([program, "upgrade"], trace.encode() + b"\n")
         assert (ran.error, ran.status) == (word + b"\n", 1), f"{trace}: {ran}"
         seen = told_at_a_terminal(program, ["sh", "-c", f"echo '{trace}' | \"$0\" upgrade"])
-        assert seen == word + b"\ndsctl: " + told + b"\n", f"{trace}: {seen}"
+        assert seen == word + b"\ndsctl: " + sentence + b"\n", f"{trace}: {seen}"
 
 
 def takes_back_a_line_that_a_control_character_ends(program):
-    """Where the terminal has ^C end a line, as dsctl-prompt sets it, that line is taken back, and the session stays."""
+    """If ^C ends a line at the terminal, as dsctl-prompt sets it, that line is taken back, and the session continues."""
     ran = terminal.pieces(program, [b"publish 0/2 ne\x03", b"show\n", b"\x03", b"all\n"], settings=("intr", "undef", "eol2", "^C"))
     assert ran.status == 0 and b"badline" not in ran.seen and ran.seen.count(b"shown 0\n") == 2, f"{ran}"
     assert b"> publish 0/2 ne^C\n> show\n" in ran.seen and b"> ^C\n> all\n" in ran.seen, f"{ran}"
@@ -249,7 +249,7 @@ def greets_who_types_commands(program):
 
 
 def says_why(program):
-    """After `readfault` and `writefault` the system's reason follows, at a terminal and elsewhere; for a reader that went away nothing does."""
+    """The system's reason follows `readfault` and `writefault`, at a terminal and elsewhere; nothing is printed for a reader that went away."""
     unread = b"readfault\ndsctl: the input can't be read: Is a directory (os error 21)\n"
     unwritten = b"writefault\ndsctl: the answers can't be written: No space left on device (os error 28)\n"
     for word in ("", "settings", "verify", "upgrade", "record"):
@@ -266,7 +266,7 @@ def says_why(program):
 
 
 def told_at_a_terminal(program, words):
-    """What a command tells on standard error, which is a terminal."""
+    """Returns what a command prints on standard error, which is a terminal."""
     ours, theirs = os.openpty()
     started = subprocess.Popen([*words, program], stdin=subprocess.DEVNULL, stdout=subprocess.DEVNULL, stderr=theirs)
     os.close(theirs)
@@ -279,7 +279,7 @@ def told_at_a_terminal(program, words):
 
 
 def is_silent_where_one_stream_is_no_terminal(program):
-    """Without a terminal at both sides nobody is greeted or prompted."""
+    """Without a terminal at both sides there is neither a greeting nor a prompt."""
     for streams in (("stdout", "stderr"), ("stdin", "stdout")):
         words = {"stdin": subprocess.PIPE} if "stdin" not in streams else {}
         ours, theirs = os.openpty()
@@ -290,7 +290,7 @@ def is_silent_where_one_stream_is_no_terminal(program):
         else:
             os.write(ours, b"\x04")
         assert started.wait(timeout=10) == 0
-        told = started.stderr.read() if started.stderr else b""
+        error = started.stderr.read() if started.stderr else b""
         shown = terminal.shown(ours) if not words else b""
         os.close(ours)
-        assert told == b"" and b">" not in shown, f"{streams}: {told!r}, {shown!r}"
+        assert error == b"" and b">" not in shown, f"{streams}: {error!r}, {shown!r}"

@@ -1,13 +1,13 @@
-"""Draws names, changes, values and lines of a script, from a source of chance that is given."""
+"""Draws names, changes, values and lines of a script, from a given source of chance."""
 
 
 def name_by_chance(chance):
-    """One of a few names."""
+    """Returns one of a few names."""
     return chance.choice([b"a", b"A", b"a-", b"a.b", b"_", b"eth0", b"eth", b"9", b"x" * 64])
 
 
 def change_by_chance(chance):
-    """A change but for its name: of a label, or of another kind with one of two owners."""
+    """Returns a change without its name: of a label, or of another kind with one of two owners."""
     if chance.random() < 0.5:
         return b"label rs " + body_by_chance(chance)
     kind, value = value_by_chance(chance)
@@ -17,12 +17,12 @@ def change_by_chance(chance):
 
 
 def floor_by_chance(chance):
-    """A floor of one of the owners, above which there are generations."""
+    """Returns a floor of one of the owners, above which there are generations."""
     return b"%s %d" % (chance.choice([b"eth0", b"tty", b"rs"]), chance.choice([0, 0, 1]))
 
 
 def body_by_chance(chance):
-    """The version and the body of a label change."""
+    """Returns the version and the body of a label change."""
     generation = chance.randrange(1, 9)
     if chance.random() < 0.3:
         return b"%d.1 -" % generation
@@ -30,12 +30,12 @@ def body_by_chance(chance):
 
 
 def value_by_chance(chance):
-    """The word of a kind other than label, and one of two values."""
+    """Returns the word of a kind other than label, and one of two values."""
     return chance.choice([(b"u32", b"0"), (b"u32", b"1500"), (b"str", b'""'), (b"str", b'"a\\"b"'), (b"mem", b""), (b"mem", b"00ff")])
 
 
 def item_by_chance(chance):
-    """A floor or a change of one of three drivers, as `command_by_chance` offers it."""
+    """Returns a floor or a change of one of three drivers, as `command_by_chance` offers it."""
     driver, generation = chance.choice([b"eth0", b"tty", b"disk"]), chance.randrange(1, 4)
     if chance.random() < 0.3:
         return b"! %s %d" % (driver, generation - (chance.random() < 0.9))
@@ -44,7 +44,7 @@ def item_by_chance(chance):
 
 
 def command_by_chance(chance):
-    """A line of a script over three drivers, of few generations and slots each."""
+    """Returns a line of a script over three drivers, of few generations and slots each."""
     driver = chance.choice([b"eth0", b"tty", b"disk"])
     generation, slot, seq = chance.randrange(1, 4), chance.choice([16, 16, 16, 17]), chance.randrange(6)
     caller = b"%d/%d" % chance.choice([(0, 2), (generation, slot), (generation, slot), (generation, slot)])

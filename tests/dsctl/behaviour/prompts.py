@@ -20,8 +20,8 @@ LONGEST = 4096
 
 
 def keeps_the_session_at_an_interrupt(program):
-    """^C takes the line back, at the front of a line and within one, and `quit` ends; with rlwrap, where it is installed, and without it. Where
-    there is no terminal, dsctl alone is run, with the same words."""
+    """^C takes the line back, at the start of a line and within one, and `quit` ends; with rlwrap, if it is installed, and without it. Without
+    a terminal, only dsctl is run, with the same words."""
     script = harness.TESTS.parent / "completions" / "dsctl-prompt"
     for more in [(), *([("rlwrap",)] if shutil.which("rlwrap") else [])]:
         with tempfile.TemporaryDirectory() as folder:
@@ -37,7 +37,7 @@ def keeps_the_session_at_an_interrupt(program):
 
 
 def prompted(script, environment, typed):
-    """What is seen of a script at a terminal of its own, where each piece is typed once nothing is shown any more, and its status."""
+    """Returns what a script shows at a terminal of its own, where each piece is typed once nothing more is shown, and its status."""
     child, ours = pty.fork()
     if not child:
         fcntl.ioctl(0, termios.TIOCSWINSZ, struct.pack("HHHH", 24, 80, 0, 0))
@@ -58,7 +58,7 @@ def prompted(script, environment, typed):
 
 
 def prints_settings_as_a_line(program):
-    """`settings --line` prints a line of at most 4096 bytes, by which a script's RS has the services of the text; standard error names slots beside them."""
+    """`settings --line` prints a line of at most 4096 bytes that gives a script's RS the text's services; standard error names slots beside them."""
     cases = [it for it in harness.all_cases() if it.args == ["settings"] and not it.status]
     assert len(cases) > 10, cases
     for case in cases:
@@ -79,6 +79,6 @@ def prints_settings_as_a_line(program):
 
 
 def lists_of(text):
-    """The names in the lists of each service of a settings text; an empty list of what is published is none."""
+    """Returns the names in the lists of each service of a settings text; an empty `publishes` counts as none."""
     services = tomllib.loads(text.decode("utf-8-sig")).get("service", [])
     return [{name: it[name] for name in LISTS if it.get(name) or name in it and name != "publishes"} for it in services]

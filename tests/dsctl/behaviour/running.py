@@ -10,7 +10,7 @@ MEMORY = 64 << 10  # KiB of address space, where a behaviour limits it
 
 
 def fault(behaviour, program):
-    """Runs one behaviour, and says what is wrong with it, or answers None."""
+    """Runs one behaviour, and returns what is wrong with it, or None."""
     try:
         behaviour(program)
     except (AssertionError, subprocess.TimeoutExpired, OSError) as wrong:
@@ -19,7 +19,7 @@ def fault(behaviour, program):
 
 
 def expect(ran, output, status, error=None):
-    """Asserts the whole answer of a run; if no standard error is given, just each bad line is explained there."""
+    """Asserts the whole answer of a run; if no standard error is given, it must explain each bad line, and nothing else."""
     wrong = harness.difference(ran.output, output)
     assert not wrong, f"output: {wrong}"
     assert ran.status == status, f"status {ran.status}, wanted {status}; standard error: {ran.error[-200:]!r}"

@@ -1,4 +1,4 @@
-"""Lines that behaviours give the program: good ones of each kind, and such as no script has."""
+"""Lines that behaviours give the program: good ones of each kind, and some that no script has."""
 
 PUT = b"offer eth0 label rs 3.0 = 3/17"
 TOMBSTONE = b"offer eth0 label rs 3.1 -"
@@ -55,7 +55,8 @@ GOOD = [
     b"reply file 1/16 9",
     b"reply net 0/2 0",
 ]
-# Lines of traces, of which scripts have none.
+FIRST_LINES = [b"ring 4096"]  # good only as the first line of a script
+# Lines of traces, which no script has.
 OF_TRACES = b"""\
 trace 1 1 0 256
 > 0 offer eth0 label rs 3.0 = 3/17

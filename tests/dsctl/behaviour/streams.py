@@ -108,7 +108,7 @@ def ends_each_answer_before_the_next(program):
 
 
 def reads_a_file_by_its_name(program):
-    """Each subcommand reads a file that is named as it reads standard input, which it leaves alone then; `-` is standard input."""
+    """Each subcommand reads a named file as it reads standard input, which it then leaves alone; `-` is standard input."""
     examples = harness.EXAMPLES
     rows = [([], "driver.ds"), (["replay"], "driver.ds"), (["settings"], "machine.toml"), (["verify"], "recorded.trace")]
     rows += [(["upgrade"], "older.trace"), (["record"], "recorded.commands")]
@@ -121,12 +121,12 @@ def reads_a_file_by_its_name(program):
 
 
 def a_file_that_cannot_be_opened(program):
-    """A file that doesn't exist is reported by its name and the system's reason, with status 2; a word like a subcommand by that, too."""
+    """A file that doesn't exist is reported by its name and the system's reason, with status 2; a word like a subcommand by that one, too."""
     rows = [([], "none.ds", b"dsctl: `none.ds` can't be opened: No such file or directory (os error 2)\n")]
     rows += [(["verify"], "no/such.trace", b"dsctl: `no/such.trace` can't be opened: No such file or directory (os error 2)\n")]
     rows += [([], "repaly", b"dsctl: `repaly` is neither a command, the nearest is `replay`, nor a file: No such file or directory (os error 2)\n")]
-    for words, name, told in rows:
-        expect(harness.run([program, *words, name], b"show\n"), b"", 2, told)
+    for words, name, sentence in rows:
+        expect(harness.run([program, *words, name], b"show\n"), b"", 2, sentence)
     folder = str(harness.EXAMPLES)
     expect(harness.run([program, folder], b""), b"", 3, b"readfault\n")
 
@@ -135,7 +135,7 @@ def a_file_that_cannot_be_opened(program):
 
 
 def a_reader_that_fails(program):
-    """A folder in place of the input, and one that was opened for writing alone."""
+    """A folder as the input, and a file that was opened only for writing, are reads that fail."""
     folder = os.open(os.path.dirname(__file__), os.O_RDONLY)
     for stream in (folder, os.open(os.devnull, os.O_WRONLY)):
         expect(end(begin(program, stdin=stream)), b"", 3, b"readfault\n")
@@ -143,20 +143,20 @@ def a_reader_that_fails(program):
 
 
 def a_reader_that_is_closed(program):
-    """No standard input at all."""
+    """Without standard input the first read fails."""
     words = ["sh", "-c", 'exec "$0" <&-', program]
     expect(harness.run(words, b""), b"", 3, b"readfault\n")
 
 
 def a_writer_that_is_full(program):
-    """Output that takes no bytes; a bad line can't be reported there either."""
+    """Output that takes no bytes is a write that failed; a bad line can't be reported there either."""
     for script in (PUT + b"\n", b"show\n", b"bad\n", b"show"):
         with open("/dev/full", "wb") as full:
             expect(end(begin(program, stdout=full), script), None, 3, b"writefault\n")
 
 
 def a_writer_that_is_gone(program):
-    """A pipe whose reader has gone: the end, with the status that a shell gives the signal, and no signal and no message."""
+    """A pipe whose reader has gone ends the program, with the status that a shell gives the signal, but without a signal or a message."""
     for script in (PUT + b"\n", PUT + b"\nbad\n", b"show\n" * 100000):
         reading, writing = os.pipe()
         os.close(reading)
@@ -166,7 +166,7 @@ def a_writer_that_is_gone(program):
 
 
 def a_writer_that_goes(program):
-    """A reader that goes after the first answer, while the input is still open: likewise."""
+    """A reader that goes after the first answer, while the input is still open, ends the program likewise."""
     started = begin(program)
     started.stdin.write(PUT + b"\n")
     answers(started, b"taken\n")
@@ -177,7 +177,7 @@ def a_writer_that_goes(program):
 
 
 def a_writer_that_is_closed(program):
-    """No standard output at all: a fault as soon as there is something to write."""
+    """Without standard output the program fails as soon as there is something to write."""
     words = ["sh", "-c", 'exec "$0" >&-', program]
     expect(harness.run(words, PUT + b"\n"), b"", 3, b"writefault\n")
     expect(harness.run(words, b""), b"", 0)

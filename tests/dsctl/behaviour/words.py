@@ -8,7 +8,7 @@ from .running import expect
 from .samples import GOOD
 
 NAMES = ("replay", "settings", "verify", "upgrade", "record", "live")
-# What the six lines about two replicas are answered, and then both sides, asked for all that they hold.
+# The answers to the six lines about two replicas, and then all that both sides hold.
 SIX_ANSWERED = b"""\
 taken
 eth0 label rs 3.0 = 3/17
@@ -24,7 +24,7 @@ side a
 eth0 label rs 3.0 = 3/17
 shown 1
 """
-# What the five lines about a driver that dies are answered.
+# The answers to the five lines about a driver that dies.
 FIVE_ANSWERED = b"""\
 services 1 slots 64
 start disk 1/16
@@ -52,7 +52,7 @@ def the_manual_and_the_completions_are_current(program):
 
 
 def the_manual_fits_a_terminal(program):
-    """The manual page has the sections that readers look for, and no row that is shown as it is is longer than a terminal's."""
+    """The manual page has the sections that readers look for, and no row that is shown unchanged is longer than a terminal's."""
     page = manual.made(program)[manual.ROOT / "man" / "dsctl.1"]
     titles = re.findall(r"^\.SH (.*)$", page, re.MULTILINE)
     missing = {"NAME", "SYNOPSIS", "DESCRIPTION", "OPTIONS", "COMMANDS", "EXIT STATUS", "EXAMPLES", "SEE ALSO"} - set(titles)
@@ -92,19 +92,19 @@ def does_as_its_help_shows(program):
     assert (len(older), len(newer)) == (5, 6), f"the help shows {older} and {newer}"
     expect(harness.run([program, "upgrade"], script_of(older)), script_of(newer), 0, b"")
     help_ = harness.run([program, "record", "--help"], b"").output.decode()
-    asked, told = rows_below("Two commands", help_), rows_below("The trace of their run", help_)
-    assert (len(asked), len(told)) == (2, 5), f"the help shows {asked} and {told}"
-    expect(harness.run([program, "record"], script_of(asked)), script_of(told), 0, b"")
+    asked, recorded = rows_below("Two commands", help_), rows_below("The trace of their run", help_)
+    assert (len(asked), len(recorded)) == (2, 5), f"the help shows {asked} and {recorded}"
+    expect(harness.run([program, "record"], script_of(asked)), script_of(recorded), 0, b"")
 
 
 def rows_below(title, text):
-    """The rows of a text below the one that begins so, without the two spaces before each."""
+    """Returns the rows of a text below the one that begins with the title, without the two spaces before each."""
     found = re.search(rf"^{title}.*:\n((?:  .*\n)*)", text, re.MULTILINE)
     return [row[2:] for row in found[1].splitlines()] if found else []
 
 
 def script_of(rows):
-    """Rows as the bytes of a script, or of answers."""
+    """Returns rows as the bytes of a script, or of answers."""
     return "".join(row + "\n" for row in rows).encode()
 
 
@@ -124,14 +124,14 @@ def reminds_in_rows_of_eighty_columns(program):
 def explains_each_refusal(program):
     """`--help` has a row for each word that follows `refused`."""
     document = (harness.DOCUMENTS / "reference" / "refusals.md").read_text()
-    told = re.findall(r"`(\w+)`", "".join(re.findall("^## .*$", document, re.MULTILINE)))
+    words = re.findall(r"`(\w+)`", "".join(re.findall("^## .*$", document, re.MULTILINE)))
     help_ = harness.run([program, "--help"], b"").output.decode()
-    missing = [word for word in told if not re.search(rf"^  {word} ", help_, re.MULTILINE)]
-    assert len(told) == 41 and not missing, f"{len(told)} words; not explained: {missing}"
+    missing = [word for word in words if not re.search(rf"^  {word} ", help_, re.MULTILINE)]
+    assert len(words) == 41 and not missing, f"{len(words)} words; not explained: {missing}"
 
 
 def says_what_is_wrong_with_its_words(program):
-    """Two files, one for `live`, or an option of `replay` without that word: standard error says so, and only then."""
+    """Standard error reports two files, a file for `live`, or an option of `replay` without that word, and only then."""
     tips = [(["a.ds", "b.ds"], b"dsctl: one file is read"), (["verify", "a.trace", "b.trace"], b"dsctl: one file is read")]
     tips += [(["live", "script.ds"], b"dsctl: live reads nothing")]
     tips += [([near, "a.trace"], b"dsctl: the nearest command is `verify`") for near in ("verfy", "Verify")]
