@@ -7,7 +7,7 @@ ghost use Rattle.desk.specs.Closing.{IsRow, Sums};
 use std::marker::Model;
 
 /// The account of one bit of a server's pending word.
-#[derive(Clone, Copy, Debug, PartialEq, Eq)]
+#[derive(Clone, Copy, PartialEq, Eq)]
 pub struct Row {
     /// How often a post found the bit 0 and set it.
     pub raises: u64,
@@ -18,7 +18,7 @@ pub struct Row {
 }
 
 /// An account of 128 rows. The row of subscription k of server s has the index 8 s + k.
-#[derive(Debug, Drop)]
+#[derive(Drop)]
 pub struct Account {
     pub(crate) rows: Vec<Row>,
 }

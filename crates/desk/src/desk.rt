@@ -43,7 +43,7 @@ pub struct Answer<R> {
 }
 
 /// The result of a take.
-#[derive(Clone, Copy, Debug, PartialEq, Eq)]
+#[derive(Clone, Copy, PartialEq, Eq)]
 pub struct Taken {
     /// The bits that were pending. Bit k is the server's subscription k.
     pub bits: u8,

@@ -15,7 +15,7 @@ use ds_reader::go_past;
 use std::sync::Wait;
 
 /// The result of an exchange.
-#[derive(Clone, Copy, Debug, PartialEq, Eq)]
+#[derive(Clone, Copy, PartialEq, Eq)]
 pub struct Exchanged {
     /// The cursor for the next exchange.
     pub cursor: Cursor,

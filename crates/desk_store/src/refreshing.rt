@@ -13,7 +13,7 @@ use crate::store_seat::StoreSeat;
 use std::alloc::Global;
 
 /// The outcome of a refresh.
-#[derive(Clone, Copy, Debug, PartialEq, Eq)]
+#[derive(Clone, Copy, PartialEq, Eq)]
 pub enum Fresh {
     /// The map is what the store held under the query after all calls below this place.
     UpTo(u64),

@@ -12,7 +12,7 @@ use ds_names::{Endpoint, Generation, Name, NoRoom};
 use indexmap::IndexMap;
 
 /// The kind of unit that a driver drives.
-#[derive(Clone, Copy, Debug, PartialEq, Eq)]
+#[derive(Clone, Copy, PartialEq, Eq)]
 pub enum Class {
     /// A major device whose requests can be sent again.
     Block,
@@ -23,7 +23,7 @@ pub enum Class {
 }
 
 /// A unit's driver and the state of the driver's label.
-#[derive(Clone, Copy, Debug)]
+#[derive(Clone, Copy)]
 pub struct Device {
     pub class: Class,
     pub label: Name,

@@ -22,7 +22,7 @@ use std::alloc::Global;
 use std::marker::Model;
 
 /// The class of a major device, as in MINIX 3: block special or character special.
-#[derive(Clone, Copy, Debug, PartialEq, Eq)]
+#[derive(Clone, Copy, PartialEq, Eq)]
 pub enum FileClass {
     /// Requests are reads and writes of blocks, and may be sent again.
     Block,

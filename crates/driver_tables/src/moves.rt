@@ -8,7 +8,7 @@ use std::alloc::{AllocFailed, Global};
 use std::marker::Model;
 
 /// How a request ended.
-#[derive(Clone, Copy, Debug, PartialEq, Eq)]
+#[derive(Clone, Copy, PartialEq, Eq)]
 pub enum Ending {
     /// Its driver replied.
     Done,
@@ -17,7 +17,7 @@ pub enum Ending {
 }
 
 /// One action of a server.
-#[derive(Clone, Copy, Debug, PartialEq, Eq)]
+#[derive(Clone, Copy, PartialEq, Eq)]
 pub enum Move {
     /// Restarts a port, at the endpoint of its new driver.
     Start { unit: u8, endpoint: Endpoint },
@@ -30,7 +30,7 @@ pub enum Move {
 }
 
 /// A list of moves.
-#[derive(Debug, Drop)]
+#[derive(Drop)]
 pub struct Moves {
     moves: Vec<Move>,
 }

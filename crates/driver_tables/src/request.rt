@@ -13,7 +13,7 @@ use ds_names::{Endpoint, Name, NoRoom};
 use indexmap::IndexMap;
 
 /// An unanswered request, and where it was last sent.
-#[derive(Clone, Copy, Debug)]
+#[derive(Clone, Copy)]
 pub struct Pending {
     pub id: u64,
     pub unit: u8,

@@ -14,7 +14,7 @@ const BEFORE: usize = 48;
 const FROM: usize = 28;
 
 /// The reader of an explanation.
-#[derive(Clone, Copy, Debug, PartialEq, Eq)]
+#[derive(Clone, Copy, PartialEq, Eq)]
 pub enum Audience {
     /// A file or a program: one line.
     File,

@@ -7,7 +7,7 @@ use ds_names::{read_byte, read_decimal};
 use std::rt::Runtime;
 
 /// The formats of trace that are read.
-#[derive(Clone, Copy, Debug, PartialEq, Eq)]
+#[derive(Clone, Copy, PartialEq, Eq)]
 pub(crate) enum Formats {
     /// Both.
     Both,

@@ -17,7 +17,7 @@ pub trait KeyScope {
 }
 
 /// The scope of all keys.
-#[derive(Clone, Copy, Debug, PartialEq, Eq)]
+#[derive(Clone, Copy, PartialEq, Eq)]
 pub struct AllKeys;
 
 impl KeyScope for AllKeys {

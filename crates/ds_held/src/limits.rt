@@ -7,7 +7,7 @@ use std::marker::Model;
 
 /// The greatest numbers of subscriptions of a store and of keys of a holder: 128 and 4096, or, in old traces, 64 and
 /// 1024. There are no other limits of this type.
-#[derive(Clone, Copy, Debug, PartialEq, Eq)]
+#[derive(Clone, Copy, PartialEq, Eq)]
 pub struct Limits {
     subs: u32,
     keys: u32,

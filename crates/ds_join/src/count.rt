@@ -6,7 +6,7 @@ use crate::merge::{JoinFault, Merge, Stop};
 
 /// How many items a map or a delivery has handled, and how many were taken or stale. The others were known, or skipped
 /// because they aren't under the map's query.
-#[derive(Clone, Copy, Debug, PartialEq, Eq)]
+#[derive(Clone, Copy, PartialEq, Eq)]
 pub struct Count {
     /// How many items were handled, including those that were skipped.
     pub done: usize,

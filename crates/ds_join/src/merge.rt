@@ -4,7 +4,7 @@ use ds_names::Version;
 use thiserror::Error;
 
 /// The outcome of a change or a floor that wasn't refused.
-#[derive(Clone, Copy, Debug, PartialEq, Eq)]
+#[derive(Clone, Copy, PartialEq, Eq)]
 pub enum Merge {
     /// The item is held now. Before, nothing or a smaller version of the change's key was held, or no floor or a lower one
     /// of the floor's owner.

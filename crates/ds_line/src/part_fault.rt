@@ -3,7 +3,7 @@ ghost use Rattle.std.specs.Prelude.{◌≡◌, length};
 ghost use Rattle.ds_line.specs.declared.part_fault.PartFault.TheVariants.{BadPart};
 
 /// Why parts can't be read.
-#[derive(Clone, Copy, Debug, PartialEq, Eq)]
+#[derive(Clone, Copy, PartialEq, Eq)]
 pub enum PartFault {
     /// The next part can't be read. It begins `left` bytes before the end.
     BadPart { left: usize },

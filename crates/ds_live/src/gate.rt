@@ -13,7 +13,7 @@ pub trait Gate {
 }
 
 /// A gate that is open to all.
-#[derive(Clone, Copy, Debug)]
+#[derive(Clone, Copy)]
 pub struct OpenGate;
 
 impl Gate for OpenGate {

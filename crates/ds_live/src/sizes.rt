@@ -4,7 +4,7 @@ ghost use Rattle.std.specs.Prelude.{◌≡◌, ◌+◌, IsTrue};
 ghost use Rattle.ds_live.specs.Sizes.{are_fit};
 
 /// The number of workers, and of the turns that each takes.
-#[derive(Clone, Copy, Debug, PartialEq, Eq)]
+#[derive(Clone, Copy, PartialEq, Eq)]
 pub struct Sizes {
     /// The number of publishers, 1 to 8.
     pub publishers: u32,

@@ -6,7 +6,7 @@ use ds_names::{Endpoint, Generation, Key, Name, Version};
 use ds_pattern::Query;
 
 /// The keys that a reader asks about. A floor is under every scope.
-#[derive(Debug, Drop)]
+#[derive(Drop)]
 pub enum Scope {
     /// Every key.
     All,
@@ -15,7 +15,7 @@ pub enum Scope {
 }
 
 /// A command to a store.
-#[derive(Debug, Drop)]
+#[derive(Drop)]
 pub enum Command {
     /// Puts a value under a key, owned by the caller. A live entry is overwritten only with `overwrite`.
     Publish {

@@ -15,7 +15,6 @@ use regex_nfa::Nfa;
 use regex_syntax::{Config, ErrorKind};
 use regex_vm::PikeVm;
 use std::alloc::{AllocError, Global};
-use std::fmt;
 use std::marker::Model;
 use thiserror::Error;
 
@@ -152,12 +151,6 @@ impl Pattern {
         ensures { IsTrue result ↔ (self.now ≡ codes ".*") }
     {
         self.is_dot_star
-    }
-}
-
-impl fmt::Debug for Pattern {
-    fn fmt<W: fmt::Write>(&self, f: &mut fmt::Formatter<W>) -> fmt::Result {
-        f.debug_tuple("Pattern").field(&self.text).finish()
     }
 }
 

@@ -11,7 +11,7 @@ use std::alloc::Global;
 use std::marker::Model;
 
 /// The text of a pattern, unchecked: any bytes, of any length.
-#[derive(Debug, Drop)]
+#[derive(Drop)]
 pub struct PatternText {
     bytes: Vec<u8>,
 }
@@ -66,7 +66,7 @@ impl Eq for PatternText {
 /// A subscriber's query: some kinds, and a pattern that matches the names of entries whole.
 ///
 /// Whether the text is a pattern is checked only when the query is compiled.
-#[derive(Debug, PartialEq, Eq, Drop)]
+#[derive(PartialEq, Eq, Drop)]
 pub struct Query {
     pub text: PatternText,
     pub kinds: Kinds,

@@ -3,7 +3,7 @@
 use ds_pattern::Query;
 
 /// What a service reads, and in how many commands.
-#[derive(Debug, Drop)]
+#[derive(Drop)]
 pub struct Reading {
     /// The entries to read: those under this query, and all floors.
     pub query: Query,

@@ -4,14 +4,14 @@ use ds_machine::Command;
 use ds_pattern::Query;
 
 /// One of the two stores.
-#[derive(Clone, Copy, Debug, PartialEq, Eq)]
+#[derive(Clone, Copy, PartialEq, Eq)]
 pub enum Side {
     A,
     B,
 }
 
 /// A holder of items: a store, or the map of this number, counted from 0.
-#[derive(Clone, Copy, Debug, PartialEq, Eq)]
+#[derive(Clone, Copy, PartialEq, Eq)]
 pub enum Holder {
     Store(Side),
     Map(usize),

@@ -1,7 +1,7 @@
 //! What a world's stores are opened with.
 
 /// What a store is opened with. Not part of MINIX 3.
-#[derive(Clone, Copy, Debug, PartialEq, Eq)]
+#[derive(Clone, Copy, PartialEq, Eq)]
 pub struct Seed {
     /// The number of this run of the store.
     pub incarnation: u64,

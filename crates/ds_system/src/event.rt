@@ -5,7 +5,7 @@ use ds_names::{Endpoint, Key, Name};
 use ds_replica::{Event, Side};
 
 /// One of the two servers with a driver table. Not part of MINIX 3.
-#[derive(Clone, Copy, Debug, PartialEq, Eq)]
+#[derive(Clone, Copy, PartialEq, Eq)]
 pub enum Table {
     /// The file server, which follows map 0.
     File,

@@ -59,13 +59,17 @@ pub(crate) fn print_explained(rt: &impl Runtime, word: &[u8]) -> io::Result<bool
     }
     let is_known = print_word(rt, Stream::Output, word, &mut search)?;
     if !is_known {
-        let shown = Plain(&word[..word.len().min(SHOWN)]);
-        let meant = Meant::of(word, search.found());
-        let _ = eprintln!(rt;
-            "dsctl: `{shown}` isn't a command, a line, an answer, a refusal or a kind{meant}: see dsctl --help"
-        );
+        tell_unknown(rt, word, search.found());
     }
     Ok(is_known)
+}
+
+fn tell_unknown(rt: &impl Runtime, word: &[u8], near: Option<&'static str>) {
+    let shown = Plain(&word[..word.len().min(SHOWN)]);
+    let meant = Meant::of(word, near);
+    let _ = eprintln!(rt;
+        "dsctl: `{shown}` isn't a command, a line, an answer, a refusal or a kind{meant}: see dsctl --help"
+    );
 }
 
 // Writes the help's rows about a word, and returns whether there are any. Offers each row's word to the search.
@@ -75,29 +79,22 @@ fn print_word(
     word: &[u8],
     search: &mut Search<'_>,
 ) -> io::Result<bool> {
-    let lines = print_rows(rt, stream, lines(), word, search)?;
-    let answers = print_rows(rt, stream, answers(), word, search)?;
-    let parts = print_rows(rt, stream, parts(), word, search)?;
-    let refusals = print_rows(rt, stream, all_refusals(), word, search)?;
-    let kinds = print_rows(rt, stream, kinds(), word, search)?;
-    Ok(lines || answers || parts || refusals || kinds)
+    let mut is_known = false;
+    for rows in all_rows() {
+        is_known |= print_rows(rt, stream, rows, word, search)?;
+    }
+    Ok(is_known)
 }
 
-// Each of these four returns the help's rows of a sort.
-fn lines() -> &'static str {
-    between(LONG_ABOUT, LINES_BEGIN, PARAGRAPH_ENDS)
-}
-
-fn answers() -> &'static str {
-    between(LONG_ABOUT, ANSWERS_BEGIN, PARAGRAPH_ENDS)
-}
-
-fn parts() -> &'static str {
-    between(LONG_ABOUT, PARTS_BEGIN, PARAGRAPH_ENDS)
-}
-
-fn kinds() -> &'static str {
-    between(LONG_ABOUT, KINDS_BEGIN, PARAGRAPH_ENDS)
+// Returns the help's rows of each sort.
+fn all_rows() -> [&'static str; 5] {
+    [
+        between(LONG_ABOUT, LINES_BEGIN, PARAGRAPH_ENDS),
+        between(LONG_ABOUT, ANSWERS_BEGIN, PARAGRAPH_ENDS),
+        between(LONG_ABOUT, PARTS_BEGIN, PARAGRAPH_ENDS),
+        all_refusals(),
+        between(LONG_ABOUT, KINDS_BEGIN, PARAGRAPH_ENDS),
+    ]
 }
 
 // Writes the rows that begin with a word, with their further lines, and returns whether there are any. Offers each

@@ -19,7 +19,7 @@ const REFUSALS_END: &str = "Exit status:\n";
 const SETTINGS_EXIST: &str = "settings were accepted already: RS begins once";
 
 /// The sort of line that was refused: a word may mean something else for each.
-#[derive(Clone, Copy, Debug, PartialEq, Eq)]
+#[derive(Clone, Copy, PartialEq, Eq)]
 pub enum Topic {
     /// A line to a store or a map.
     Store,

@@ -1,7 +1,7 @@
 //! The error of a call of a reader or a writer.
 
 /// Why a read returned nothing, or a write took nothing.
-#[derive(Clone, Copy, Debug, PartialEq, Eq)]
+#[derive(Clone, Copy, PartialEq, Eq)]
 pub enum Missed {
     /// A signal interrupted the call. The next one may succeed.
     Interrupted,

@@ -12,7 +12,7 @@ use crate::transfer::Filled;
 pub const LONGEST_LINE: usize = 4096;
 
 /// The outcome of a move to the next line.
-#[derive(Clone, Copy, Debug, PartialEq, Eq)]
+#[derive(Clone, Copy, PartialEq, Eq)]
 pub enum Pulled {
     /// The next line was reached.
     Line,

@@ -9,7 +9,7 @@ use crate::missed::Missed;
 use crate::streams::{Sink, Source};
 
 /// The outcome of one read.
-#[derive(Clone, Copy, Debug, PartialEq, Eq)]
+#[derive(Clone, Copy, PartialEq, Eq)]
 pub enum Filled {
     /// Some bytes were read.
     More,
@@ -43,7 +43,7 @@ pub(crate) fn fill<R: Source>(reader: &mut R, chunk: &mut [u8], pending: &mut Ve
 }
 
 /// The error when a writer fails or takes no bytes.
-#[derive(Clone, Copy, Debug, PartialEq, Eq)]
+#[derive(Clone, Copy, PartialEq, Eq)]
 pub struct WriteFailed;
 
 /// Writes all of the text. If the writer fails, it has taken a prefix of the text.

@@ -12,7 +12,7 @@ use std::alloc::{AllocFailed, Global};
 use std::marker::Model;
 
 /// One action of RS.
-#[derive(Debug, Drop)]
+#[derive(Drop)]
 pub enum Action {
     /// Kill the process.
     Kill(Endpoint),
@@ -43,7 +43,7 @@ impl Action {
 }
 
 /// A list of actions.
-#[derive(Debug, Drop)]
+#[derive(Drop)]
 pub struct Actions {
     actions: Vec<Action>,
 }

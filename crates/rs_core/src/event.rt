@@ -6,7 +6,7 @@ use ds_names::{Endpoint, Name};
 ///
 /// `Up`, `Stop`, `Refresh` and `Restart` are what MINIX 3's `service` command requests for a label (`up`, `down`,
 /// `refresh`, `restart`).
-#[derive(Clone, Copy, Debug)]
+#[derive(Clone, Copy)]
 pub enum Event {
     /// Start the service.
     Up(Name),

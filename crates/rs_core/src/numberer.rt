@@ -13,7 +13,7 @@ use thiserror::Error;
 pub struct SeqSpent;
 
 /// Numbers the changes of one generation, using each number once. Not part of MINIX 3.
-#[derive(Debug, Drop)]
+#[derive(Drop)]
 pub struct Numberer {
     generation: Generation,
     seq: u32,

@@ -8,7 +8,7 @@ ghost use Rattle.rs_core.specs.Kept.{IsAtRest};
 use ds_names::{Endpoint, Generation};
 
 /// A running instance.
-#[derive(Clone, Copy, Debug, PartialEq, Eq)]
+#[derive(Clone, Copy, PartialEq, Eq)]
 pub struct Running {
     pub endpoint: Endpoint,
     /// The tick of its start.
@@ -22,7 +22,7 @@ pub struct Running {
 }
 
 /// A wait for the next start.
-#[derive(Clone, Copy, Debug, PartialEq, Eq)]
+#[derive(Clone, Copy, PartialEq, Eq)]
 pub struct Pause {
     /// The tick at which it is over.
     pub until: u64,
@@ -32,7 +32,7 @@ pub struct Pause {
 
 /// What RS knows about a service: it is down (never started, or stopped), it runs, it failed and waits, or it failed
 /// more often than its limit.
-#[derive(Clone, Copy, Debug, PartialEq, Eq)]
+#[derive(Clone, Copy, PartialEq, Eq)]
 pub enum State {
     Down,
     Up(Running),

@@ -7,7 +7,7 @@ ghost use Rattle.rs_settings.specs.Shared.{is_network};
 /// What a service drives: block devices, character devices, network devices, or none.
 ///
 /// MINIX 3 has block and character drivers, found by major numbers, network drivers, found by ports, and servers.
-#[derive(Clone, Copy, Debug, PartialEq, Eq)]
+#[derive(Clone, Copy, PartialEq, Eq)]
 pub enum Class {
     Block,
     Character,

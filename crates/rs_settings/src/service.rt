@@ -8,7 +8,7 @@ use ds_names::{Key, Kind, Name, NoRoom};
 use std::alloc::Global;
 
 /// A service of RS's settings.
-#[derive(Debug, Drop)]
+#[derive(Drop)]
 pub struct Service {
     /// The service's name, never `rs`.
     pub label: Name,

@@ -9,7 +9,7 @@ use std::alloc::{AllocFailed, Global};
 use std::marker::Model;
 
 /// A list of services.
-#[derive(Debug, Drop)]
+#[derive(Drop)]
 pub struct Services {
     services: Vec<Service>,
 }

@@ -29,7 +29,7 @@ use toml::{Table, Value};
 /// Settings of RS: how many process slots it may use, 1 to 1008, and at most 64 services.
 ///
 /// No two services have the same label, major number or port, and no name is published twice.
-#[derive(Debug, Drop)]
+#[derive(Drop)]
 pub struct Settings {
     slots: u32,
     services: Services,

@@ -1,7 +1,7 @@
 //! The wording of the reply to a Merge.
 
 /// The wording of the reply to a Merge: an offer's by the outcome of its one item, any other's by its counts.
-#[derive(Clone, Copy, Debug, PartialEq, Eq)]
+#[derive(Clone, Copy, PartialEq, Eq)]
 pub enum Wording {
     /// `taken`, `stale` or `known`, or `refused WORD`.
     AsOffer,

@@ -8,7 +8,7 @@ use ds_held::Limits;
 use trace_walk::{Format, Header};
 
 /// The format of a trace, and the limits of its store. Format 1 has 64 subscriptions and 1024 keys.
-#[derive(Clone, Copy, Debug, PartialEq, Eq)]
+#[derive(Clone, Copy, PartialEq, Eq)]
 pub enum Form {
     One,
     Two(Limits),

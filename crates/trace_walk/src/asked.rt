@@ -30,7 +30,7 @@ pub enum Head {
 }
 
 /// Why a line can't be read.
-#[derive(Clone, Copy, Debug, PartialEq, Eq)]
+#[derive(Clone, Copy, PartialEq, Eq)]
 pub enum AskedFault {
     BadLine,
     NoRoom,

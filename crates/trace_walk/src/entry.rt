@@ -15,7 +15,7 @@ use line_io::{Lines, Pulled, Source};
 use std::alloc::Global;
 
 /// Why the lines of an entry can't be read on.
-#[derive(Clone, Copy, Debug, PartialEq, Eq)]
+#[derive(Clone, Copy, PartialEq, Eq)]
 pub enum EntryFault {
     /// The line with this number, from 1, is above 4096 bytes, or isn't an item's where one must follow.
     BadLine(u64),

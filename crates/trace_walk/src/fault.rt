@@ -10,7 +10,7 @@ use ds_names::NoRoom;
 use std::alloc::AllocError;
 
 /// Why a walk through a trace ended before its input did.
-#[derive(Clone, Copy, Debug, PartialEq, Eq)]
+#[derive(Clone, Copy, PartialEq, Eq)]
 pub enum WalkFault {
     /// The line with this number, from 1, must be a reply line, and no legal trace has it there.
     IllegalAt(u64),

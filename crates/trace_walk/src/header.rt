@@ -11,14 +11,14 @@ use ds_names::limits::{LARGEST_RING, LAST_PLACE};
 const MOST_LIMIT: u64 = 4096;
 
 /// The format of a trace. A sweep leaves tombstones in format 1, and raises a floor in format 2.
-#[derive(Clone, Copy, Debug, PartialEq, Eq)]
+#[derive(Clone, Copy, PartialEq, Eq)]
 pub enum Format {
     One,
     Two,
 }
 
 /// How the store of a trace was opened.
-#[derive(Clone, Copy, Debug, PartialEq, Eq)]
+#[derive(Clone, Copy, PartialEq, Eq)]
 pub struct Header {
     pub format: Format,
     pub incarnation: u64,

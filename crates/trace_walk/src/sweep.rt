@@ -19,7 +19,7 @@ use script_commands::ScriptCommand;
 use std::alloc::Global;
 
 /// A sweep that RS sends.
-#[derive(Clone, Copy, Debug)]
+#[derive(Clone, Copy)]
 pub struct Sweep {
     pub caller: Endpoint,
     pub owner: Name,

@@ -7,7 +7,7 @@ use crate::walk::Walk;
 use line_io::{LONGEST_LINE, Lines, split_line};
 
 /// The sort of line that must follow.
-#[derive(Clone, Copy, Debug, PartialEq, Eq)]
+#[derive(Clone, Copy, PartialEq, Eq)]
 pub enum Wanted {
     /// The header.
     Header,
@@ -20,7 +20,7 @@ pub enum Wanted {
 }
 
 /// The line that a trace has.
-#[derive(Clone, Copy, Debug)]
+#[derive(Clone, Copy)]
 pub enum Stands<'a> {
     /// This line, with its newline.
     Line(&'a [u8]),
@@ -31,7 +31,7 @@ pub enum Stands<'a> {
 }
 
 /// The first line of a trace that no legal trace has in its place.
-#[derive(Clone, Copy, Debug)]
+#[derive(Clone, Copy)]
 pub struct WrongLine<'a> {
     /// Its number, from 1.
     pub number: u64,

@@ -3,12 +3,13 @@
 use crate::settings_fault::Place;
 use ds_names::NoRoom;
 use std::alloc::Global;
+use std::fmt;
 use std::rt::Runtime;
 
 /// Sentences about faults, each with its line. Those without a line come first.
 #[derive(Drop)]
 pub(crate) struct Faults {
-    pub alloc: Global,
+    alloc: Global,
     told: Vec<Told>,
 }
 
@@ -31,7 +32,11 @@ impl Faults {
     /// Adds a fault after those of its line and of lines before it.
     ///
     /// NoRoom: out of memory.
-    pub(crate) fn add(&mut self, place: Place<'_>, said: String) -> Result<(), NoRoom> {
+    pub(crate) fn add(
+        &mut self,
+        place: Place<'_>,
+        said: impl fmt::Display + Drop,
+    ) -> Result<(), NoRoom> {
         let line = place.line.unwrap_or(0);
         let text = format!(in self.alloc; "dsctl: {place}{said}")?;
         let before = self.told.iter().take_while(|it| it.line <= line).count();

@@ -5,7 +5,7 @@ use ds_names::{is_name_byte, read_decimal};
 use std::fmt;
 
 /// The kinds of texts that `dsctl` reads.
-#[derive(Clone, Copy, Debug, PartialEq, Eq)]
+#[derive(Clone, Copy, PartialEq, Eq)]
 pub enum TextKind {
     Script,
     Trace,

@@ -86,18 +86,29 @@ fn add_document(faults: &mut Faults, document: Document<'_>) -> Result<(), NoRoo
 fn add_service(faults: &mut Faults, document: Document<'_>, index: usize) -> Result<(), NoRoom> {
     let Some(fields) = service_at(document.table, index) else {
         let place = document.place(Some(index), "service");
-        return faults.add(place, format!(in faults.alloc; "a table was expected")?);
+        return faults.add(place, "a table was expected");
     };
     add_unknown(faults, document, Some(index), fields)?;
+    add_missing(faults, document, index, fields)?;
+    for field in OF_SERVICE {
+        add_value(faults, document, Some(index), fields, field)?;
+    }
+    Ok(())
+}
+
+// Adds each field that a service needs and hasn't.
+fn add_missing(
+    faults: &mut Faults,
+    document: Document<'_>,
+    index: usize,
+    fields: &Table,
+) -> Result<(), NoRoom> {
     for field in OF_SERVICE {
         if is_needed(fields, field) && fields.get(field).is_none() {
             let wanted = wanted_in(field);
-            let said = format!(in faults.alloc; "`{field}` is missing; {wanted} was expected")?;
+            let said = format_args!("`{field}` is missing; {wanted} was expected");
             faults.add(document.header(index), said)?;
         }
-    }
-    for field in OF_SERVICE {
-        add_value(faults, document, Some(index), fields, field)?;
     }
     Ok(())
 }
@@ -117,7 +128,7 @@ fn add_unknown(
         }
         let shown = Plain(key.as_bytes());
         let near = IfNear(nearest(key.as_bytes(), known));
-        let said = format!(in faults.alloc; "`{shown}` isn't a field{near}")?;
+        let said = format_args!("`{shown}` isn't a field{near}");
         faults.add(document.place(service, key), said)?;
     }
     Ok(())
@@ -140,17 +151,14 @@ fn add_value(
     let place = document.place(service, field);
     let given = Given(value);
     if field == "unit" && text_in(fields, "class") == Some("server") {
-        return faults.add(
-            place,
-            format!(in faults.alloc; "`unit` is {given}; a server has none")?,
-        );
+        return faults.add(place, format_args!("`unit` is {given}; a server has none"));
     }
     let wanted = wanted_in(field);
     let near = IfNear(match (field, value.as_str()) {
         ("class", Some(class)) => nearest(class.as_bytes(), &crate::field::CLASSES),
         _ => None,
     });
-    let said = format!(in faults.alloc; "`{field}` is {given}; {wanted} was expected{near}")?;
+    let said = format_args!("`{field}` is {given}; {wanted} was expected{near}");
     faults.add(place, said)
 }
 

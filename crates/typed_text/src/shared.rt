@@ -28,14 +28,17 @@ fn add_label(faults: &mut Faults, document: Document<'_>, index: usize) -> Resul
     };
     for earlier in 0..index {
         if has_label(document.table, earlier, label) {
-            let there = document.place(Some(earlier), "label");
-            let said = match there.line {
-                Some(line) => format!(in faults.alloc;
-                    "`label` is that of another service, in line {line}, too"
-                )?,
-                None => format!(in faults.alloc; "`label` is that of service {earlier}, too")?,
+            let place = document.place(Some(index), "label");
+            return match document.place(Some(earlier), "label").line {
+                Some(line) => faults.add(
+                    place,
+                    format_args!("`label` is that of another service, in line {line}, too"),
+                ),
+                None => faults.add(
+                    place,
+                    format_args!("`label` is that of service {earlier}, too"),
+                ),
             };
-            return faults.add(document.place(Some(index), "label"), said);
         }
     }
     Ok(())
@@ -59,9 +62,7 @@ fn add_unit(faults: &mut Faults, document: Document<'_>, index: usize) -> Result
     for earlier in 0..index {
         if has_unit(document.table, earlier, unit, is_network(fields)) {
             let there = document.place(Some(earlier), "unit");
-            let said = format!(in faults.alloc;
-                "`unit` is {unit}, as in {there}each is one driver's"
-            )?;
+            let said = format_args!("`unit` is {unit}, as in {there}each is one driver's");
             return faults.add(document.place(Some(index), "unit"), said);
         }
     }
@@ -112,16 +113,15 @@ fn add_published(
     earlier: Option<usize>,
 ) -> Result<(), NoRoom> {
     let shown = Plain(name.as_bytes());
-    let said = match earlier {
-        Some(earlier) => {
-            let there = document.place(Some(earlier), "publishes");
-            format!(in faults.alloc;
-                "`publishes` has \"{shown}\", as in {there}each name is published once"
-            )?
-        }
-        None => format!(in faults.alloc; "`publishes` has \"{shown}\" twice")?,
+    let place = document.place(Some(index), "publishes");
+    let Some(earlier) = earlier else {
+        return faults.add(place, format_args!("`publishes` has \"{shown}\" twice"));
     };
-    faults.add(document.place(Some(index), "publishes"), said)
+    let there = document.place(Some(earlier), "publishes");
+    let said = format_args!(
+        "`publishes` has \"{shown}\", as in {there}each name is published once"
+    );
+    faults.add(place, said)
 }
 
 // Returns the values that a service publishes.
