@@ -84,7 +84,9 @@ def a_tunnel_of_tls(fleet, draw):
         shows(far, lines)
         with contextlib.closing(Tunnel(fleet.home, port, "other.example.org")) as other:
             lost = server.start(url=other.url(), wait=False)
-            until(lambda: lost.said().count("event=away") and "event=met" not in lost.said(), "a server of another name isn't used")
+            until(lambda: "event=away" in lost.said(), "a server of another name isn't used")
+            time.sleep(0.5)  # it tries again meanwhile
+            assert "event=met" not in lost.said()
             server.bridges.remove(lost)
             lost.kill()
         server.end()

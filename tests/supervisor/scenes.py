@@ -228,7 +228,7 @@ def is_in_group(pid, group):
 
 @scene
 def what_is_told_to_go_down_may_end_itself(host):
-    """`service down` sends SIGTERM, and SIGKILL after the grace. A missing heartbeat leads to SIGKILL at once."""
+    """`service down` sends SIGTERM, and SIGKILL after the grace."""
     body = '''
 signal.signal(signal.SIGTERM, lambda *_: (note("asked to end"), os._exit(0) if label == "kind" else None))
 note("there")
