@@ -86,7 +86,7 @@ def a_tunnel_of_tls(fleet, draw):
             lost = server.start(url=other.url(), wait=False)
             until(lambda: "event=away" in lost.said(), "a server of another name isn't used")
             time.sleep(0.5)  # it tries again meanwhile
-            assert "event=met" not in lost.said()
+            assert "event=met" not in lost.said(), lost.said()
             server.bridges.remove(lost)
             lost.kill()
         server.end()
