@@ -6,7 +6,8 @@ use ds_script::{
     BadLine, BadLines, ReplayFault, Replayed, Report, replay_reporting, replay_without_notes,
 };
 use dsctl_cli::{Answers, Failure, Greeting, Input, LastLine, Replaying, Terminals, Typed, greet};
-use line_io::Plain;
+use line_io::{Plain, Sink, Source};
+use std::alloc::Global;
 use std::io::{self, Read};
 use std::process::ExitCode;
 use std::rt::Runtime;
@@ -97,23 +98,14 @@ pub(crate) fn replay_input<R: Runtime + AllocGlobal>(
         kind: kind_of(&reader.0, terminals, has_notes),
         unwritten: None,
     };
-    let replayed = if has_notes {
-        replay_without_notes(
-            rt.alloc(),
-            &mut reader,
-            &mut writer,
-            &mut explainer,
-            bad_lines,
-        )
-    } else {
-        replay_reporting(
-            rt.alloc(),
-            &mut reader,
-            &mut writer,
-            &mut explainer,
-            bad_lines,
-        )
-    };
+    let replayed = answer(
+        rt.alloc(),
+        &mut reader,
+        &mut writer,
+        &mut explainer,
+        bad_lines,
+        has_notes,
+    );
     let mut stepped = reader.0;
     let status = outcome(
         replayed,
@@ -124,6 +116,22 @@ pub(crate) fn replay_input<R: Runtime + AllocGlobal>(
     match stepped.end_answer() {
         Ok(()) => Ok(status),
         Err(error) => Err(Failure::WriteFault(Some(error))),
+    }
+}
+
+// Answers the lines of a script. `has_notes`: its format has empty lines and comments, which are passed over.
+fn answer<R: Source, W: Sink, B: Report>(
+    alloc: Global,
+    reader: &mut R,
+    writer: &mut W,
+    report: &mut B,
+    bad_lines: BadLines,
+    has_notes: bool,
+) -> Result<Replayed, ReplayFault> {
+    if has_notes {
+        replay_without_notes(alloc, reader, writer, report, bad_lines)
+    } else {
+        replay_reporting(alloc, reader, writer, report, bad_lines)
     }
 }
 
