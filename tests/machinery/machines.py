@@ -49,7 +49,7 @@ class Machine(supervisors.Host):
 
     def __init__(self, supervisor, built, blocks=4096, disks=2):
         super().__init__([supervisor / "dsrs"], supervisor)
-        shutil.copytree(built, self.home, dirs_exist_ok=True)
+        subprocess.run(["cp", "-R", f"{built}/.", self.home], check=True)  # another process, as in write_program
         self.blocks, self.disks, self.applications, self.supervised = blocks, disks, [], None
         self.make(blocks)
         if disks == 1:
@@ -66,7 +66,7 @@ class Machine(supervisors.Host):
         (self.home / "settings.toml").write_text("[[service]]".join(kept))
         for label in ("fs", "probe") if "disk1" in labels else ():
             run = self.home / "services" / label / "run"
-            run.write_text(run.read_text().replace(" ../../disk1.image", "").replace("disk0 disk1", "disk0"))
+            supervisors.write_program(run, run.read_text().replace(" ../../disk1.image", "").replace("disk0 disk1", "disk0"))
 
     def begin(self, tick=1):
         self.start(settings=(self.home / "settings.toml").read_text(), tick=tick, options=("--grace", "0"))

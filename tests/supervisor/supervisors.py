@@ -97,6 +97,14 @@ def toml(services):
     return text.replace("'", '"')
 
 
+def write_program(path, text):
+    """Writes a script by a process of its own.
+
+    A file can't be run while it is open for writing. If it were open here, a child that another thread has just forked would have it open, too.
+    """
+    subprocess.run(["install", "-D", "-m", "755", "/dev/stdin", path], input=text, text=True, check=True)
+
+
 class Host:
     """A supervisor, and everything that it started. All of it ends with the `with`."""
 
@@ -118,10 +126,7 @@ class Host:
 
     def service(self, label, body, name="run"):
         """Writes the program of a service: what it does after SERVICE, or a whole script."""
-        path = self.home / "services" / label / name
-        path.parent.mkdir(parents=True, exist_ok=True)
-        path.write_text(body if body.startswith("#!") else SERVICE + body)
-        path.chmod(0o755)
+        write_program(self.home / "services" / label / name, body if body.startswith("#!") else SERVICE + body)
 
     def start(self, services=None, settings=None, tick=SLOW, options=()):
         """Starts a supervisor over services: each label's fields, and its body, unless that is None."""
