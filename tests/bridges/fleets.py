@@ -2,6 +2,7 @@
 
 Each server is a process in a folder of its own, on a free port of the loopback. Each bridge is a `dsfleet` with a socket there.
 """
+import contextlib
 import os
 import pathlib
 import re
@@ -66,26 +67,33 @@ def free_port():
 
 
 class Fleet:
-    """A server and the bridges that share it. All of them end with the `with`."""
+    """A server, the bridges that share it, and what a scene puts between them. All of them end with the `with`."""
 
     def __init__(self, words, keep=None, syncs="everysec", host="127.0.0.1", port=None, settings=()):
         self.words, self.keep, self.syncs = words, keep, syncs  # the command that starts a bridge; when the server syncs its file
         self.host, self.settings = host, settings  # the server's address, and more of its options
         self.home = tempfile.mkdtemp(prefix="fleet", dir=MEMORY if os.access(MEMORY, os.W_OK) else None)
         self.bridges, self.server, self.port = [], None, port or free_port()
+        self.adopted = contextlib.ExitStack()
 
     def __enter__(self):
         self.start_server()
         return self
 
     def __exit__(self, *_):
+        self.adopted.close()
         for bridge in self.bridges:
             bridge.kill()
         self.kill_server()
         shutil.rmtree(self.home)
 
+    def adopt(self, it):
+        """Returns a proxy or a name server, which is closed before the bridges end."""
+        return self.adopted.enter_context(contextlib.closing(it))
+
     def end(self):
         """Ends all bridges by a signal, and checks that none failed and no sanitizer or valgrind complained."""
+        self.adopted.close()
         for bridge in self.bridges:
             status = bridge.end() if bridge.process else 0
             fault = FAULT.search(bridge.said())

@@ -178,7 +178,7 @@ def only_what_is_lost_is_told_again(fleet, draw):
 
 def a_snapshot_lost_while_it_is_read(fleet, draw):
     """A snapshot that is deleted after a bridge read it from another server, and before it compares, is sent again."""
-    script = Scripted(fleet.port)
+    script = fleet.adopt(Scripted(fleet.port))
     bridge, lines = fleet.start(url=script.url()), numbers("a", 60)
     for line in lines:
         offer(bridge, line)
@@ -193,7 +193,6 @@ def a_snapshot_lost_while_it_is_read(fleet, draw):
     script.cut()
     until(lost.is_used, "the snapshot is read", 10)
     until(lambda: {it.encode() for it in lines} <= set(fleet.told()), "what was in it is sent again", 10)
-    script.close()
 
 
 # ---- reading ----
@@ -244,7 +243,7 @@ def paused_and_trimmed_under(fleet, draw):
 
 def a_connection_that_dies_in_silence(fleet, draw):
     """The connection on which a bridge waits dies in silence. The bridge notices that an entry doesn't arrive, and reconnects."""
-    proxy = Proxy(fleet.port)
+    proxy = fleet.adopt(Proxy(fleet.port))
     first, deaf = fleet.start(), fleet.start(url=proxy.url())
     lines = [number("a", 1, 1)]
     offer(first, *lines)
@@ -254,12 +253,11 @@ def a_connection_that_dies_in_silence(fleet, draw):
     offer(first, lines[-1])
     shows(deaf, lines)
     assert "didn't come" in deaf.said()
-    proxy.close()
 
 
 def a_listener_that_is_swallowed(fleet, draw):
     """A listener's connection that never reaches the server, at the start or after a blip, is given up, and the bridge reconnects."""
-    proxy = Proxy(fleet.port, 1)
+    proxy = fleet.adopt(Proxy(fleet.port, 1))
     first, deaf = fleet.start(), fleet.start(url=proxy.url(), wait=False)
     lines = [number("a", 1, 1)]
     offer(first, *lines)
@@ -270,18 +268,16 @@ def a_listener_that_is_swallowed(fleet, draw):
     offer(first, lines[-1])
     shows(deaf, lines, 15)
     assert deaf.said().count("the server answers nothing") == 2, deaf.said()
-    proxy.close()
 
 
 def a_rest_that_is_swallowed(fleet, draw):
     """A listener's connection that dies while nothing arrives is given up, too: a living server answers a reading within seconds."""
-    proxy = Proxy(fleet.port)
+    proxy = fleet.adopt(Proxy(fleet.port))
     bridge = fleet.start(url=proxy.url())
     time.sleep(0.5)
     proxy.mute()
     until(lambda: bridge.state()["connections"] == "2", "it reconnects", 20)
     assert "the server answers nothing" in bridge.said(), bridge.said()
-    proxy.close()
 
 
 def a_connection_at_rest(fleet, draw):
@@ -375,7 +371,7 @@ def ids_that_go_back(fleet, draw):
 
 def a_young_stream_that_is_replaced(fleet, draw):
     """An entry that is flushed before any bridge compared, and replaced by another one, is sent again."""
-    script = Scripted(fleet.port)
+    script = fleet.adopt(Scripted(fleet.port))
     bridge, compared = fleet.start(url=script.url()), script.asked["HGETALL ds:digests"]
     until(lambda: script.asked["HGETALL ds:digests"] > compared, "it has just compared")
     offer(bridge, number("young", 1, 1))
@@ -383,7 +379,6 @@ def a_young_stream_that_is_replaced(fleet, draw):
     offer(bridge, number("after", 1, 1))
     until(lambda: number("young", 1, 1).encode() in fleet.told(), "it is sent again", 5)
     shows(fleet.start(), [number("young", 1, 1), number("after", 1, 1)])
-    script.close()
 
 
 def a_stream_that_is_replaced(fleet, draw):
@@ -777,7 +772,7 @@ def a_scope_that_changes(fleet, draw):
 
 def a_name_that_is_not_answered(fleet, draw):
     """While a name server doesn't answer, clients are answered, the address that worked last is used, and a signal ends the bridge."""
-    names = Names()
+    names = fleet.adopt(Names())
     names.answer(f"127.0.0.3 {fleet.host}")  # nothing listens at the first one
     bridge = fleet.start(url=f"redis://fleet.test:{fleet.port}", named=names.named)
     offer(bridge, number("a", 1, 1))
@@ -805,12 +800,11 @@ def a_name_that_is_not_answered(fleet, draw):
     assert time.monotonic() - begun < 3, "the signal waits for the name"
     names.answer(fleet.host)
     fleet.start_server()
-    names.close()
 
 
 def a_server_that_is_demoted(fleet, draw):
     """A bridge leaves a server that becomes a replica, looks its name up again, and finds the new master."""
-    names = Names()
+    names = fleet.adopt(Names())
     names.answer(fleet.host)
     bridge = fleet.start(url=f"redis://fleet.test:{fleet.port}", named=names.named)
     offer(bridge, number("a", 1, 1))
@@ -828,7 +822,6 @@ def a_server_that_is_demoted(fleet, draw):
         names.answer(fleet.host)
         offer(bridge, number("c", 1, 1))
         assert number("c", 1, 1).encode() in fleet.told()
-    names.close()
 
 
 # ---- clients, sockets, words ----

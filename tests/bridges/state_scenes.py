@@ -38,12 +38,11 @@ class Walk:
 @contextlib.contextmanager
 def walking(fleet, name, *options):
     """Yields a walk, a scripted server and its bridge. At the end the bridge must be in step, and all cells walked."""
-    walk, script = Walk(name, fleet), Scripted(fleet.port)
+    walk, script = Walk(name, fleet), fleet.adopt(Scripted(fleet.port))
     bridge = fleet.start(*options, url=script.url())
     yield walk, script, bridge
     in_step(bridge)
     walk.ends()
-    script.close()
 
 
 def in_step(bridge):
@@ -77,7 +76,7 @@ def states_of_the_server(fleet, draw):
         walk("AWAY | the pause is over, master found")
         walk("CALLED | a meeting answered, as it should")
 
-        nobody = Scripted(fleet.port)  # queried as a Sentinel, it knows no master
+        nobody = fleet.adopt(Scripted(fleet.port))  # queried as a Sentinel, it knows no master
         nobody.script("SENTINEL", NOTHING, 1000)
         lost = fleet.start(url=nobody.url().replace("redis", "redis-sentinel", 1) + "/ds", wait=False)
         says(lost, "the Sentinel knows no such master")
@@ -107,7 +106,7 @@ def states_of_the_server(fleet, draw):
         in_step(bridge)
         walk("CALLED | .. by a cluster, keys on many nodes")
 
-        two = Scripted(fleet.port)
+        two = fleet.adopt(Scripted(fleet.port))
         two.script("INFO", lambda raw: raw.replace(b"role:master", b"role:slave "), whole=True)
         other = fleet.start(url=f"{two.url()},127.0.0.1:{fleet.port}")
         says(other, "it is a replica")
@@ -145,7 +144,7 @@ def states_of_the_server(fleet, draw):
         walk("MET | MOVED")
         other.end()
         fleet.bridges.remove(other)
-        moving = Scripted(fleet.port)
+        moving = fleet.adopt(Scripted(fleet.port))
         moving.script("XINFO", moved, 1000)
         other = fleet.start(url=moving.url())
         assert moving.count == 2, "it calls the first node again"
@@ -155,7 +154,7 @@ def states_of_the_server(fleet, draw):
 
 def states_of_the_master(fleet, draw):
     """Scripted Sentinels and plain addresses lead to the master through each state."""
-    walk, script = Walk("master", fleet), Scripted(fleet.port)
+    walk, script = Walk("master", fleet), fleet.adopt(Scripted(fleet.port))
     closed = free_port()
 
     def named(host, port):
@@ -182,7 +181,7 @@ def states_of_the_master(fleet, draw):
     walk("LISTED | no address")
     walk("LISTED | a server's address is found")
     for state in ("LISTED", "NAMED"):
-        moving = Scripted(fleet.port)
+        moving = fleet.adopt(Scripted(fleet.port))
         moving.script("HGET ds:snapshot at", f"-MOVED 1 127.0.0.1:{fleet.port}\r\n".encode())
         script.script_first("SENTINEL", named("127.0.0.1", moving.port_of()), 1000)
         moved = fleet.start(url=moving.url() if state == "LISTED" else f"redis-sentinel://127.0.0.1:{script.port_of()}/ds")
@@ -192,7 +191,6 @@ def states_of_the_master(fleet, draw):
         walk(f"{state} | a node names another one")
     shows(plain, [number("a", 1, 1), number("b", 1, 1)])
     walk.ends()
-    script.close()
 
 
 def states_of_telling(fleet, draw):

@@ -122,7 +122,7 @@ def tls_of_a_bridge(fleet, draw):
     logs why, if a certificate can't be trusted, is for another name, or is missing. Files that can't be used are refused."""
     needed_by_bridges(fleet)
     certify(fleet.home)
-    port, home, names = free_port(), fleet.home, Names()
+    port, home, names = free_port(), fleet.home, fleet.adopt(Names())
     files = ("--cacert", f"{home}/ca.pem", "--cert", f"{home}/host.pem", "--key", f"{home}/host.key")
     with Fleet(fleet.words, settings=settings_of(home, port)) as server, contextlib.closing(Trickle(port)) as trickle:
         plain, url = server.start(), f"rediss://127.0.0.1:{port}"
@@ -157,7 +157,6 @@ def tls_of_a_bridge(fleet, draw):
             assert refused.returncode == 2 and "event=badtls" in refused.stderr and "TLS: " in refused.stderr, refused
         assert ran(fleet, *files, f"{home}/s", f"redis://127.0.0.1:{server.port}").returncode == 2, "files without TLS are ignored"
         server.end()
-    names.close()
 
 
 def a_server_that_shakes_no_hands(fleet, draw):
