@@ -63,7 +63,7 @@ class Asked:
 
 
 def spelled(answer):
-    return (answer if isinstance(answer, bytes) else b" ".join(answer)).decode().split()[-1]
+    return answer[0].decode().split()[-1]
 
 
 def number(tick):
@@ -76,7 +76,7 @@ def wanted_of(answer, session):
     if lines[0][0] == "refused":
         return lines[0][1]
     actions = [action_of(it, after) for it, after in zip(lines, [*lines[1:], None]) if it[0] in ACTIONS]
-    gone = [GiveUp([*session.rs.services][session.gone])] if session.gone is not None else []
+    gone = [GiveUp(session.gone)] if session.gone else []
     return actions + gone
 
 

@@ -83,7 +83,7 @@ class Services:
         line = b"tick %d" % self.when()
         for _ in range(self.chance.choice([0, 0, 1, 70])):
             answer = self.script.ask(line)
-            if answer == [b"actions 0"] or answer[0].startswith(b"refused"):
+            if answer in ([], [b"actions 0"]) or answer[0].startswith(b"refused"):
                 break
         return line
 

@@ -1,49 +1,58 @@
-"""A second opinion on RS and its store as one machine, for the section `pair` of the program for tests."""
+"""A second opinion on RS beside a store, as one handle of the library for C answers lines: for tests/programs/pairs and the package for Python."""
 from . import restarts
 from .session import Session, document
 from .store import RS, Refused, Store
 
 BY_CALLERS = (b"publish", b"delete", b"sweep")
+EVENTS = (b"service", b"death", b"beat", b"tick")
 
 
 class Pair(Session):
-    """One store, and RS once it has begun. From then on no caller may pass for RS."""
+    """A store, and RS once settings have opened it. From then on no caller may pass for RS."""
 
     def __init__(self):
         super().__init__()
         self.world = Store()
-        self.next, self.first, self.gone = 1, 16, None
+        self.next, self.first = 1, 16  # of the first start
+        self.gone = None  # the label of the service that the last event made RS give up
 
     def answer(self, command, taken, ample=None):
         if self.rs and command in BY_CALLERS and taken[0] == RS:
             return [b"refused notallowed"]
+        if not self.rs and command in EVENTS:
+            return []  # no text: DS_NOREQUEST
         return super().answer(command, taken, ample)
 
     def settings(self, text):
         if self.rs:
-            restarts.judged(document(text))
             raise Refused("exists")
-        self.rs = restarts.Rs(document(text), self.next, self.first)
-        return [b"services %d slots %d" % (len(self.rs.services), self.rs.slots)]
+        try:
+            self.rs = restarts.Rs(document(text), self.next, self.first)
+        except restarts.Refused:
+            raise Refused("badfirst") from None
+        return [b"services %d" % len(self.rs.services)]
 
     def event(self, without, *event):
-        before = self.states()
+        before = {**self.rs.states}
         shown = super().event(without, *event)
-        self.gone = next((n for n, (old, new) in enumerate(zip(before, self.states())) if new[0] == "gaveup" != old[0]), None)
+        self.gone = next((label for label, state in self.rs.states.items() if state[0] == "gaveup" != before[label][0]), None)
         return shown
-
-    def states(self):
-        return list(self.rs.states.values()) if self.rs else []
 
     def read(self, line):
         """Returns the answer to a line that scripts don't have."""
-        word, *rest = line.split()
-        if word == b"from":
+        word, *rest = line.decode().split()
+        if word == "from":
             self.next, self.first = map(int, rest)
             return []
-        if word == b"gave":
-            return [b"gave up %s" % str(restarts.number(self.gone)).encode()]
-        if word == b"state":
-            known = self.rs.states if self.rs else {}
-            return [restarts.told(known.get(rest[0].decode(), ("unknown",))).encode()]
-        return [restarts.READINGS[word.decode()](self.rs).encode() if self.rs else word + b" none"]
+        if word == "gave":
+            return [f"gave up {self.gone or 'nobody'}".encode()]
+        if word == "state":
+            return [f"state {self.state(rest[0])}".encode()]
+        return [(restarts.READINGS[word](self.rs) if self.rs else f"{word} none").encode()]
+
+    def state(self, label):
+        """Returns the state of a service as the library tells it: without the ticks of its heartbeats."""
+        state, *more = self.rs.states.get(label, ("unknown",)) if self.rs else ("unknown",)
+        if state == "up":
+            return f"up {more[0][0]}/{more[0][1]} failures {more[3]}"
+        return f"waiting until {more[0]} failures {more[1]}" if state == "waiting" else state

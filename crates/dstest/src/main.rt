@@ -1,8 +1,8 @@
 //! `dstest`: the program for tests.
 //!
 //! Standard input has sections. Each begins with a line `=== NAME`, and has the lines up to the next such line:
-//! `rows`, `desk`, `threads`, `pairs`, `system`, `rs` or `pair`. The crates that answer the sections describe their
-//! lines. Sections are answered in order.
+//! `rows`, `desk`, `threads`, `pairs`, `system` or `rs`. The crates that answer the sections describe their lines.
+//! Sections are answered in order.
 //!
 //! Status 0: done. 1: a line can't be read, or a call's answer was wrong. 3: memory, reading or writing failed, or a
 //! pass of a desk was refused a note; standard error says which.
@@ -74,7 +74,6 @@ fn answer_alone(rt: &(impl Runtime + AllocGlobal), name: &str, lines: &str) -> R
         "rows" => test_rows::answer(rt),
         "system" => test_system::answer_systems(rt, lines),
         "rs" => test_system::answer_rs(rt, lines),
-        "pair" => test_system::answer_pair(rt, lines),
         _ => Err(Failure::BadLine),
     }
 }

@@ -1,18 +1,15 @@
-//! Three sections of the program for tests, driven by lines: systems, RS alone, and RS with its store as one machine.
-//! They test what no script reaches: that a system or RS begins with settings, or why not, and the outcome of each
-//! event.
+//! Two sections of the program for tests, driven by lines: systems, and RS alone. They test what no script reaches:
+//! that a system or RS begins with settings, or why not, and the outcome of each event.
 //!
 //! A section of systems has parts, separated by empty lines. The first line of a part is
 //! `system NEXT INCARNATION FIRST RING INCARNATION FIRST RING`: the generation of the first start, and the seeds of
 //! both stores. The next lines, up to `end`, are a settings text. Each other line is an event, as lines.rt describes.
 //! All events of a part are passed to the system at once; the output is the outcome of each, as telling.rt writes it,
 //! and then what both servers' maps hold. If no system begins, or there are too many events, the output says so. The
-//! lines of a section of RS are sent to RS one by one, as rs_session.rt describes; those of a section of RS and its
-//! store likewise, as pair_session.rt describes.
+//! lines of a section of RS are sent to RS one by one, as rs_session.rt describes.
 #![tactic(auto)]
 
 mod lines;
-mod pair_session;
 mod part;
 mod rs_command;
 mod rs_rows;
@@ -21,7 +18,6 @@ mod rs_telling;
 mod telling;
 mod words;
 
-use pair_session::PairSession;
 use part::answer_part;
 use rs_session::Session;
 use std::alloc::Global;
@@ -62,18 +58,6 @@ fn answer_lines(
     for line in lines.lines() {
         text.clear();
         session.take(text, line)?;
-        io::writer(rt).write_all(text.as_slice())?;
-    }
-    Ok(())
-}
-
-/// Sends the lines to RS and its store in order, up to the first that can't be read, and writes each answer.
-pub fn answer_pair(rt: &(impl Runtime + AllocGlobal), lines: &str) -> Result<(), Failure> {
-    let mut text = Vec::new(rt.alloc());
-    let mut session = PairSession::new(rt.alloc())?;
-    for line in lines.lines() {
-        text.clear();
-        session.take(&mut text, line)?;
         io::writer(rt).write_all(text.as_slice())?;
     }
     Ok(())
