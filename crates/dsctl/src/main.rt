@@ -6,13 +6,11 @@
 //! writing or a run of threads failed, and standard error says which. 141: the reader of the answers went away.
 #![tactic(auto)]
 
-mod front;
 mod live;
 mod recording;
 mod replaying;
 mod settings;
 mod stepped;
-mod tail;
 mod traces;
 mod watch;
 

@@ -1,7 +1,6 @@
 //! The trace of a run.
 
-use crate::tail::WithTail;
-use ds_explain::explain_recorded;
+use ds_explain::{WithTail, explain_recorded};
 use ds_held::Limits;
 use dsctl_cli::{Answers, Failure, Greeting, Input, Terminals, TraceForm, Typed, greet};
 use line_io::Plain;

@@ -1,8 +1,6 @@
 //! The verdict on a recorded trace, and the upgrade of one from format 1 to 2.
 
-use crate::front::WithFront;
-use crate::tail::WithTail;
-use ds_explain::{explain_trace, explain_upgrade};
+use ds_explain::{WithFront, WithTail, explain_trace, explain_upgrade};
 use dsctl_cli::{Answers, Failure, Greeting, Input, Terminals, Typed, greet};
 use line_io::Plain;
 use std::io;

@@ -1,4 +1,4 @@
-//! Keeps the front of an input while the rest is read.
+//! Keeps the front of an input while the rest is read, so that a bad header can be explained.
 
 use std::io::{self, Read};
 
@@ -7,15 +7,16 @@ const KEPT: usize = 1024;
 
 /// A reader that keeps the first bytes that it read.
 #[derive(Drop)]
-pub(crate) struct WithFront<R> {
-    pub(crate) reader: R,
+pub struct WithFront<R> {
+    /// The reader.
+    pub reader: R,
     front: [u8; KEPT],
     count: usize,
 }
 
 impl<R: Read> WithFront<R> {
     /// Returns such a reader over another, which wasn't read yet.
-    pub(crate) fn new(reader: R) -> WithFront<R> {
+    pub fn new(reader: R) -> WithFront<R> {
         WithFront {
             reader,
             front: [0; KEPT],
@@ -24,12 +25,12 @@ impl<R: Read> WithFront<R> {
     }
 
     /// Returns what is kept.
-    pub(crate) fn kept(&self) -> &[u8] {
+    pub fn kept(&self) -> &[u8] {
         self.front.get(..self.count).unwrap_or(&[])
     }
 
     /// Returns the first line that was read, with its newline, as far as it is kept.
-    pub(crate) fn first_line(&self) -> &[u8] {
+    pub fn first_line(&self) -> &[u8] {
         let kept = self.kept();
         match kept.iter().position(|byte| *byte == b'\n') {
             Some(place) => kept.get(..=place).unwrap_or(kept),

@@ -10,8 +10,9 @@ const KEPT: usize = 2 * AT_ONCE + 2;
 
 /// A reader that keeps what it read last, from the beginning of a line on.
 #[derive(Drop)]
-pub(crate) struct WithTail<R> {
-    pub(crate) reader: R,
+pub struct WithTail<R> {
+    /// The reader.
+    pub reader: R,
     kept: [u8; KEPT],
     count: usize,
     passed: u64,
@@ -19,7 +20,7 @@ pub(crate) struct WithTail<R> {
 
 impl<R: Read> WithTail<R> {
     /// Returns such a reader over another, which wasn't read yet.
-    pub(crate) fn new(reader: R) -> WithTail<R> {
+    pub fn new(reader: R) -> WithTail<R> {
         WithTail {
             reader,
             kept: [0; KEPT],
@@ -30,13 +31,12 @@ impl<R: Read> WithTail<R> {
 
     /// Returns a line by its number, from 1, with a newline, and the lines after it as far as they are kept; `None` if it
     /// isn't kept, or wasn't read.
-    pub(crate) fn from_line(&mut self, number: u64) -> Option<&[u8]> {
+    pub fn from_line(&mut self, number: u64) -> Option<&[u8]> {
         self.end_line();
         let index = number.checked_sub(1)?.checked_sub(self.passed)?;
         let mut rest = self.kept.get(..self.count)?;
         for _before in 0..index {
-            let end = rest.iter().position(|byte| *byte == b'\n')?;
-            rest = rest.get(end + 1..)?;
+            rest = after_line(rest)?;
         }
         (!rest.is_empty()).then_some(rest)
     }
@@ -78,6 +78,12 @@ impl<R: Read> WithTail<R> {
             self.count += 1;
         }
     }
+}
+
+// Returns what comes after a text's first line, if that ends.
+fn after_line(text: &[u8]) -> Option<&[u8]> {
+    let end = text.iter().position(|byte| *byte == b'\n')?;
+    text.get(end + 1..)
 }
 
 impl<R: Read> Read for WithTail<R> {
