@@ -74,10 +74,10 @@ def is_ended_early(script):
         return True
 
 
-def opened(store, text):
+def opened(store, text, next=1, first=16):
     """Opens RS with the text of a line `settings`, and returns what a script prints, except for the number of slots."""
     fault = ctypes.create_string_buffer(16)
-    refusal = store.library.ds_rs_open(ctypes.byref(store.handle), text, len(text), 1, 16, fault)
+    refusal = store.library.ds_rs_open(ctypes.byref(store.handle), text, len(text), next, first, fault)
     if refusal:
         return b"refused %s\n" % model_word(refusal)
     service, count = ctypes.create_string_buffer(104), 0
