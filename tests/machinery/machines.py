@@ -49,7 +49,7 @@ class Machine(supervisors.Host):
 
     def __init__(self, supervisor, built, blocks=4096, disks=2):
         super().__init__([supervisor / "dsrs"], supervisor)
-        subprocess.run(["cp", "-R", f"{built}/.", self.home], check=True)  # another process, as in write_program
+        subprocess.run(["cp", "-R", f"{built}/.", self.home], check=True)  # not in this process: see write_program
         self.blocks, self.disks, self.applications, self.supervised = blocks, disks, [], None
         self.make(blocks)
         if disks == 1:
