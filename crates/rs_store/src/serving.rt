@@ -68,11 +68,14 @@ pub fn begin(
     }
 }
 
-/// Passes an event to RS at a tick, and its label changes and sweeps to the store, in order.
+/// Passes an event to RS at a tick, and RS's label changes and sweeps to the store, in order. Returns RS's actions, the
+/// store's reply to each, and the service that RS gave up.
 ///
-/// A refused event changes neither RS nor the store. NoRoom is reported after every other fault, and only for an event with
-/// actions. Before RS has begun, an event finds no service: a label is unknown, an endpoint is old, and a tick has no
-/// actions.
+/// Refuses as RS's `event` does, and changes neither RS nor the store then. NoRoom is reported after every other fault, and
+/// only for an event with actions. RS has stepped even if the store refuses one of its changes.
+///
+/// Before RS has begun, nothing changes. An event of a label is refused as UnknownLabel, one of an endpoint as OldEndpoint,
+/// and a tick has no actions.
 pub fn serve(
     alloc: Global,
     services: &mut Option<Rs>,

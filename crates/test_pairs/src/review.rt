@@ -3,8 +3,9 @@
 use crate::asked::{Known, command_of};
 use crate::line::Sizes;
 use crate::mark::{kept_of, mark_of_store};
-use crate::new_pair::new_pair;
+use crate::new_pair::{LABELS, new_pair};
 use crate::watch::{REFRESHED, Watch};
+use rs_core::Rs;
 use rs_store::RsStore;
 use std::alloc::Global;
 use std::sync::Wait;
@@ -17,8 +18,8 @@ use test_kit::{Crew, Kept, Said, run_crew};
 pub(crate) struct Review {
     /// The number of calls that the callers made.
     pub calls: u64,
-    /// Whether RS and a store of one thread that get the callers' calls in the order of their places give the same replies, and a pass that
-    /// learnt a note has seen as much as the note's pass.
+    /// Whether RS and a store of one thread that get the callers' calls in the order of their places give the same replies, and RS knows
+    /// the same in the end; and whether a pass that learnt a note has seen as much as the note's pass.
     pub legal: bool,
     /// Whether each map that was brought up to date had what the store held at the map's place.
     pub equal: bool,
@@ -64,13 +65,33 @@ pub(crate) fn share_and_compare<R: Threads + Wait + Sync>(
         all: are_all_refreshed(&crew, sizes.followers),
         exact: account_is_exact(&crew),
     };
-    answer_alone(alloc, &crew.said, sizes.followers == 0, &mut review)?;
+    let alone = answer_alone(alloc, &crew.said, sizes.followers == 0, &mut review)?;
+    review.legal &= match (crew.machine.services(), alone.services()) {
+        (Some(shared), Some(single)) => know_the_same(shared, single),
+        (None, None) => true,
+        _ => false,
+    };
     Some(review)
 }
 
+// Returns whether both know the same about each service, give the next instance the same generation, and have the same tick due.
+fn know_the_same(one: &Rs, other: &Rs) -> bool {
+    for index in 0..LABELS.len() {
+        if one.state_of(index) != other.state_of(index) {
+            return false;
+        }
+    }
+    one.next_generation() == other.next_generation() && one.due() == other.due()
+}
+
 // Sends RS and a store of one thread the callers' calls in the order of their places, and compares each reply, and each map at its place.
-// A map's record comes before the call of its place.
-fn answer_alone(alloc: Global, said: &[Said], with_owed: bool, review: &mut Review) -> Option<()> {
+// A map's record comes before the call of its place. Returns that RS and its store.
+fn answer_alone(
+    alloc: Global,
+    said: &[Said],
+    with_owed: bool,
+    review: &mut Review,
+) -> Option<Box<RsStore>> {
     let mut alone = new_pair(alloc)?;
     let mut given = 0;
     for view in said {
@@ -83,7 +104,7 @@ fn answer_alone(alloc: Global, said: &[Said], with_owed: bool, review: &mut Revi
         }
     }
     let _given = catch_up(alloc, &mut alone, said, given, u64::MAX, with_owed, review)?;
-    Some(())
+    Some(alone)
 }
 
 // Sends the calls from an index on that are below a place. Returns the index of the first one that wasn't sent.
