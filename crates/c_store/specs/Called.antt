@@ -13,7 +13,7 @@ use Rattle.script_answers.specs.declared.wording.Wording.TheVariants.{AsMerge}
 use Rattle.c_values.specs.declared.request.Request.{Request}
 use Rattle.c_values.specs.declared.answer.Answer.{Answer}
 use Rattle.c_values.specs.Answer.{answer_of, no_request, told_no_room, told_shown}
-use Rattle.c_values.specs.Asked.{StandsFor, StandsForNone, TakesRoom}
+use Rattle.c_values.specs.Asked.{StandsFor, StandsForNone, ReadingTakesMemory}
 use Rattle.c_values.specs.Pieces.{pieces_of}
 use Rattle.c_store.specs.declared.last.Last.{Last}
 use Rattle.c_store.specs.declared.last.Last.TheVariants.{Nothing, Reply as Replied, Shown}
@@ -53,7 +53,7 @@ pub record AnswersRequest (old : Session) (r : Request) (text : List ℕ) (answe
 abbrev pub CalledWith : Session → Request → List ℕ → Answer → Session → Type 0
 CalledWith old r text answer new =
     AnswersRequest old r text answer new
-    ⊎ ((StandsForNone r text × RestsForNone old answer new) ⊎ (TakesRoom r text × RestsForRoom old answer new))
+    ⊎ ((StandsForNone r text × RestsForNone old answer new) ⊎ (ReadingTakesMemory r text × RestsForRoom old answer new))
 
 -- The effect of a request whose text is in the texts. If its text isn't within them, it isn't a command.
 abbrev pub Called : Session → Request → Option (List ℕ) → Answer → Session → Type 0

@@ -8,7 +8,7 @@ use Rattle.ds_names.specs.declared.key.Key.{Key}
 use Rattle.ds_names.specs.declared.kind.Kind.{Kind}
 use Rattle.c_values.specs.Request.{command_of, publish_of, key_of, key_of_parts, kind_at}
 use Rattle.c_values.specs.Lines.{AreLines}
-use Rattle.c_values.specs.Asked.{StandsForNone, is_long, has_text, TakesRoom, ReadsRequest}
+use Rattle.c_values.specs.Asked.{StandsForNone, is_long, has_text, ReadingTakesMemory, ReadsRequest}
 use Rattle.ds_machine.specs.declared.command.Command.{Command}
 use Rattle.ds_names.specs.declared.room.NoRoom.{NoRoom}
 
@@ -61,5 +61,5 @@ has_long : (r : Request) → r.command ≡ 0 → IsTrue (is_long (kind_at r.kind
 has_long r zero is = rw zero (or_left (is_long (kind_at r.kinds)) _ is)
 
 -- a Publish of a text or a blob takes memory
-pub publish_takes_room : (r : Request) (text : List ℕ) → r.command ≡ 0 → IsTrue (is_long (kind_at r.kinds)) → publish_of r text ≢ None → TakesRoom r text
-publish_takes_room r text zero is some = inl (has_long r zero is, λ none. some (sym (publishes r text zero) ∙ none))
+pub publish_takes_memory : (r : Request) (text : List ℕ) → r.command ≡ 0 → IsTrue (is_long (kind_at r.kinds)) → publish_of r text ≢ None → ReadingTakesMemory r text
+publish_takes_memory r text zero is some = inl (has_long r zero is, λ none. some (sym (publishes r text zero) ∙ none))

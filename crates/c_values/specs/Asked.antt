@@ -49,11 +49,11 @@ has_text r =
 
 -- Whether reading the request with this text takes memory: it is a command with a text, a blob or a pattern, or a Merge whose text begins
 -- with an item's line.
-abbrev pub TakesRoom : Request → List ℕ → Type 0
-TakesRoom r text = (IsTrue (has_text r) × (command_of r text ≢ None)) ⊎ ((r.command ≡ 10) × BeginsWithItem text)
+abbrev pub ReadingTakesMemory : Request → List ℕ → Type 0
+ReadingTakesMemory r text = (IsTrue (has_text r) × (command_of r text ≢ None)) ⊎ ((r.command ≡ 10) × BeginsWithItem text)
 
 -- The result of reading a request: its command, `None` if it isn't one, or NoRoom if memory runs out for its text.
 abbrev pub ReadsRequest : Request → List ℕ → Result (Option Command) NoRoom → Type 0
 ReadsRequest r text (Ok None) = StandsForNone r text
 ReadsRequest r text (Ok (Some command)) = StandsFor r text command
-ReadsRequest r text (Err wanting) = TakesRoom r text
+ReadsRequest r text (Err wanting) = ReadingTakesMemory r text

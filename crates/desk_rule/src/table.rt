@@ -130,8 +130,8 @@ fn pending_words<S>(closed: &Closed<S, Global>) -> [u64; 16]
     pending
 }
 
-/// Closes the table with a seat that has all passes. Returns the machine after the history, and the pending words after
-/// all notices.
+/// Closes the table with a seat that has all passes and no turn. Returns the machine after all calls, and the pending
+/// words after all notices.
 pub fn close_table<M: Machine>(table: DeskTable<M>, seat: DeskSeat<M>) -> (M, [u64; 16])
     requires at { IsAtTable table.shared.table_id seat }
     requires resting { seat.me.0.holding ≡ false }

@@ -25,7 +25,7 @@ network_start _ unit state = None
 abbrev pub start : List ℕ → Option EndpointRecord → ℕ × Driver → Option Move
 start label state u = if is_same_name label u.1.label then network_start u.1.class u.0 state else None
 
--- The move of a pending request: a block driver's is sent again, or waits if there is no endpoint; another driver's
+-- The move of a pending request: a block driver's is sent again, and has none without an endpoint; another driver's
 -- fails.
 abbrev pub settled : Class → ℕ → Option EndpointRecord → Option Move
 settled Block id None = None

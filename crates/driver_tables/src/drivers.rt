@@ -58,8 +58,8 @@ pub trait Drivers {
         ensures after { LeavesAs (kept self.old) (λ t. submitting t id unit) result (kept self.new) }
         ensures unchanged { OnErr result (kept self.new ≡ kept self.old) };
 
-    /// Accepts a driver's reply to a request, and returns the move that answers it Done. Refuses NotPending, then
-    /// OldEndpoint if the request was last sent to another endpoint. It takes no memory.
+    /// Accepts a driver's reply to a request, and returns the move that answers it Done. Refuses as NotPending, then
+    /// as OldEndpoint if the request was last sent to another endpoint. It takes no memory.
     fn reply(&mut self, endpoint: Endpoint, id: u64) -> Result<Move, TableFault>
         ensures answer { (t : DriverTable) → TableStands (kept self.old) t → result ≡ (replying t endpoint id).0 }
         ensures after { LeavesAs (kept self.old) (λ t. replying t endpoint id) result (kept self.new) }

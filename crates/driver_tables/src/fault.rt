@@ -19,7 +19,8 @@ pub enum TableFault {
     /// No request of this id is pending.
     #[error("no such request is pending")]
     NotPending,
-    /// The label had a newer endpoint, or the request was last sent to another endpoint.
+    /// The endpoint isn't the label's, and its generation isn't above all that the label had. Or the request was last sent to another
+    /// endpoint.
     #[error("an old endpoint")]
     OldEndpoint,
     /// Out of memory.

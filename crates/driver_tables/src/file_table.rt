@@ -70,14 +70,16 @@ impl FileTable {
         self.table.assign(major, class, label)
     }
 
-    /// Records a label's new state, which is its driver's endpoint, or `None` if it has no driver. Returns the moves of the
-    /// pending requests, in order of submission.
+    /// Records the new state of a device's label: its driver's endpoint, or `None` if it has no driver. Returns the moves of
+    /// the pending requests, in order of submission.
     ///
-    /// A request to a block device is sent to the new endpoint, or held if there is none. A request to a character device is
-    /// answered Fault. A label without a device has no moves, nor has the state that the label has already.
+    /// A request to a block device is sent to the new endpoint. Without an endpoint it has no move, and the driver to which
+    /// it was last sent may still reply. A request to a character device is answered Fault. The state that the label has
+    /// already has no moves. A label without a device has none either, and nothing is recorded.
     ///
-    /// Refuses as OldEndpoint a generation below the label's greatest one, or the greatest one with another endpoint. Then
-    /// reports NoRoom if memory runs out, which only moves take.
+    /// Refuses as OldEndpoint a generation below the label's greatest one, or the greatest one at an endpoint that the label
+    /// doesn't have now. So an endpoint that is gone doesn't return. Then reports NoRoom if memory runs out; only moves take
+    /// memory.
     pub fn changed(&mut self, label: &Name, state: Option<Endpoint>) -> Result<Moves, TableFault>
         ensures answer { AnswersAs self.old (λ t. changing t label.now state) result }
         ensures room { (t : DriverTable) → TableStands self.old t → LacksOnlyWhere (StateTakesMemory t label.now state) result }

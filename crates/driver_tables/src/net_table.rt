@@ -57,14 +57,15 @@ impl NetTable {
         self.table.assign(port, Class::Network, label)
     }
 
-    /// Records a label's new state, which is its driver's endpoint, or `None` if it has no driver. Returns the moves.
+    /// Records the new state of a port's label: its driver's endpoint, or `None` if it has no driver. Returns the moves.
     ///
     /// First each port of the label starts at a new endpoint, in order of assignment. Then the label's pending requests are
-    /// answered Fault, in order of submission. A label without a port has no moves, nor has the state that the label has
-    /// already.
+    /// answered Fault, in order of submission. The state that the label has already has no moves. A label without a port has
+    /// none either, and nothing is recorded.
     ///
-    /// Refuses as OldEndpoint a generation below the label's greatest one, or the greatest one with another endpoint. Then
-    /// reports NoRoom if memory runs out, which only moves take.
+    /// Refuses as OldEndpoint a generation below the label's greatest one, or the greatest one at an endpoint that the label
+    /// doesn't have now. So an endpoint that is gone doesn't return. Then reports NoRoom if memory runs out; only moves take
+    /// memory.
     pub fn changed(&mut self, label: &Name, state: Option<Endpoint>) -> Result<Moves, TableFault>
         ensures answer { AnswersAs self.old (λ t. changing t label.now state) result }
         ensures room { (t : DriverTable) → TableStands self.old t → LacksOnlyWhere (StateTakesMemory t label.now state) result }

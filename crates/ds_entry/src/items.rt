@@ -43,7 +43,7 @@ impl Items {
         Ok(Items { items: copies })
     }
 
-    /// Appends an item. If memory runs out, the list is unchanged and the error returns the item.
+    /// Appends an item. If memory runs out, the list is unchanged and the error hands the item back.
     pub fn push(&mut self, item: Item) -> Result<(), AllocFailed<Item>>
         ensures ok { OnOk result (self.new ≡ self.old ++ item ∷ []) }
         ensures err { OnErr result (self.new ≡ self.old) }

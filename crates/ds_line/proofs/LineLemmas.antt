@@ -11,7 +11,7 @@ use Rattle.ds_entry.specs.declared.body.Body.TheVariants.{Put, Gone}
 use Rattle.ds_entry.specs.Change.{ChangeRecord, IsChange}
 use Rattle.ds_line.specs.Part.{Name, Word, Number, run_of, Part, part, byte, texts}
 use Rattle.ds_line.specs.Spelling.{space, newline, kind_word, value_part, body_parts, change_parts, spelling}
-use Rattle.ds_line.specs.FaultPlace.{Stand, HasNoLine, LineTakesRoom}
+use Rattle.ds_line.specs.FaultPlace.{Stand, HasNoLine, ItemLineTakesMemory}
 use Rattle.ds_line.specs.Reading.{ChangeStops, Completes, CompletesInRoom}
 use Rattle.ds_line.proofs.PartLemmas.{byte_ends}
 
@@ -99,7 +99,7 @@ pub line_is : (c : ChangeRecord) (bytes rest : List ℕ) → Completes [] c byte
 line_is c bytes rest k = (k.change, k.text ∙ ap (λ (ps : List Part). spelled ps rest) (sym k.split))
 
 -- So has the change for whose value memory ran out.
-pub no_room : (bytes : List ℕ) → CompletesInRoom [] bytes → LineTakesRoom bytes
+pub no_room : (bytes : List ℕ) → CompletesInRoom [] bytes → ItemLineTakesMemory bytes
 no_room bytes k =
     let line = line_is k.put bytes k.rest k.completes in
     record { change = k.put; rest = k.rest; line = line.0; value = k.value; front = line.1 }

@@ -43,7 +43,7 @@ pub record IsLineFault (bytes : List ℕ) (place : ℕ) : Type 0 where
   pub first : IsFaultPlace IsChange change_parts bytes place
 
 -- Whether the bytes begin with the whole line of a put of a text or a blob, whose value takes memory.
-pub record LineTakesRoom (bytes : List ℕ) : Type 0 where
+pub record ItemLineTakesMemory (bytes : List ℕ) : Type 0 where
   pub change : ChangeRecord
   pub rest : List ℕ
   pub line : IsChange change
@@ -53,4 +53,4 @@ pub record LineTakesRoom (bytes : List ℕ) : Type 0 where
 -- The meaning of a fault of a change's reader.
 abbrev pub IsFaultIn : LineFault → List ℕ → Type 0
 IsFaultIn (BadLine place) bytes = IsLineFault bytes place
-IsFaultIn NoRoom bytes = LineTakesRoom bytes
+IsFaultIn NoRoom bytes = ItemLineTakesMemory bytes

@@ -2,7 +2,7 @@
 use Rattle.std.specs.Prelude.{◌≢◌, ℕ, List, ◌++◌}
 use Rattle.ds_entry.specs.Item.{IsItem}
 use Rattle.ds_entry.specs.declared.item.Item.{Item}
-use Rattle.ds_line.specs.FaultPlace.{IsFaultPlace, LineTakesRoom}
+use Rattle.ds_line.specs.FaultPlace.{IsFaultPlace, ItemLineTakesMemory}
 use Rattle.ds_line.specs.ItemSpelling.{item_parts, item_spelling}
 use Rattle.ds_line.specs.declared.fault.LineFault.{LineFault}
 use Rattle.ds_line.specs.declared.fault.LineFault.TheVariants.{BadLine, NoRoom}
@@ -20,4 +20,4 @@ pub record IsItemFault (bytes : List ℕ) (place : ℕ) : Type 0 where
 -- The meaning of a fault of an item's reader. Only puts of texts and blobs run out of memory.
 abbrev pub IsItemFaultIn : LineFault → List ℕ → Type 0
 IsItemFaultIn (BadLine place) bytes = IsItemFault bytes place
-IsItemFaultIn NoRoom bytes = LineTakesRoom bytes
+IsItemFaultIn NoRoom bytes = ItemLineTakesMemory bytes

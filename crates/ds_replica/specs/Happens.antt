@@ -77,20 +77,20 @@ event_fault w (RestartStore side incarnation) =
     cond (nat_lt w.a.feed.incarnation incarnation && nat_lt w.b.feed.incarnation incarnation) None (Some OldIncarnation)
 
 -- Whether the event takes memory before it does anything: for a message, or a map.
-abbrev pub takes_room : Event → Bool
-takes_room (Ask side command) = gives_items command
-takes_room (NewMap query) = true
-takes_room _ = false
+abbrev pub event_takes_memory : Event → Bool
+event_takes_memory (Ask side command) = gives_items command
+event_takes_memory (NewMap query) = true
+event_takes_memory _ = false
 
 -- The event is refused by its first fault, or for lack of memory: with no fault, or with BadPattern alone, since
 -- reading a pattern takes memory.
 abbrev pub IsEventRefused : World → Event → EventFault → Type 0
-IsEventRefused w event NoRoom = (takes_room event ≡ true) × ((event_fault w event ≡ None) ⊎ (event_fault w event ≡ Some BadPattern))
+IsEventRefused w event NoRoom = (event_takes_memory event ≡ true) × ((event_fault w event ≡ None) ⊎ (event_fault w event ≡ Some BadPattern))
 IsEventRefused w event fault = event_fault w event ≡ Some fault
 
 -- ---- what an event does that isn't refused
 
--- The items of a reply, if it has any.
+-- The list of items of a reply, which may be empty; none if this kind of reply has no list.
 abbrev pub items_given : Reply → Option (List Item)
 items_given (Checked items before after) = Some items
 items_given (Journaled since) = Some since.items

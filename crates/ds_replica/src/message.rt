@@ -94,7 +94,7 @@ impl Message {
         }
     }
 
-    /// Returns the items, or `None` if the reply has none.
+    /// Returns the list of items, which may be empty, or `None` if this kind of reply has no list.
     pub fn items(&self) -> Option<Lent<'_>>
         ensures some { IfSome result (λ lent. items_given self.now ≡ Some (items_lent lent)) }
         ensures none { IfNone result (items_given self.now ≡ None) }

@@ -17,7 +17,7 @@ use Rattle.script_commands.specs.declared.service.Request.{Request}
 use Rattle.script_commands.specs.declared.service.Server.{Server}
 use Rattle.script_answers.specs.declared.wording.Wording.{Wording}
 use Rattle.ds_script.specs.Session.{SessionContent, IsHappening, turned}
-use Rattle.ds_script.specs.Answer.{told_lines, entries_text, AnswersEvent, AnswersAsEvent, AnswersByServers, AnswersRing, AnswersCommand, IsLineRefused, AnswerTakesRoom, AnswersOrRefuses}
+use Rattle.ds_script.specs.Answer.{told_lines, entries_text, AnswersEvent, AnswersAsEvent, AnswersByServers, AnswersRing, AnswersCommand, IsLineRefused, AnswerTakesMemory, AnswersOrRefuses}
 use Rattle.script_services.specs.Services.{AnswersSettings}
 
 -- ---- events
@@ -85,7 +85,7 @@ answers_it (Reply server endpoint id) old out new a = absurd a
 answers_it command old out new a = a
 
 pub event_answers : (command : ScriptCommand) (old : SessionContent) (out : List ℕ) (new : SessionContent)
-    → AnswersAsEvent command old out new ⊎ (AnswerTakesRoom command old × IsLineRefused old out new) → AnswersOrRefuses command old out new
+    → AnswersAsEvent command old out new ⊎ (AnswerTakesMemory command old × IsLineRefused old out new) → AnswersOrRefuses command old out new
 event_answers command old out new (inl a) = inr (answers_it command old out new a)
 event_answers command old out new (inr r) = inl r
 

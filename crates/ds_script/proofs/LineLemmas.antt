@@ -12,7 +12,7 @@ use Rattle.script_commands.specs.declared.command.ScriptCommand.{ScriptCommand}
 use Rattle.script_commands.specs.declared.command.ScriptCommand.TheVariants.{Offer, Show, All, Entries, Ring, Settings}
 use Rattle.script_commands.specs.declared.fault.CommandFault.{CommandFault}
 use Rattle.script_commands.specs.declared.fault.CommandFault.TheVariants.{BadLine, NoRoom}
-use Rattle.ds_script.specs.Answer.{MayStand, AnswersAsEvent, AnswersLine, AnswersOrRefuses, AnswerTakesRoom, IsLineRefused, AppendsLine}
+use Rattle.ds_script.specs.Answer.{MayStand, AnswersAsEvent, AnswersLine, AnswersOrRefuses, AnswerTakesMemory, IsLineRefused, AppendsLine}
 use Rattle.ds_script.specs.Progress.{IsUnendedFault, KeepsSession}
 use Rattle.ds_script.specs.Session.{SessionContent}
 use Rattle.ds_script.proofs.EventLemmas.{event_answers}
@@ -25,7 +25,7 @@ may_command (suc before) command may = may.0
 -- ---- memory
 
 -- a line with a text, a blob or a pattern takes memory
-pub memory_room : (command : ScriptCommand) (session : SessionContent) → CommandTakesMemory command → AnswerTakesRoom command session
+pub memory_room : (command : ScriptCommand) (session : SessionContent) → CommandTakesMemory command → AnswerTakesMemory command session
 memory_room Show session takes = absurd takes
 memory_room All session takes = absurd takes
 memory_room (Entries map) session takes = absurd takes
@@ -102,7 +102,7 @@ keeps NoRoom session = tt
 -- the line of a command that is an event is answered as the event is, or refused
 pub event_after : (before : ℕ) (bytes out : List ℕ) (command : ScriptCommand) (old new : SessionContent) → length bytes ≤ 4097
     → ReadsAs IsCommand bytes (Ok command) → ReadsAs IsLater bytes (Ok command)
-    → AnswersAsEvent command old out new ⊎ (AnswerTakesRoom command old × IsLineRefused old out new)
+    → AnswersAsEvent command old out new ⊎ (AnswerTakesMemory command old × IsLineRefused old out new)
     → (text : List ℕ) → bytes ≡ with_newline text → AnswersLine before old text out new
 event_after before bytes out command old new short first later answers =
     answered_after before bytes out command old new short (read_after before bytes (Ok command) first later) (event_answers command old out new answers)

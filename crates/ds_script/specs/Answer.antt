@@ -121,17 +121,17 @@ IsLineRefused old out new = (new ≡ old) × (out ≡ refused_noroom)
 -- Whether the script itself allocates for the command: to show items (of a map, only if it exists), for the stores'
 -- rings, for settings, or for a text, a blob or a pattern of the line. Other commands are refused NoRoom by the world,
 -- RS or a table.
-abbrev pub AnswerTakesRoom : ScriptCommand → SessionContent → Type 0
-AnswerTakesRoom lines.Show old = Unit {0}
-AnswerTakesRoom lines.All old = Unit {0}
-AnswerTakesRoom (lines.Entries map) old = slice_get old.world.maps map ≢ None
-AnswerTakesRoom (lines.Ring ring) old = Unit {0}
-AnswerTakesRoom (lines.Settings text) old = Unit {0}
-AnswerTakesRoom command old = CommandTakesMemory command
+abbrev pub AnswerTakesMemory : ScriptCommand → SessionContent → Type 0
+AnswerTakesMemory lines.Show old = Unit {0}
+AnswerTakesMemory lines.All old = Unit {0}
+AnswerTakesMemory (lines.Entries map) old = slice_get old.world.maps map ≢ None
+AnswerTakesMemory (lines.Ring ring) old = Unit {0}
+AnswerTakesMemory (lines.Settings text) old = Unit {0}
+AnswerTakesMemory command old = CommandTakesMemory command
 
 -- The answer to a command, whether or not memory lasts.
 abbrev pub AnswersOrRefuses : ScriptCommand → SessionContent → List ℕ → SessionContent → Type 0
-AnswersOrRefuses command old out new = (AnswerTakesRoom command old × IsLineRefused old out new) ⊎ AnswersCommand command old out new
+AnswersOrRefuses command old out new = (AnswerTakesMemory command old × IsLineRefused old out new) ⊎ AnswersCommand command old out new
 
 -- ---- lines
 
@@ -164,7 +164,7 @@ AppendsSide side before after old new = (after ≡ before ++ side_line side) × 
 abbrev pub AppendsEvent : ScriptCommand → (before after : List ℕ) → (old new : SessionContent) → Type 0
 AppendsEvent command before after old new =
     (out : List ℕ) × (after ≡ before ++ out)
-    × (AnswersAsEvent command old out new ⊎ (AnswerTakesRoom command old × IsLineRefused old out new))
+    × (AnswersAsEvent command old out new ⊎ (AnswerTakesMemory command old × IsLineRefused old out new))
 
 -- Like `AppendsCommand`, for a step of RS and the tables.
 abbrev pub AppendsByServers : (Servers → List ℕ → Servers → Type 0) → (before after : List ℕ) → (old new : SessionContent) → Type 0

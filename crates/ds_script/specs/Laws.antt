@@ -30,7 +30,8 @@ use Rattle.script_services.specs.Tables.{AnswersAssign, AnswersFollow, AnswersSu
 use Rattle.ds_script.specs.declared.report.BadLines.{BadLines}
 use Rattle.ds_script.specs.declared.report.BadLines.TheVariants.{End}
 use Rattle.ds_script.specs.Session.{SessionContent, IsOpened, seed, made, turned}
-use Rattle.ds_script.specs.Answer.{AnswersEvent, AnswersByServices, AnswersCommand, IsLineRefused, AnswerTakesRoom, MayStand, items_of_map}
+use Rattle.ds_script.specs.Answer.{AnswersEvent, AnswersByServices, AnswersCommand, AnswerTakesMemory}
+use Rattle.ds_script.specs.Answer.{IsLineRefused, MayStand, items_of_map}
 use Rattle.ds_script.specs.Replay.{TellsBadLine, AnswersLines}
 
 -- ---- a script and its past
@@ -100,7 +101,7 @@ MakesEvents command old out new was now =
 abbrev pub LineMakesEvents : BadLines → ℕ → SessionContent → List ℕ → List ℕ → ℕ → SessionContent → Past → Past → Type 0
 LineMakesEvents policy before old line out bad new was now =
     ((command : ScriptCommand) × IsLineAs (MayStand before) command line × (bad ≡ 0) ×
-    ((AnswerTakesRoom command old × IsLineRefused old out new × (now ≡ was)) ⊎ MakesEvents command old out new was now))
+    ((AnswerTakesMemory command old × IsLineRefused old out new × (now ≡ was)) ⊎ MakesEvents command old out new was now))
     ⊎ (TellsBadLine policy before old line out bad new × (now ≡ was))
 
 -- The steps of lines, in order.

@@ -5,8 +5,8 @@ use Rattle.ds_system.specs.declared.outcome.SystemOutcome.TheVariants.{Acted, Mo
 
 -- Whether a copy of the outcome takes memory: it has an action, a reply or a round, or it is that of a store or a
 -- world, which may have items or a text.
-abbrev pub CopyTakesRoom : SystemOutcome → Type 0
-CopyTakesRoom (Acted actions replies) = (actions ≢ []) ⊎ (replies ≢ [])
-CopyTakesRoom (Moved rounds own fault) = rounds ≢ []
-CopyTakesRoom (Refused fault) = ⊥
-CopyTakesRoom _ = Unit {0}
+abbrev pub CopyTakesMemory : SystemOutcome → Type 0
+CopyTakesMemory (Acted actions replies) = (actions ≢ []) ⊎ (replies ≢ [])
+CopyTakesMemory (Moved rounds own fault) = rounds ≢ []
+CopyTakesMemory (Refused fault) = ⊥
+CopyTakesMemory _ = Unit {0}

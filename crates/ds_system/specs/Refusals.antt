@@ -28,7 +28,7 @@ IsWriteFault judgement refusals.NoRoom = IsOk judgement
 IsWriteFault judgement fault = judgement ≡ Err fault
 
 -- Whether the made change of this number puts a text or a blob, whose copy takes memory.
-pub record CopyTakesRoom (made : List ChangeRecord) (k : ℕ) : Type 0 where
+pub record CopyTakesMemory (made : List ChangeRecord) (k : ℕ) : Type 0 where
   pub change : ChangeRecord
   pub there : slice_get made k ≡ Some change
   pub takes : ¬ IsBodyInPlace change.body
@@ -40,6 +40,6 @@ IsSystemRefused s (Service event tick side) (refusals.Service fault) = IsService
 IsSystemRefused s (Put label key value side) fault = IsWriteFault (judged s.rs s.numberers label key (bodies.Put value)) fault
 IsSystemRefused s (Remove label key side) fault = IsWriteFault (judged s.rs s.numberers label key bodies.Gone) fault
 IsSystemRefused s (Again k side) refusals.NoMessage = length s.made ≤ k
-IsSystemRefused s (Again k side) refusals.NoRoom = CopyTakesRoom s.made k
+IsSystemRefused s (Again k side) refusals.NoRoom = CopyTakesMemory s.made k
 IsSystemRefused s (World event) refusals.NotAllowed = is_barred event ≡ true
 IsSystemRefused s event fault = ⊥

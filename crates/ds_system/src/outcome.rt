@@ -1,7 +1,7 @@
 //! The outcome of a system's event.
 
 ghost use Rattle.std.specs.Prelude.{◌≡◌, IfOk, OnErr};
-ghost use Rattle.ds_system.specs.Copying.{CopyTakesRoom};
+ghost use Rattle.ds_system.specs.Copying.{CopyTakesMemory};
 
 use crate::replies::Replies;
 use crate::rounds::Rounds;
@@ -40,7 +40,7 @@ impl SystemOutcome {
     /// Returns a copy. A copy of a refusal, or of empty lists, takes no memory.
     pub fn copy(&self, alloc: Global) -> Result<SystemOutcome, NoRoom>
         ensures same { IfOk result (λ copy. copy ≡ self.now) }
-        ensures room { OnErr result (CopyTakesRoom self.now) }
+        ensures room { OnErr result (CopyTakesMemory self.now) }
     {
         match self {
             SystemOutcome::Acted { actions, replies } => Ok(SystemOutcome::Acted {

@@ -39,7 +39,7 @@ impl Events {
         self.events
     }
 
-    /// Appends an event. If memory runs out, the list is unchanged and the error returns the event.
+    /// Appends an event. If memory runs out, the list is unchanged and the error hands the event back.
     pub fn push(&mut self, event: Event) -> Result<(), AllocFailed<Event>>
         ensures ok { OnOk result (self.new ≡ self.old ++ event ∷ []) }
         ensures err { OnErr result (self.new ≡ self.old) }

@@ -262,7 +262,7 @@ pub struct Answers<'a, R: Runtime, W> {
 }
 
 impl<'a, R: Runtime, W: Write> Answers<'a, R, W> {
-    /// Returns such an output over a writer.
+    /// Returns an output over a writer, without explanations.
     pub fn new(rt: &'a R, writer: W) -> Answers<'a, R, W> {
         Answers {
             rt,
@@ -272,7 +272,7 @@ impl<'a, R: Runtime, W: Write> Answers<'a, R, W> {
         }
     }
 
-    /// Returns likewise one that explains refusals, if a user types the lines.
+    /// Like `new`, but the output explains each refusal if a user types the lines.
     pub fn explained(
         rt: &'a R,
         writer: W,

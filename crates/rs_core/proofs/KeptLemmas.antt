@@ -10,9 +10,9 @@ use Rattle.rs_settings.specs.Settings.{SettingsRecord}
 use Rattle.rs_core.specs.declared.state.State.{State}
 use Rattle.rs_core.specs.declared.state.State.TheVariants.{Down, Up, Waiting, GaveUp}
 use Rattle.rs_core.specs.declared.state.Running.{Running}
-use Rattle.rs_core.specs.Slots.{SlotsRecord, next_key, next_of, giving, with_next_given, with_freed}
+use Rattle.rs_core.specs.Slots.{SlotsRecord, next_key, next_of, next_taken, with_next_taken, with_freed}
 use Rattle.rs_core.specs.State.{is_up, up_count}
-use Rattle.rs_core.specs.Kept.{IsRunning, IsState, SlotsFit, IsRs, IsAtRest, IsNotAt, HaveTwoSlots, is_at, times_given}
+use Rattle.rs_core.specs.Kept.{IsRunning, IsState, SlotsFit, IsRs, IsAtRest, IsNotAt, HaveTwoSlots, is_at, times_taken}
 use Rattle.rs_core.specs.Machine.{pause}
 
 -- ---- counts
@@ -24,19 +24,19 @@ one b = cond b 1 0
 abbrev times_freed : ℕ → List ℕ → ℕ
 times_freed key freed = count_by (λ k. k == key) freed
 
-at_most_one : (given key : ℕ) → times_given given key ≤ 1
+at_most_one : (given key : ℕ) → times_taken given key ≤ 1
 at_most_one given key = by (nat_lt key given)
   where
     by : (b : Bool) → one b ≤ 1
     by true = omega arith
     by false = omega arith
 
-not_given : (given key : ℕ) → given ≤ key → times_given given key ≡ 0
-not_given given key h = ap one (le-ltb key given h)
+not_taken : (given key : ℕ) → given ≤ key → times_taken given key ≡ 0
+not_taken given key h = ap one (le-ltb key given h)
 
 -- one more key is taken
-given_more : (first given key : ℕ) → one ((first + given) == (first + key)) + times_given given key ≡ times_given (given + 1) key
-given_more first given key = elim (cases_eq key given) [
+taken_more : (first given key : ℕ) → one ((first + given) == (first + key)) + times_taken given key ≡ times_taken (given + 1) key
+taken_more first given key = elim (cases_eq key given) [
   | inl same ↦ rw (eq-eqb (first + given) (first + key) (omega (arith, same)), le-ltb key given (omega (arith, same)), lt-ltb key (given + 1) (omega (arith, same))) refl
   | inr other ↦ rw (ne_eqb (first + given) (first + key) (omega (arith, other))) (elim (cases_lt key given) [
     | inl low ↦ rw (lt-ltb key given low, lt-ltb key (given + 1) (omega (arith, low))) refl
@@ -101,15 +101,15 @@ stands first next more GaveUp le h = tt
 -- the slots change as its state does
 record Follows (first : ℕ) (freed more : List ℕ) (given now : ℕ) (before after : State) : Type 0 where
   once : (key : ℕ) →
-      times_freed key more + one (is_at first key after) + times_given given key ≡ times_freed key freed + one (is_at first key before) + times_given now key
+      times_freed key more + one (is_at first key after) + times_taken given key ≡ times_freed key freed + one (is_at first key before) + times_taken now key
   taken : length more + one (is_up after) + given ≡ length freed + one (is_up before) + now
 
 -- it takes the next slot
 takes_next : (first : ℕ) (freed : List ℕ) (given : ℕ) (before : State) (r : Running) → is_up before ≡ false →
     r.endpoint.slot ≡ first + next_of freed given →
-    Follows first freed (giving first freed given).freed given (giving first freed given).given before (Up r)
+    Follows first freed (next_taken first freed given).freed given (next_taken first freed given).taken before (Up r)
 takes_next first [] given before r rest slot = record {
-  once = λ key. rw (not_at first key before rest, slot) (omega (arith, given_more first given key));
+  once = λ key. rw (not_at first key before rest, slot) (omega (arith, taken_more first given key));
   taken = rw rest (omega arith);
 }
 takes_next first (k ∷ freed) given before r rest slot = record {
@@ -141,7 +141,7 @@ has_none first freed given before after was is = record {
 -- ---- what RS keeps
 
 kept_slots : (old new : SlotsRecord) (states : List State) (at : ℕ) (after : State) → new.first ≡ old.first → SlotsFit old states → at < length states →
-    Follows old.first old.freed new.freed old.given new.given (get_or states at Down) after → new.given ≤ 64 →
+    Follows old.first old.freed new.freed old.taken new.taken (get_or states at Down) after → new.taken ≤ 64 →
     SlotsFit new (set states at after)
 kept_slots old new states at after same kept within follows few = record {
   once = λ key. rw same (omega (arith, kept.once key, follows.once key, sum_by-set (λ s. one (is_at old.first key s)) states at after Down within));
@@ -151,7 +151,7 @@ kept_slots old new states at after same kept within follows few = record {
 
 kept_on : (settings : SettingsRecord) (states : List State) (tick now next more : ℕ) (old new : SlotsRecord) (at : ℕ) (after : State)
     → new.first ≡ old.first → IsRs settings states tick next old → at < length states → now ≤ 2 ^ 62 → next ≤ more → more ≤ 2097152 → IsState old.first more after
-    → Follows old.first old.freed new.freed old.given new.given (get_or states at Down) after → new.given ≤ 64 → new.given ≤ settings.slots
+    → Follows old.first old.freed new.freed old.taken new.taken (get_or states at Down) after → new.taken ≤ 64 → new.taken ≤ settings.slots
     → IsRs settings (set states at after) now more new
 kept_on settings states tick now next more old new at after same kept within worn le spent here follows few own = record {
   checked = kept.checked;
@@ -174,14 +174,14 @@ kept_on settings states tick now next more old new at after same kept within wor
 
 -- the next key is one of the settings' exactly if fewer services are up than there are slots
 key_below : (first limit : ℕ) (freed : List ℕ) (given : ℕ) (states : List State) → ((key : ℕ) →
-    times_freed key freed + count_by (is_at first key) states ≡ times_given given key) →
+    times_freed key freed + count_by (is_at first key) states ≡ times_taken given key) →
     length freed + up_count states ≡ given → given ≤ limit → (next_of freed given < limit) ↔ (up_count states < limit)
 key_below first limit [] given states once taken own = ((λ h. omega (arith, h, taken)), (λ h. omega (arith, h, taken)))
 key_below first limit (k ∷ freed) given states once taken own = (
   (λ h. omega (arith, taken, own)),
   (λ h. elim (cases_lt k given) [
     | inl low ↦ omega (arith, low, own)
-    | inr high ↦ absurd (omega (arith, once k, not_given given k high, freed_itself k freed))
+    | inr high ↦ absurd (omega (arith, once k, not_taken given k high, freed_itself k freed))
   ]),
 )
 
@@ -189,7 +189,7 @@ pub next_key_within : (settings : SettingsRecord) (states : List State) (tick ne
     IsRs settings states tick next slots →
     (next_key slots < settings.slots) ↔ (up_count states < settings.slots)
 next_key_within settings states tick next slots kept =
-    key_below slots.first settings.slots slots.freed slots.given states kept.fit.once kept.fit.taken kept.own
+    key_below slots.first settings.slots slots.freed slots.taken states kept.fit.once kept.fit.taken kept.own
 
 -- where a service isn't up, there are fewer that are than services
 fewer_up : (states : List State) (at : ℕ) → at < length states → is_up (get_or states at Down) ≡ false → up_count states < length states
@@ -208,22 +208,22 @@ some_up states at within up =
     omega (arith, is, get_or-le-sum_by (λ s. one (is_up s)) states at Down within)
 
 -- no more keys are taken than services may run at once
-giving_few : (settings : SettingsRecord) (states : List State) (tick next : ℕ) (slots : SlotsRecord) (at : ℕ) →
+taking_few : (settings : SettingsRecord) (states : List State) (tick next : ℕ) (slots : SlotsRecord) (at : ℕ) →
     IsRs settings states tick next slots → at < length states →
-    is_up (get_or states at Down) ≡ false → (giving slots.first slots.freed slots.given).given ≤ 64
-giving_few settings states tick next slots at kept within rest = by slots.freed kept.fit.taken
+    is_up (get_or states at Down) ≡ false → (next_taken slots.first slots.freed slots.taken).taken ≤ 64
+taking_few settings states tick next slots at kept within rest = by slots.freed kept.fit.taken
   where
-    by : (freed : List ℕ) → length freed + up_count states ≡ slots.given → (giving slots.first freed slots.given).given ≤ 64
+    by : (freed : List ℕ) → length freed + up_count states ≡ slots.taken → (next_taken slots.first freed slots.taken).taken ≤ 64
     by [] taken = omega (arith, taken, fewer_up states at within rest, kept.count, kept.checked.count)
     by (k ∷ freed) taken = kept.fit.few
 
 -- nor more than the settings have slots
-giving_own : (settings : SettingsRecord) (states : List State) (tick next : ℕ) (slots : SlotsRecord) →
+taking_own : (settings : SettingsRecord) (states : List State) (tick next : ℕ) (slots : SlotsRecord) →
     IsRs settings states tick next slots →
-    up_count states < settings.slots → (giving slots.first slots.freed slots.given).given ≤ settings.slots
-giving_own settings states tick next slots kept free = by slots.freed kept.fit.taken
+    up_count states < settings.slots → (next_taken slots.first slots.freed slots.taken).taken ≤ settings.slots
+taking_own settings states tick next slots kept free = by slots.freed kept.fit.taken
   where
-    by : (freed : List ℕ) → length freed + up_count states ≡ slots.given → (giving slots.first freed slots.given).given ≤ settings.slots
+    by : (freed : List ℕ) → length freed + up_count states ≡ slots.taken → (next_taken slots.first freed slots.taken).taken ≤ settings.slots
     by [] taken = omega (arith, taken, free)
     by (k ∷ freed) taken = kept.own
 
@@ -246,10 +246,10 @@ pub next_key_free : (slots : SlotsRecord) (states : List State) → SlotsFit slo
     IsNotAt slots.first (next_key slots) (get_or states i Down)
 next_key_free slots states kept i l = not_counted slots.first (next_key slots) states i l (by slots.freed kept.once)
   where
-    by : (freed : List ℕ) → ((key : ℕ) → times_freed key freed + count_by (is_at slots.first key) states ≡ times_given slots.given key) →
-        count_by (is_at slots.first (next_of freed slots.given)) states ≤ 0
-    by [] once = omega (arith, once slots.given, not_given slots.given slots.given (omega arith))
-    by (k ∷ freed) once = omega (arith, once k, at_most_one slots.given k, freed_itself k freed)
+    by : (freed : List ℕ) → ((key : ℕ) → times_freed key freed + count_by (is_at slots.first key) states ≡ times_taken slots.taken key) →
+        count_by (is_at slots.first (next_of freed slots.taken)) states ≤ 0
+    by [] once = omega (arith, once slots.taken, not_taken slots.taken slots.taken (omega arith))
+    by (k ∷ freed) once = omega (arith, once k, at_most_one slots.taken k, freed_itself k freed)
 
 -- no two instances run in one slot
 counted_twice : (first key : ℕ) (states : List State) (i j : ℕ) → i < j → j < length states → is_at first key (get_or states i Down) ≡ true →
@@ -284,7 +284,7 @@ two_slots next slots states kept each i j below l = by (get_or states i Down) re
         let here : is_at first key (get_or states i Down) ≡ true = ap (is_at first key) e ∙ eq-eqb r.endpoint.slot (first + key) (omega (arith, high)) in
         let there : is_at first key (get_or states j Down) ≡ true =
         ap (is_at first key) f ∙ eq-eqb q.endpoint.slot (first + key) (omega (arith, high, same)) in
-        omega (arith, kept.once key, at_most_one slots.given key, counted_twice first key states i j below l here there)
+        omega (arith, kept.once key, at_most_one slots.taken key, counted_twice first key states i j below l here there)
     by a e b f = tt
 
 pub pause_long : (k : ℕ) → 6 ≤ k → pause k ≡ 32
@@ -307,19 +307,19 @@ stop_has_room settings states tick next slots at kept within up =
     omega (arith, kept.fit.taken, kept.fit.few, some_up states at within up)
 
 -- the first slot stays
-giving_first : (first : ℕ) (freed : List ℕ) (given : ℕ) → (giving first freed given).first ≡ first
-giving_first first [] given = refl
-giving_first first (k ∷ freed) given = refl
+taking_first : (first : ℕ) (freed : List ℕ) (given : ℕ) → (next_taken first freed given).first ≡ first
+taking_first first [] given = refl
+taking_first first (k ∷ freed) given = refl
 
 -- a service is started in the next slot
 pub kept_by_start : (settings : SettingsRecord) (states : List State) (tick now next : ℕ) (slots : SlotsRecord) (at : ℕ) (r : Running) →
     IsRs settings states tick next slots → at < length states → now ≤ 2 ^ 62 → next ≤ 2097151 →
     up_count states < settings.slots → is_up (get_or states at Down) ≡ false → IsRunning slots.first (next + 1) r →
-    r.endpoint.slot ≡ slots.first + next_key slots → IsRs settings (set states at (Up r)) now (next + 1) (with_next_given slots)
+    r.endpoint.slot ≡ slots.first + next_key slots → IsRs settings (set states at (Up r)) now (next + 1) (with_next_taken slots)
 kept_by_start settings states tick now next slots at r kept within worn left free rest here slot =
-    kept_on settings states tick now next (next + 1) slots (with_next_given slots) at (Up r) (giving_first slots.first slots.freed slots.given) kept within worn (omega arith) (omega (arith, left)) here
-    (takes_next slots.first slots.freed slots.given (get_or states at Down) r rest slot)
-    (giving_few settings states tick next slots at kept within rest) (giving_own settings states tick next slots kept free)
+    kept_on settings states tick now next (next + 1) slots (with_next_taken slots) at (Up r) (taking_first slots.first slots.freed slots.taken) kept within worn (omega arith) (omega (arith, left)) here
+    (takes_next slots.first slots.freed slots.taken (get_or states at Down) r rest slot)
+    (taking_few settings states tick next slots at kept within rest) (taking_own settings states tick next slots kept free)
 
 -- its instance is stopped
 pub kept_by_stop : (settings : SettingsRecord) (states : List State) (tick now next : ℕ) (slots : SlotsRecord) (at : ℕ) (r : Running) (after : State) → IsRs settings states tick next slots → at < length states → now ≤ 2 ^ 62 →
@@ -327,8 +327,8 @@ pub kept_by_stop : (settings : SettingsRecord) (states : List State) (tick now n
 kept_by_stop settings states tick now next slots at r after kept within worn up rest =
     let key = r.endpoint.slot - slots.first in
     kept_on settings states tick now next next slots (with_freed slots key) at after refl kept within worn (omega arith) kept.spent (at_rest slots.first next after rest)
-    (subst (λ (z : State). Follows slots.first slots.freed (key ∷ slots.freed) slots.given slots.given z after) (sym up)
-    (gives_back slots.first slots.freed slots.given r after (up_keeps settings states tick next slots at r kept within up).slot (rest_not_up after rest)))
+    (subst (λ (z : State). Follows slots.first slots.freed (key ∷ slots.freed) slots.taken slots.taken z after) (sym up)
+    (gives_back slots.first slots.freed slots.taken r after (up_keeps settings states tick next slots at r kept within up).slot (rest_not_up after rest)))
     kept.fit.few kept.own
 
 -- its instance continues, or another one runs in the same slot
@@ -338,7 +338,7 @@ pub kept_by_change : (settings : SettingsRecord) (states : List State) (tick now
     IsRs settings (set states at (Up q)) now more slots
 kept_by_change settings states tick now next more slots at r q kept within worn le spent up here same =
     kept_on settings states tick now next more slots slots at (Up q) refl kept within worn le spent here
-    (subst (λ (z : State). Follows slots.first slots.freed slots.freed slots.given slots.given z (Up q)) (sym up) (keeps_slot slots.first slots.freed slots.given r q same))
+    (subst (λ (z : State). Follows slots.first slots.freed slots.freed slots.taken slots.taken z (Up q)) (sym up) (keeps_slot slots.first slots.freed slots.taken r q same))
     kept.fit.few kept.own
 
 -- a service that isn't up is left so
@@ -347,5 +347,5 @@ pub kept_at_rest : (settings : SettingsRecord) (states : List State) (tick now n
     is_up (get_or states at Down) ≡ false → IsAtRest after → IsRs settings (set states at after) now next slots
 kept_at_rest settings states tick now next slots at after kept within worn was rest =
     kept_on settings states tick now next next slots slots at after refl kept within worn (omega arith) kept.spent (at_rest slots.first next after rest)
-    (has_none slots.first slots.freed slots.given (get_or states at Down) after was (rest_not_up after rest))
+    (has_none slots.first slots.freed slots.taken (get_or states at Down) after was (rest_not_up after rest))
     kept.fit.few kept.own

@@ -5,7 +5,7 @@ use Rattle.rs_core.specs.declared.state.State.{State}
 use Rattle.rs_core.specs.declared.state.Running.{Running}
 use Rattle.rs_core.specs.Action.{start_actions, stop_actions}
 use Rattle.rs_core.specs.Machine.{started_at, failed, failures_left, new_endpoint, same_slot}
-use Rattle.rs_core.specs.Slots.{with_next_given, with_freed}
+use Rattle.rs_core.specs.Slots.{with_next_taken, with_freed}
 use Rattle.rs_core.specs.State.{RsRecord, rs_of, service_at}
 
 -- The failures in a row that still count when its instance ends.
@@ -19,7 +19,7 @@ after_start s place tick failures =
     (slice_set s.states place (started_at (new_endpoint s) tick (service_at s place).startup failures))
     tick
     (s.next + 1)
-    (with_next_given s.slots)
+    (with_next_taken s.slots)
 
 -- The state after its instance was stopped, which leaves the service in the state `after`.
 abbrev pub after_stop : RsRecord → ℕ → ℕ → Running → State → RsRecord

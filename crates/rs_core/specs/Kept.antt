@@ -32,17 +32,17 @@ is_at first key Down = false
 is_at first key GaveUp = false
 
 -- The number of times that a key was taken first: 1 for a key that was ever taken, 0 for any other.
-abbrev pub times_given : ℕ → ℕ → ℕ
-times_given given key = if nat_lt key given then 1 else 0
+abbrev pub times_taken : ℕ → ℕ → ℕ
+times_taken given key = if nat_lt key given then 1 else 0
 
 -- Whether the slots fit the states: no slot is lost, and none has two instances.
 pub record SlotsFit (slots : SlotsRecord) (states : List State) : Type 0 where
   -- a key that was ever taken is either free or has one instance; no other key is
-  pub once : (key : ℕ) → count_by (λ k. k == key) slots.freed + count_by (is_at slots.first key) states ≡ times_given slots.given key
+  pub once : (key : ℕ) → count_by (λ k. k == key) slots.freed + count_by (is_at slots.first key) states ≡ times_taken slots.taken key
   -- the keys that were taken and not freed are as many as the services that are up
-  pub taken : length slots.freed + up_count states ≡ slots.given
+  pub taken : length slots.freed + up_count states ≡ slots.taken
   -- no more keys were ever taken than services may run at once
-  pub few : slots.given ≤ 64
+  pub few : slots.taken ≤ 64
 
 -- Whether the generation of the first start isn't 1 to 2097152, or the slots don't lie within 16 to 1023.
 abbrev pub IsOutOfRange : ℕ → ℕ → ℕ → Type 0
@@ -58,7 +58,7 @@ pub record IsRs (settings : SettingsRecord) (states : List State) (tick next : �
   pub spent : next ≤ 2097152
   pub each : (i : ℕ) → i < length states → IsState slots.first next (slice_index_or states i Down)
   pub fit : SlotsFit slots states
-  pub own : slots.given ≤ settings.slots
+  pub own : slots.taken ≤ settings.slots
   -- RS's slots are above the system's own, and within an endpoint's range
   pub low : 16 ≤ slots.first
   pub high : slots.first + settings.slots ≤ 1024

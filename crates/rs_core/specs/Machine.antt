@@ -18,7 +18,7 @@ use Rattle.rs_core.specs.declared.deed.Deed.{Deed}
 use Rattle.rs_core.specs.declared.deed.Deed.TheVariants.{Begin, Resume, Halt, Replace, Lose, Forget, Hear, Ping}
 use Rattle.rs_core.specs.declared.deed.Plan.{Plan}
 use Rattle.rs_core.specs.Action.{start_actions, stop_actions}
-use Rattle.rs_core.specs.Slots.{SlotsRecord, next_key, with_next_given, with_freed}
+use Rattle.rs_core.specs.Slots.{SlotsRecord, next_key, with_next_taken, with_freed}
 use Rattle.rs_core.specs.State.{RsRecord, state_at}
 use Rattle.rs_core.specs.Table.{on_up, on_stop, on_refresh, on_restart, on_death}
 use Rattle.rs_core.specs.Finding.{service_place}
@@ -130,9 +130,9 @@ next_after s state _ = s.next
 -- The slots after the deed. A start takes the next slot, a stop frees its instance's, and a start after a stop takes
 -- that one again.
 abbrev pub slots_after : RsRecord → State → Deed → SlotsRecord
-slots_after s Down Begin = with_next_given s.slots
-slots_after s GaveUp Begin = with_next_given s.slots
-slots_after s (Waiting p) Resume = with_next_given s.slots
+slots_after s Down Begin = with_next_taken s.slots
+slots_after s GaveUp Begin = with_next_taken s.slots
+slots_after s (Waiting p) Resume = with_next_taken s.slots
 slots_after s (Up r) (Lose kill) = with_freed s.slots (r.endpoint.slot - s.slots.first)
 slots_after s (Up r) Halt = with_freed s.slots (r.endpoint.slot - s.slots.first)
 slots_after s state _ = s.slots

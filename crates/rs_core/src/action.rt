@@ -67,7 +67,7 @@ impl Actions {
         }
     }
 
-    /// Appends an action. If memory runs out, the list is unchanged and the error returns the action.
+    /// Appends an action. If memory runs out, the list is unchanged and the error hands the action back.
     pub fn push(&mut self, action: Action) -> Result<(), AllocFailed<Action>>
         ensures ok { OnOk result (self.new ≡ self.old ++ action ∷ []) }
         ensures err { OnErr result (self.new ≡ self.old) }

@@ -1,7 +1,7 @@
 //! Process slots.
 
 ghost use Rattle.std.specs.Prelude.{◌≡◌, ◌<◌, length};
-ghost use Rattle.rs_core.specs.Slots.{new_slots, next_key, with_next_given, with_freed};
+ghost use Rattle.rs_core.specs.Slots.{new_slots, next_key, with_next_taken, with_freed};
 
 use arrayvec::ArrayVec;
 use std::marker::Model;
@@ -16,7 +16,7 @@ pub(crate) struct Slots {
     // The freed keys, the last one freed at the end. At most 64 services run.
     freed: ArrayVec<usize, 64>,
     // How many keys were ever taken; all of them are below this.
-    given: usize,
+    taken: usize,
 }
 
 impl Model for Slots {
@@ -27,7 +27,7 @@ impl Model for Slots {
 
     ghost coded = { slots_code };
 
-    ghost view = { λ s. slots_from s.first (reverse s.freed.items) s.given };
+    ghost view = { λ s. slots_from s.first (reverse s.freed.items) s.taken };
 }
 
 impl Slots {
@@ -38,7 +38,7 @@ impl Slots {
         Slots {
             first,
             freed: ArrayVec::new(),
-            given: 0,
+            taken: 0,
         }
     }
 
@@ -55,17 +55,17 @@ impl Slots {
     {
         match self.freed.as_slice().last() {
             Some(key) => *key,
-            None => self.given,
+            None => self.taken,
         }
     }
 
-    /// Takes that key.
-    pub fn give(&mut self)
+    /// Takes the key that [`Slots::next_key`] returns. It must be below 1008, since slots are 16 to 1023.
+    pub fn take_next(&mut self)
         requires { next_key self.old < 1008 }
-        ensures { self.new ≡ with_next_given self.old }
+        ensures { self.new ≡ with_next_taken self.old }
     {
         if self.freed.pop().is_none() {
-            self.given += 1;
+            self.taken += 1;
         }
     }
 

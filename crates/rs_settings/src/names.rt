@@ -32,7 +32,7 @@ impl Names {
         }
     }
 
-    /// Appends a name. If memory runs out, the list is unchanged and the error returns the name.
+    /// Appends a name. If memory runs out, the list is unchanged and the error hands the name back.
     pub fn push(&mut self, name: Name) -> Result<(), AllocFailed<Name>>
         ensures ok { OnOk result (self.new ≡ self.old ++ name ∷ []) }
         ensures err { OnErr result (self.new ≡ self.old) }

@@ -33,7 +33,7 @@ impl Services {
         }
     }
 
-    /// Appends a service. If memory runs out, the list is unchanged and the error returns the service.
+    /// Appends a service. If memory runs out, the list is unchanged and the error hands the service back.
     pub fn push(&mut self, service: Service) -> Result<(), AllocFailed<Service>>
         ensures ok { OnOk result (self.new ≡ self.old ++ service ∷ []) }
         ensures err { OnErr result (self.new ≡ self.old) }

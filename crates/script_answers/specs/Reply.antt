@@ -116,7 +116,7 @@ reply_words wording (Merged done taken stale owed) = merged wording done taken s
 reply_words wording (MergeStopped done fault owed) = stopped wording done fault
 reply_words wording (Refused fault) = refused fault
 
--- The bytes of a mask, one for eight subscriptions, the greatest first, in lower-case hex.
+-- The bytes of a mask, one for each eight subscriptions, the most significant first, in lower-case hex.
 abbrev pub mask_hex : LimitsRecord → ℕ → List ℕ
 mask_hex limits mask = encode_lower (bytes_high_first (limits.subs / 8) mask)
 

@@ -19,12 +19,13 @@ use ds_names::{NoRoom, Version};
 use itoa::Buffer;
 use std::alloc::Global;
 
-/// Returns the lines of a reply from a store of these limits, with this wording of a Merge.
+/// Returns the lines of a reply from a store of these limits, with this wording of a Merge, or NoRoom if memory runs out.
 ///
-/// A change that took effect is `taken`. An offer, which is a Merge of one item, is answered by the outcome of that
-/// item; any other Merge by the numbers of items done, taken and stale. The items of a check, of the journal, of a
-/// snapshot and of a page come first, each on its line. If notices are owed, the last line is the mask of their
-/// subscriptions: a byte for eight of the limits, the greatest byte first. The lines are this project's own.
+/// The items of a check, of the journal, of a snapshot and of a page come first, each on its line. A change that took
+/// effect is `taken`. An offer, which is a Merge of one item, is answered by the outcome of that item. Any other Merge is
+/// answered by the numbers of items done, taken and stale. If notices are owed, the last line is the mask of their
+/// subscriptions in hex: a byte for each eight subscriptions of the limits, the most significant byte first. The lines are
+/// this project's own.
 pub fn write_reply(
     alloc: Global,
     wording: Wording,

@@ -6,7 +6,7 @@ use Rattle.ds_entry.specs.declared.item.Item.TheVariants.{Change as Changed, Flo
 use Rattle.ds_line.specs.ItemSpelling.{item_parts, item_spelling}
 use Rattle.ds_line.specs.ItemFault.{IsItemFault}
 use Rattle.ds_line.specs.ItemReading.{ReadsItemLine}
-use Rattle.ds_line.specs.FaultPlace.{Stand, LineTakesRoom}
+use Rattle.ds_line.specs.FaultPlace.{Stand, ItemLineTakesMemory}
 use Rattle.ds_line.specs.Piece.{Found, StopsIn}
 use Rattle.ds_line.specs.declared.part_fault.PartFault.{PartFault}
 use Rattle.ds_line.specs.declared.part_fault.PartFault.TheVariants.{BadPart, NoRoom}
@@ -82,7 +82,7 @@ offer_found bytes text i n space line is =
     (Ok i, drop n text, finds (ItemTakesMemory bytes) found, refl)
 
 -- memory runs out for the item
-pub offer_no_room : (bytes text : List ℕ) → bytes ≡ 32 ∷ text → LineTakesRoom text → TakesRow words.Offer bytes (Err NoRoom)
+pub offer_no_room : (bytes text : List ℕ) → bytes ≡ 32 ∷ text → ItemLineTakesMemory text → TakesRow words.Offer bytes (Err NoRoom)
 offer_no_room bytes text space room =
     let found = item_found bytes text room.rest (Changed room.change) space room.line room.front in
     offer_stops bytes NoRoom (λ _. (Changed room.change, room.rest, found, room.value)) (Changed room.change, room.rest, found)

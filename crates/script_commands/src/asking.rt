@@ -12,7 +12,7 @@ use std::alloc::Global;
 
 impl ScriptCommand {
     /// Returns the command that the line sends to a store; `None` if it sends none. An `offer` is a Merge of one item.
-    /// Refuses NoRoom if the list of that item can't be allocated.
+    /// Reports NoRoom if memory runs out for the list of that item.
     pub fn into_store_command(self, alloc: Global) -> Result<Option<Command>, NoRoom>
         ensures command { IfOk result (λ command. command ≡ store_command self) }
         ensures room { OnErr result (is_offer self ≡ true) }

@@ -12,8 +12,8 @@ use std::alloc::Global;
 
 impl ScriptCommand {
     /// Returns the line's event in a world; a store command goes to the store of `side`. `None` for a line without an
-    /// event there: `show`, `all`, `entries`, `ring`, `side`, and those for RS and driver tables. Refuses NoRoom if the
-    /// list of an `offer`'s one item can't be allocated.
+    /// event there: `show`, `all`, `entries`, `ring`, `side`, and those for RS and driver tables. Reports NoRoom if
+    /// memory runs out for the list of an `offer`'s one item.
     pub fn into_event(self, alloc: Global, side: Side) -> Result<Option<Event>, NoRoom>
         ensures event { IfOk result (λ event. event ≡ event_of side self) }
         ensures room { OnErr result (is_offer self ≡ true) }

@@ -32,8 +32,8 @@ impl<'a> Rest<'a> {
     }
 }
 
-/// Returns the query of a pattern, given by the bytes between its quotes, and of some kinds. Refuses NoRoom if the
-/// pattern can't be allocated.
+/// Returns the query of a pattern, given by the bytes between its quotes, and of some kinds. Reports NoRoom if
+/// memory runs out for the pattern.
 pub(crate) fn query_of(alloc: Global, written: &[u8], kinds: Kinds) -> Result<Query, NoRoom>
     requires { IsWrittenText written.now }
     ensures { IfOk result (λ query. written_query written.now kinds ≡ query) }

@@ -61,7 +61,7 @@ impl Rest<'_> {
         Ok(holder)
     }
 
-    /// Reads the number of items to deliver, or `*`.
+    /// Reads the number of items to deliver, below 2^32, or `*`. Returns `None` for `*`: all of them.
     pub fn count(&mut self) -> Result<Option<u32>, PartFault>
         ensures { Reads a_count self.old.bytes.now result self.new.bytes.now }
     {

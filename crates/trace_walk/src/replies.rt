@@ -1,4 +1,5 @@
-//! Reply lines that are read before the store is called: out of memory, which a legal trace may have at any time.
+//! Tests of reply lines. Those for out of memory come before the store is called, since a legal trace may have them at any
+//! time.
 
 ghost use Rattle.std.specs.Prelude.{◌≡◌, ◌≢◌, ◌≤◌, ◌↔◌, ◌∷◌, ℕ, IfSome, IfNone, IsTrue};
 ghost use Rattle.trace_walk.specs.Noroom.{noroom_line, stopped_line};

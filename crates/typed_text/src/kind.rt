@@ -36,8 +36,8 @@ const ANSWERS: [&str; 17] = [
 ];
 
 impl TextKind {
-    /// Returns the kind of the text with this front, if that can be said: by its first line that is neither empty nor a
-    /// comment.
+    /// Returns the kind of the text with this front, by its first line that is neither empty nor a comment. Returns
+    /// `None` without such a line, or if it fits no kind.
     pub fn of(text: &[u8]) -> Option<TextKind> {
         for line in text.split(|byte| *byte == b'\n') {
             if !is_note(line) {
@@ -47,7 +47,7 @@ impl TextKind {
         None
     }
 
-    /// Returns the kind of the text that begins with this line, if that can be said.
+    /// Returns the kind of the text that begins with this line, without leading spaces, or `None` if it fits no kind.
     pub fn of_line(line: &[u8]) -> Option<TextKind> {
         let (word, rest) = word_at(line);
         if word == b"trace".as_slice() && rest.starts_with(b" ") {

@@ -21,8 +21,11 @@ pub(crate) struct Document<'a> {
     pub table: &'a Table,
 }
 
-/// Writes to standard error each fault of a settings text in a line of its own, in the order of their lines: the line of
-/// the text, the service by its label, the field, what is there, and what was expected. A failed write is ignored.
+/// Writes the faults of a settings text to standard error, each on a line of its own, in the order of the text's lines. A
+/// failed write is ignored.
+///
+/// A text that isn't UTF-8, or isn't TOML, has that one fault. Any other fault names the line of the text, the service by
+/// its label or else its index, the field, what is there, and what was expected.
 ///
 /// NoRoom: out of memory to parse the text again, or to keep its faults. Nothing is written then.
 pub fn explain_settings(rt: &(impl Runtime + AllocGlobal), text: &[u8]) -> Result<(), NoRoom> {
@@ -96,7 +99,7 @@ fn add_service(faults: &mut Faults, document: Document<'_>, index: usize) -> Res
     Ok(())
 }
 
-// Adds each field that a service needs and hasn't.
+// Adds each field that a service needs and doesn't have.
 fn add_missing(
     faults: &mut Faults,
     document: Document<'_>,

@@ -122,7 +122,7 @@ impl Rs {
         let beat = self.first_beat(place, tick);
         let mut actions = Actions::new(self.alloc);
         add_start(&mut actions, label, endpoint)?;
-        self.slots.give();
+        self.slots.take_next();
         self.states[place] = State::Up(Running {
             endpoint,
             since: tick,

@@ -36,5 +36,5 @@ invariant_of-self c =
       slot = omega (arith, slot);
       failures = c.requires.failures;
     } in
-    subst (λ (z : SlotsRecord). IsRs s.settings (slice_set s.states.items c.args.place (Up r)) c.args.tick (s.next + 1) z) (sym c.give.ensures)
+    subst (λ (z : SlotsRecord). IsRs s.settings (slice_set s.states.items c.args.place (Up r)) c.args.tick (s.next + 1) z) (sym c.take_next.ensures)
     (kept_by_start s.settings s.states.items s.tick c.args.tick s.next s.slots c.args.place r c.self.invariant within c.requires.tick next free rest here slot)
