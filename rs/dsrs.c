@@ -6,9 +6,11 @@
 #include "reload.h"
 #include "rs.h"
 #include "signals.h"
+#include "strays.h"
 #include "usage.h"
 #include <dirent.h>
 #include <errno.h>
+#include <fcntl.h>
 #include <limits.h>
 #include <signal.h>
 #include <stdio.h>
@@ -116,26 +118,40 @@ static int read_words(int count, char **words, struct options *it) {
 
 /* ---- beginning and ending ---- */
 
-/* Removes the sockets that a dsrs left which ended without a word. */
+/* Removes the sockets that a dsrs left which ended without a word, and nothing else. */
 static void empty_folder(const char *path) {
     DIR *folder = opendir(path);
-    for (struct dirent *entry; folder && (entry = readdir(folder));)
-        if (*entry->d_name != '.') unlinkat(dirfd(folder), entry->d_name, 0);
+    struct stat it;
+    for (struct dirent *entry; folder && (entry = readdir(folder));) {
+        bool is_socket = !fstatat(dirfd(folder), entry->d_name, &it, AT_SYMLINK_NOFOLLOW) && S_ISSOCK(it.st_mode);
+        if (is_socket) unlinkat(dirfd(folder), entry->d_name, 0);
+    }
     if (folder) closedir(folder);
 }
 
+/* Whether it is a folder of this user, in which nobody else may make files. */
+static bool is_own_folder(const char *path) {
+    struct stat it;
+    return !lstat(path, &it) && S_ISDIR(it.st_mode) && it.st_uid == geteuid() && !(it.st_mode & (S_IWGRP | S_IWOTH));
+}
+
 /* Makes the folder of sockets. Its path is absolute, since services have other working directories. Anybody may pass
- * through it, and nobody else may make files in it. */
-static bool open_folder(struct host *host) {
+ * through it. */
+static int open_folder(struct host *host) {
     char path[PLACE_PATH + 2], *whole;
     snprintf(path, sizeof path, "%s.d", host->place.path);
-    if ((mkdir(path, 0711) && errno != EEXIST) || !(whole = realpath(path, NULL))) return false;
+    if (mkdir(path, 0711) && errno != EEXIST) return failed(host, "socket");
+    if (!is_own_folder(path)) {
+        log_say(&host->log, LOG_ERROR, "socket: %s: it isn't a folder that this user alone may write, and is left alone", path);
+        return FAILED;
+    }
+    if (!(whole = realpath(path, NULL))) return failed(host, "socket");
     int length = snprintf(host->folder, sizeof host->folder, "%s", whole);
     free(whole);
     errno = ENAMETOOLONG;
-    if (length >= (int)sizeof host->folder) return false;
+    if (length >= (int)sizeof host->folder) return failed(host, "socket");
     empty_folder(host->folder);
-    return true;
+    return GO_ON;
 }
 
 /* A limit isn't raised, since services would have it, too. */
@@ -152,7 +168,7 @@ static int open_all(struct host *host) {
     struct rs *rs = &host->rs;
     look_at_limit(host);
     if (!place_lock(&host->place)) return FAILED;
-    if (!open_folder(host)) return failed(host, "socket");
+    if (open_folder(host) != GO_ON) return FAILED;
     host->epoll = rs->peers.epoll = rs->instances.epoll = epoll_create1(EPOLL_CLOEXEC);
     if (host->epoll < 0) return failed(host, "epoll");
     if (!watch_open(&host->signals, host->epoll, signals_open(signals, sizeof signals / sizeof *signals), EPOLLIN)) return failed(host, "signalfd");
@@ -184,14 +200,19 @@ static void begin_end(struct host *host) {
     rs->left = rs->services;
 }
 
-/* The first signal stops services with their grace, and a second one without. */
-static void take_end(struct host *host) {
-    struct rs *rs = &host->rs;
-    bool is_second = rs->ending;
-    if (!is_second) begin_end(host);
-    else rs->instances.grace = 0;
-    for (struct instance *it = rs->instances.first; it && is_second; it = it->next)
+/* What has its grace is killed now, and what is to end later gets none. */
+static void end_graces(struct rs *rs) {
+    rs->instances.grace = 0;
+    for (struct instance *it = rs->instances.first; it; it = it->next)
         if (it->kill_at) it->kill_at = clock_now();
+    for (struct service *it = rs->kept; it < rs->kept + KEPT; it++)
+        if (it->logger.ends && it->logger.due) it->logger.due = clock_now();
+}
+
+/* The first signal stops services and log programs with their grace, and a second one without. */
+static void take_end(struct host *host) {
+    if (host->rs.ending) end_graces(&host->rs);
+    else begin_end(host);
 }
 
 static void read_signals(struct host *host) {
@@ -322,6 +343,7 @@ static void prepare(struct host *host, const struct options *options) {
     rs->generations = (struct generations){.path = options->generations, .file = -1};
     rs->stream = (struct stream){.url = options->stream, .name = options->stream_name, .bell.file = -1};
     rs->instances.cgroups.folder = -1;
+    rs->instances.begun = strays_time();
     rs->instances.services = options->services;
     rs->instances.endpoints = host->folder;
     rs->instances.events = &rs->events;

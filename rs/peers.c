@@ -97,13 +97,14 @@ void peers_turn(struct rs *rs) {
 /* A socket holds a few hundred kilobytes at most. */
 void peers_finish(struct rs *rs, struct instance *instance) {
     struct peer *peer = peer_of(&rs->peers, instance);
-    size_t before;
+    bool has_read;
     if (!peer) return;
     do {
-        before = peer->wire.in.length;
+        size_t before = peer->wire.in.length;
         read_in(peer);
+        has_read = peer->wire.in.length != before;
         while (is_ready(peer)) answer_lines(rs, peer);
-    } while (may_answer(peer) && !peer->wire.ended && peer->wire.in.length != before);
+    } while (has_read && may_answer(peer));
 }
 
 /* ---- what they are sent ---- */

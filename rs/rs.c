@@ -199,19 +199,40 @@ static void note_cause(struct rs *rs, const struct ds_rs_event *event) {
     rs->is_gentle = event->kind == DS_RS_DOWN || event->kind == DS_RS_REFRESH;
 }
 
-/* The file has the generation of the next start before RS can use it. */
-static void keep_generation(struct rs *rs) {
+/* Writes the generation of the next start, before RS can use it. Returns whether the file has it. A fault is reported once. */
+static bool keep_generation(struct rs *rs) {
     uint32_t next;
-    if (ds_rs_next(&rs->store, &next) || generations_keep(&rs->generations, next)) return;
-    events_tell(&rs->events, LOG_ERROR, "generations: %s: %s", rs->generations.path, strerror(errno));
+    bool fails = !ds_rs_next(&rs->store, &next) && !generations_keep(&rs->generations, next);
+    if (fails && !rs->unkept) events_tell(&rs->events, LOG_ERROR, "generations: %s: %s", rs->generations.path, strerror(errno));
+    rs->unkept = fails;
+    return !fails;
+}
+
+static bool is_start_due(struct rs *rs) {
+    struct ds_rs_service it;
+    for (size_t i = 0; !ds_rs_service(&rs->store, i, &it); i++)
+        if (it.state == DS_RS_ISWAITING && it.until <= rs->ticks.now) return true;
+    return false;
+}
+
+/* Whether RS may start an instance at an event. */
+static bool may_start(struct rs *rs, const struct ds_rs_event *event) {
+    if (event->kind == DS_RS_TICK) return is_start_due(rs);
+    return event->kind == DS_RS_UP || event->kind == DS_RS_REFRESH || event->kind == DS_RS_RESTART;
+}
+
+/* Otherwise a later run, which reads the file, could use the generation again. */
+static bool refuse_start(struct ds_answer *answer, struct text *to) {
+    *answer = (struct ds_answer){.word = DS_REFUSED, .refusal = DS_NOROOM};
+    return !to || text_print(to, "refused noroom\n");
 }
 
 /* Owes the notices of what RS did, and notes which servers get one. */
 static void note_told(struct rs *rs, const uint8_t owed[16]) {
     for (size_t i = 0; i < rs->peers.count; i++) {
         struct peer *peer = rs->peers.peer[i];
-        const struct instance *it = peer->instance;
-        if (wire_owe(&peer->wire, owed) && it) events_tell(&rs->events, LOG_INFO, "told: %s %s", it->service->label, it->endpoint);
+        const struct instance *it = peer->instance; /* of one that is gone it may be freed */
+        if (!peer->gone && wire_owe(&peer->wire, owed) && it) events_tell(&rs->events, LOG_INFO, "told: %s %s", it->service->label, it->endpoint);
     }
 }
 
@@ -220,7 +241,7 @@ static bool report(struct rs *rs, struct ds_rs_event *event, struct text *to, st
     struct ds_rs_action actions[ACTIONS];
     size_t count = 0;
     event->tick = rs->ticks.now;
-    keep_generation(rs);
+    if (!keep_generation(rs) && may_start(rs, event)) return refuse_start(answer, to);
     note_cause(rs, event);
     if (ds_rs_event(&rs->store, event, answer)) return true;
     bool put = !to || (answer->word == DS_NOREQUEST ? text_print(to, "norequest\n") : lines_fetch(&rs->store, to) == LINES_ANSWERED);

@@ -32,7 +32,8 @@ struct rs {
     struct events events;
     size_t left;   /* while it goes down: how many services are still to be stopped, the last one first */
     bool ending;
-    bool repeats;  /* an event is reported again a little later, since memory ran out */
+    bool repeats;  /* an event is reported again a little later, since memory ran out, or the generation isn't kept */
+    bool unkept;   /* the next generation couldn't be written */
     enum cause cause; /* of an end that the current event brings, */
     bool is_gentle;   /* by SIGTERM first */
 };

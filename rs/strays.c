@@ -9,11 +9,19 @@
 #include <stdlib.h>
 #include <string.h>
 #include <sys/wait.h>
+#include <time.h>
 #include <unistd.h>
 
 enum { PIECE = 1 << 12, ENVIRONMENT = 1 << 22 /* bytes that are read of one */ };
 
-struct seen { pid_t parent, group, session; char state; };
+struct seen { pid_t parent, group, session; char state; unsigned long long begun; };
+
+uint64_t strays_time(void) {
+    struct timespec now;
+    clock_gettime(CLOCK_BOOTTIME, &now);
+    uint64_t each = (uint64_t)sysconf(_SC_CLK_TCK);
+    return (uint64_t)now.tv_sec * each + (uint64_t)now.tv_nsec * each / 1000000000;
+}
 
 /* Reads what the kernel says of a process. The name in it, in parentheses, may have any bytes. */
 static bool look_at(pid_t pid, struct seen *seen) {
@@ -26,16 +34,17 @@ static bool look_at(pid_t pid, struct seen *seen) {
     if (length <= 0) return false;
     line[length] = '\0';
     const char *rest = strrchr(line, ')');
-    return rest && sscanf(rest + 1, " %c %d %d %d", &seen->state, &seen->parent, &seen->group, &seen->session) == 4;
+    const char *format = " %c %d %d %d %*d %*d %*u %*u %*u %*u %*u %*u %*u %*d %*d %*d %*d %*d %*d %llu";
+    return rest && sscanf(rest + 1, format, &seen->state, &seen->parent, &seen->group, &seen->session, &seen->begun) == 5;
 }
 
-/* Whether it isn't a stray: it is of an instance, or a log program, or lives in the group of one. */
+/* Whether it isn't a stray: it is of an instance, or a log program, or lives in the session or the group of one. */
 static bool is_known(const struct instances *all, pid_t pid, const struct seen *seen) {
     for (const struct logger *it = all->loggers; it; it = it->next)
         if (it->pid == pid || (it->pid == seen->group && seen->state != 'Z')) return true;
     for (const struct instance *it = all->first; it; it = it->next)
-        if (it->pid == pid || it->pid == seen->session) return true;
-    return false;
+        if (it->pid == pid || (it->pid == seen->session && seen->state != 'Z')) return true;
+    return seen->state != 'Z' && seen->begun <= all->begun;
 }
 
 /* Reads a file of /proc as a whole, with a zero after it. */

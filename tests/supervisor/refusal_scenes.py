@@ -14,8 +14,10 @@ AT_ONCE = 6
 LIVES = "#!/bin/sh\nexec sleep 1000\n"
 
 
-def build(room):
-    made = room / "refuse.so"
+def build(host):
+    if b"__asan_init" in pathlib.Path(host.words[0]).read_bytes():
+        raise Skipped("sanitizers replace the calls for memory")
+    made = host.home / "refuse.so"
     subprocess.run([os.environ.get("CC", "cc"), "-std=c11", "-D_GNU_SOURCE", "-O1", "-w", "-shared", "-fPIC", "-o", made, HERE / "refuse.c", "-ldl"], check=True)
     return made
 
@@ -96,9 +98,7 @@ def both_up(host):
 
 def refused_in_turn(host, count):
     """Runs supervisors: in each `count` calls fail, from another call on, until no call is left."""
-    if b"__asan_init" in pathlib.Path(host.words[0]).read_bytes():
-        raise Skipped("sanitizers replace the calls for memory")
-    library = build(host.home)
+    library = build(host)
 
     def work(number):
         with Host(host.words, host.room) as one:
@@ -123,3 +123,30 @@ def one_call_after_another_is_refused(host):
 @scene
 def some_calls_at_once_are_refused(host):
     refused_in_turn(host, 12)
+
+
+@scene
+def nothing_starts_whose_generation_is_not_kept(host):
+    """While the next generation can't be written, RS starts nothing. Once it can, what failed starts, and no generation is used twice."""
+    file, readonly = host.home / "services" / ".generation", host.home / "readonly"
+    host.words = ["env", f"LD_PRELOAD={build(host)}", f"READONLY={readonly}", *host.words]
+    host.start({"a": ({"limit": 1000}, LIVES), "b": ({}, LIVES)})
+    host.ask("status")
+    kept = int(file.read_text())
+    readonly.touch()
+    until(lambda: host.ask("service refresh a") == "refused noroom", "the generations that are kept are used up")
+    equal(int(host.ask("retrieve a label").split()[1].split("/")[0]), kept - 1)
+    os.kill(until(lambda: both_up(host), "both are up")["a"], signal.SIGKILL)
+    host.logged("died a")
+    time.sleep(0.3)
+    equal([host.status()[label][0] for label in "ab"], ["waiting", "up"])
+    equal([host.ask(f"service {word} a") for word in ("up", "restart")], ["refused noroom"] * 2)
+    host.logged("generations")
+    assert host.log().count("event=generations") == 1, host.log()
+    readonly.unlink()
+    until(lambda: both_up(host), "it starts")
+    equal(int(host.ask("retrieve a label").split()[1].split("/")[0]), kept)
+    host.kill()
+    host.start()
+    assert int(host.ask("retrieve a label").split()[1].split("/")[0]) > kept, "a generation again"
+    host.end()

@@ -1,8 +1,9 @@
 /* A library that is preloaded into a supervisor: of the calls below, REFUSALS calls fail, from number REFUSE on. The supervisor's
- * children aren't affected. The file REFUSED is made once a call failed. */
+ * children aren't affected. The file REFUSED is made once a call failed. While the file READONLY is there, each pwrite fails. */
 #include <dlfcn.h>
 #include <errno.h>
 #include <fcntl.h>
+#include <stdbool.h>
 #include <stdlib.h>
 #include <sys/epoll.h>
 #include <sys/signalfd.h>
@@ -12,19 +13,25 @@
 #include <unistd.h>
 
 static long left, more; /* calls until the first that fails; how many fail then */
-static char made[4096];
+static char made[4096], readonly[4096];
 
 void *__libc_malloc(size_t), *__libc_calloc(size_t, size_t), *__libc_realloc(void *, size_t);
 
+static void keep(char path[4096], const char *given) {
+    for (size_t i = 0; given && given[i] && i < 4095; i++) path[i] = given[i];
+}
+
 __attribute__((constructor)) static void begin(void) {
-    const char *number = getenv("REFUSE"), *file = getenv("REFUSED");
-    for (size_t i = 0; file && file[i] && i + 1 < sizeof made; i++) made[i] = file[i];
+    const char *number = getenv("REFUSE");
+    keep(made, getenv("REFUSED"));
+    keep(readonly, getenv("READONLY"));
     left = number ? atol(number) : 0;
     more = number ? atol(getenv("REFUSALS")) : 0;
     unsetenv("LD_PRELOAD");
     unsetenv("REFUSE");
     unsetenv("REFUSED");
     unsetenv("REFUSALS");
+    unsetenv("READONLY");
 }
 
 static int refuses(int error) {
@@ -62,4 +69,10 @@ PASSED(int, accept4, EMFILE, (int file, struct sockaddr *address, socklen_t *len
 PASSED(int, mkdir, ENOSPC, (const char *path, mode_t mode), (path, mode))
 PASSED(int, chmod, EPERM, (const char *path, mode_t mode), (path, mode))
 PASSED(int, setsockopt, ENOMEM, (int file, int level, int name, const void *value, socklen_t length), (file, level, name, value, length))
-PASSED(ssize_t, pwrite, ENOSPC, (int file, const void *bytes, size_t length, off_t at), (file, bytes, length, at))
+
+ssize_t pwrite(int file, const void *bytes, size_t length, off_t at) {
+    ssize_t (*real)(int, const void *, size_t, off_t) = (ssize_t(*)(int, const void *, size_t, off_t))dlsym(RTLD_NEXT, "pwrite");
+    bool is_readonly = *readonly && !access(readonly, F_OK);
+    if (is_readonly) errno = EROFS;
+    return is_readonly || refuses(ENOSPC) ? -1 : real(file, bytes, length, at);
+}

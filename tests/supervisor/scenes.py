@@ -96,13 +96,13 @@ live()
     host.end()
 
 
-@scene
-def last_lines_are_answered(host):
-    """All lines that an instance sent before it died are carried out. It dies while the supervisor is stopped, which then sees both at once."""
-    body = """
-note(f"pid {os.getpid()}")
+def last_lines(host, lines):
+    """An instance sends lines and a complaint, and dies while the supervisor is stopped, which then sees both at once."""
+    body = f"""
+note(f"pid {{os.getpid()}}")
 while not os.path.exists("../../go"): time.sleep(0.01)
-dsrs.sendall(b"show\\n" * 900 + b"complain 1/16\\n")
+dsrs.setsockopt(socket.SOL_SOCKET, socket.SO_SNDBUF, 1 << 20)
+dsrs.sendall({lines} + b"complain 1/16\\n")
 os._exit(0)
 """
     host.start({"d": ({"limit": 1}, LIVES), "f": ({"class": "server"}, body)})
@@ -114,6 +114,18 @@ os._exit(0)
     host.logged("complaint d 1/16 by f")
     host.logged("began d 3/")
     host.end()
+
+
+@scene
+def last_lines_are_answered(host):
+    """All lines that an instance sent before it died are carried out."""
+    last_lines(host, 'b"show\\n" * 900')
+
+
+@scene
+def last_lines_that_fill_each_reading_are_answered(host):
+    """Each reading of the supervisor takes whole lines, and leaves no bytes for the next."""
+    last_lines(host, '(b"#" * 63 + b"\\n") * 3072')
 
 
 @scene
@@ -138,6 +150,17 @@ while True:
     until(lambda: host.ask('subscribe 120 ".*" 15 later over', 2).startswith("subscribed"), "the lease ends")
     equal(host.ask("listen 120", 2), "listening 120")
     equal(host.ask("listen 120 1", 2).split()[0], "badline")
+    host.end()
+
+
+@scene
+def a_sixteenth_server_has_no_subscriptions(host):
+    """Fifteen servers have eight subscriptions each, and the public the last eight. A further server has none."""
+    body = 'note(f"sub {os.environ.get(\'DS_SUB\')} " + ask("subscribe 0 \\"d\\" 1 first new").split("\\n")[0])\nlive()\n'
+    host.start({f"s{number:02}": ({"class": "server"}, body) for number in range(16)})
+    host.noted("s15 16/31 sub None refused notallowed")
+    subs = {line.split()[3] for line in (host.noted(f"s{number:02} ") for number in range(15))}
+    equal(subs, {str(8 * number) for number in range(15)})
     host.end()
 
 
@@ -301,6 +324,56 @@ live()
 
 
 @scene
+def orphans_that_end_are_reaped(host):
+    """Processes that a living instance left to the supervisor, and that have ended, don't stay as zombies."""
+    host.start({"a": ({}, "#!/bin/sh\nfor i in $(seq 50); do (sleep 0.05 &); done\nsleep 0.3\ntouch ../../ended\nexec sleep 1000\n")})
+    until((host.home / "ended").exists, "all have ended")
+    until(lambda: "Z" not in states_of_children(host.process.pid), lambda: f"they are reaped: {states_of_children(host.process.pid)}")
+    host.end()
+
+
+def states_of_children(pid):
+    """Returns the states of the children of a process, a letter for each, as the kernel has them."""
+    found = ""
+    for path in pathlib.Path("/proc").glob("[0-9]*/stat"):
+        try:
+            state, parent = path.read_text().rpartition(")")[2].split()[:2]
+        except OSError:  # it ended meanwhile
+            continue
+        found += state if int(parent) == pid else ""
+    return found
+
+
+@scene
+def children_from_before_the_supervisor_live(host):
+    """A shell starts a process and then becomes the supervisor, which must not kill it."""
+    file = host.home / "sidecar"
+    host.words = ["sh", "-c", f'sleep 1000 & echo $! > {file}; exec "$@"', "sh", *host.words]
+    host.start({"a": ({"limit": 9}, LIVES)})
+    os.kill(host.pid("a"), signal.SIGKILL)
+    host.logged("began a 2/16")
+    time.sleep(0.7)
+    pid = int(file.read_text())
+    assert lives(pid), host.log()
+    os.kill(pid, signal.SIGKILL)
+    host.end()
+
+
+@scene
+def a_child_of_no_instance_is_killed(host):
+    """A process that hides which instance began it becomes a child of the supervisor. It ends when any instance does."""
+    hides = "#!/bin/sh\nenv -i setsid sh -c 'sleep 1000 & echo $! > ../../hidden'\nexec sleep 1000\n"
+    host.start({"a": ({}, hides), "b": ({"limit": 9}, LIVES)})
+    pid = int(until(lambda: (host.home / "hidden").exists() and (host.home / "hidden").read_text(), "it is there"))
+    time.sleep(0.1)
+    assert lives(pid), host.log()
+    os.kill(host.pid("b"), signal.SIGKILL)
+    until(lambda: not lives(pid), "it is killed")
+    assert host.status()["a"][0] == "up", host.status()
+    host.end()
+
+
+@scene
 def a_program_that_is_not_there_is_a_death(host):
     host.start({"a": ({"limit": 2}, None), "b": ({}, LIVES)})
     host.logged("died a", 3)
@@ -430,15 +503,28 @@ def goes_down_in_reverse_order(host):
     equal(order, [[verb, label] for label in "dcba" for verb in ("kill", "gone")])
 
 
+def ends_at_a_second_signal(host, line):
+    """Ends a supervisor by two signals. It logs the line after the first one, and then waits for a grace."""
+    host.process.send_signal(signal.SIGTERM)
+    host.logged(line)
+    time.sleep(0.3)
+    assert host.process.poll() is None, "it doesn't wait for its grace"
+    host.end()
+
+
 @scene
 def a_second_signal_waits_for_nobody(host):
     host.start({"a": ({}, "signal.signal(signal.SIGTERM, signal.SIG_IGN)\nnote('there')\nwhile True: time.sleep(1)\n")}, options=("--grace", "60000"))
     host.noted("there")
-    host.process.send_signal(signal.SIGTERM)
-    host.logged("kill a")
-    time.sleep(0.3)
-    assert host.process.poll() is None, "it doesn't wait for its grace"
-    host.end()
+    ends_at_a_second_signal(host, "kill a")
+
+
+@scene
+def a_second_signal_waits_for_no_log_program(host):
+    host.service("a/log", "#!/bin/sh\nexec sleep 1000\n")
+    host.start({"a": ({}, LIVES)}, options=("--grace", "60000"))
+    host.ask("status")
+    ends_at_a_second_signal(host, "gone a")
 
 
 @scene
@@ -501,6 +587,33 @@ def a_start_that_is_refused(host):
         equal((ran.returncode, ran.stdout), (2, ""))
     for word in ("--help", "--version"):
         equal(subprocess.run([*host.words, word], capture_output=True).returncode, 0)
+
+
+@scene
+def a_folder_that_others_may_write_is_left_alone(host):
+    """The folder of sockets is this user's alone, and nothing but sockets is removed from it."""
+    folder, other = pathlib.Path(f"{host.path}.d"), host.home / "other"
+    other.mkdir()
+    (other / "kept").touch()
+    folder.symlink_to(other)
+    host.start({"a": ({}, LIVES)})
+    host.ended(3)
+    folder.unlink()
+    folder.mkdir()
+    for harm in [lambda: folder.chmod(0o777)] + [lambda: (folder.chmod(0o711), shutil.chown(folder, "nobody"))] * (os.geteuid() == 0):
+        harm()
+        host.start()
+        host.ended(3)
+        assert "left alone" in host.log(), host.log()
+    shutil.rmtree(folder)
+    folder.mkdir(0o711)
+    (folder / "kept").touch()
+    host.start()
+    host.ask("status")
+    host.process.send_signal(signal.SIGTERM)
+    host.ended(0)
+    equal([it.name for it in folder.iterdir()], ["kept"])
+    assert (other / "kept").exists()
 
 
 @scene
