@@ -131,7 +131,7 @@ static void by_batches(struct teller *it, struct board *board, int others, int b
     last = now();
     wait_for(board, others, it->items);
     double took = now() - begun;
-    printf("batches %.0f items/s to %d (its own merging alone %.0f items/s), all agree %.1f ms behind the last answer\n", batches * BATCH / took, others,
+    printf("batches %.0f items/s to %d (its own merging alone %.0f items/s), all agree %.1f ms after the last answer\n", batches * BATCH / took, others,
            batches * BATCH / own, (now() - last) * 1000);
 }
 

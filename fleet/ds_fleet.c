@@ -69,12 +69,25 @@ static enum ds_fleet_word gather_owed(struct ds_fleet *fleet) {
     return word;
 }
 
+/* Keeps what is untold from growing without end, if no round is telling it. What was added without enough replicas is sent again. */
+static enum ds_fleet_word limit_untold(struct ds_fleet *fleet) {
+    if (!items_should_fold(&fleet->items) || fleet->server.round == &telling_round) return DS_FLEET_INSTEP;
+    telling_cut(&fleet->telling);
+    return items_fold(&fleet->items);
+}
+
+static enum ds_fleet_word gather(struct ds_fleet *fleet) {
+    enum ds_fleet_word word = items_gather(&fleet->items);
+    return word == DS_FLEET_INSTEP ? limit_untold(fleet) : word;
+}
+
 /* Asks the first of the teller's rounds that is due. LATE: there is one. */
 static enum ds_fleet_word ask_next(struct ds_fleet *fleet) {
     static const struct round *const rounds[] = {&meeting_round, &fetching_round, &comparing_round, &compacting_round,
                                                  &telling_round};
     if (clock_now() < fleet->server.ask_at) return DS_FLEET_DENIED;
-    enum ds_fleet_word word = gather_owed(fleet);
+    enum ds_fleet_word word = limit_untold(fleet);
+    if (word == DS_FLEET_INSTEP) word = gather_owed(fleet);
     for (size_t i = 0; i < sizeof rounds / sizeof *rounds; i++) {
         if (!rounds[i]->is_due(fleet)) continue;
         word = rounds[i]->ask(fleet);
@@ -216,11 +229,11 @@ static bool has_unsent_news(const struct ds_fleet *fleet) {
  * next step. */
 enum ds_fleet_word ds_fleet_step(struct ds_fleet *fleet, unsigned patience) {
     uint64_t end = clock_now() + patience;
-    enum ds_fleet_word gathered = items_gather(&fleet->items);
+    enum ds_fleet_word gathered = gather(fleet);
     bool has_heard = !has_unsent_news(fleet);
     if (has_heard) hear_bell(fleet, 0);
     for (;;) {
-        if (gathered != DS_FLEET_INSTEP) gathered = items_gather(&fleet->items);
+        if (gathered != DS_FLEET_INSTEP) gathered = gather(fleet);
         enum ds_fleet_word word = gathered == DS_FLEET_INSTEP ? turn_both(fleet, patience) : gathered;
         set_bell(fleet, word);
         fleet->state.word = word;

@@ -7,6 +7,7 @@
 
 enum {
     PIECES = 1 << 16, /* bytes of items that are fetched at a time */
+    FOLD_ABOVE = 1 << 23, /* bytes of what is untold, or twice all that is held if that is more */
     SHOWN = 400,      /* bytes of a line that are logged */
     LOGGED = 512,     /* bytes of a line of the log, with its zero */
     HIGH_HALF = 32    /* bits of a hash */
@@ -142,6 +143,38 @@ enum ds_fleet_word items_gather(struct items *items) {
         if (answer.word != DS_JOURNALED) return items_gather_all(items);
         if ((word = keep_untold(items, &answer)) != DS_FLEET_INSTEP || answer.pieces < ITEMS_MOST) return word;
     }
+}
+
+bool items_should_fold(const struct items *items) {
+    return items->untold.length > (items->fold_above > FOLD_ABOVE ? items->fold_above : FOLD_ABOVE);
+}
+
+/* If the server is known to have all that is held, nothing is gained, and what was untold stays. */
+enum ds_fleet_word items_fold(struct items *items) {
+    struct text before = items->untold;
+    items->untold = (struct text){0};
+    enum ds_fleet_word word = items_gather_all(items);
+    bool is_folded = word == DS_FLEET_INSTEP && items->untold.length;
+    if (is_folded) {
+        items->folded += before.length;
+        items->folded_by = items->untold.length;
+    }
+    text_free(is_folded ? &before : &items->untold);
+    if (!is_folded) items->untold = before;
+    items->fold_above = 2 * items->untold.length;
+    return word;
+}
+
+uint64_t items_drop_told(struct items *items, size_t length) {
+    text_drop(&items->untold, length);
+    items->folded += length;
+    if (length < items->folded_by) {
+        items->folded_by -= length;
+        return 0;
+    }
+    uint64_t told = items->folded;
+    items->folded = items->folded_by = 0;
+    return told;
 }
 
 /* ---- what is refused ---- */

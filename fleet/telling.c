@@ -11,7 +11,9 @@
  *   ADDED       | replicas enough                 | NEWS: these bytes count as told
  *   ADDED       | too few replicas                | ADDED: denied
  *   ADDED       | an error instead of replicas    | ADDED: denied
- *   NEWS, ADDED | the connection ends             | NEWS: tells the next server again */
+ *   NEWS, ADDED | the connection ends             | NEWS: tells the next server again
+ *
+ * If much is untold, and no round tells it, all that is held takes its place, and the state is NEWS: limit_untold of ds_fleet.c. */
 #include "bridge.h"
 #include <stdio.h>
 #include <string.h>
@@ -88,8 +90,7 @@ static enum ds_fleet_word telling_answered(struct ds_fleet *fleet) {
     if (word != DS_FLEET_INSTEP) return word;
     const redisReply *have = teller->answers[teller->came - 1];
     if (telling->replicas && count_of(have) < telling->replicas) return lacks_replicas(fleet, have);
-    text_drop(&fleet->items.untold, telling->sent);
-    telling->told += telling->sent;
+    telling->told += items_drop_told(&fleet->items, telling->sent);
     telling_cut(telling);
     fleet->server.pause = 0;
     return DS_FLEET_INSTEP;

@@ -5,6 +5,7 @@
 #include <netinet/in.h>
 #include <poll.h>
 #include <signal.h>
+#include <stdbool.h>
 #include <stdio.h>
 #include <stdlib.h>
 #include <string.h>
@@ -13,7 +14,7 @@
 #include <time.h>
 #include <unistd.h>
 
-enum { SUB = 40 };
+enum { SUB = 40, KEYS = 3200, CHANGES = 3 };
 
 static char long_password[256 + 1]; /* filled by main */
 
@@ -167,6 +168,64 @@ static void of_another_scope(struct ds_handle *store, const char *url) {
     ds_fleet_close(fleet);
 }
 
+static unsigned megabytes_untold(const struct ds_fleet *fleet) {
+    struct ds_fleet_state state;
+    ds_fleet_state(fleet, &state);
+    return (unsigned)(state.untold >> 20);
+}
+
+/* Offers changes of many keys, each several times, of which none is told yet. Returns the mark of the first ones. */
+static uint64_t offer_much(struct ds_fleet *fleet, struct ds_handle *store) {
+    uint64_t first = 0;
+    for (int made = 0; made < KEYS * CHANGES; made++) {
+        char line[1100];
+        int key = made % KEYS, change = made / KEYS + 1;
+        snprintf(line, sizeof line, "k%d mem d 1.%d = %01000d\n", key, change, change);
+        offer(store, line);
+        if (made % 100) continue; /* else the journal would be too short */
+        uint64_t mark = ds_fleet_mark(fleet);
+        if (!first) first = mark;
+    }
+    return first;
+}
+
+/* All that is held is told in place of all changes, in several rounds, and the first change counts as told when the last one does. */
+static void has_much_untold(const char *url) {
+    struct ds_handle store = DS_CLOSED;
+    struct ds_fleet_options options = {.url = url, .stream = "much"};
+    struct ds_fleet_state state;
+    struct ds_fleet *fleet;
+    if (ds_open(&store, 1, 0, 256) || ds_fleet_open(&fleet, &store, &options) != DS_FLEET_INSTEP) exit(1);
+    uint64_t first = offer_much(fleet, &store), last = ds_fleet_mark(fleet);
+    bool is_early = false;
+    printf("much: %u MB untold\n", megabytes_untold(fleet));
+    for (int times = 0; times < 10000 && !ds_fleet_is_told(fleet, last); times++) {
+        is_early |= ds_fleet_is_told(fleet, first);
+        ds_fleet_step(fleet, 1);
+    }
+    ds_fleet_state(fleet, &state);
+    printf("much: told %d, early %d, %llu entries, %llu untold\n", ds_fleet_is_told(fleet, first), is_early,
+           (unsigned long long)state.entries_told, (unsigned long long)state.untold);
+    ds_fleet_close(fleet);
+    ds_close(&store);
+}
+
+/* The same while a replica is missing: a change was added, and doesn't count as told. */
+static void has_much_without_its_replica(const char *url) {
+    struct ds_handle store = DS_CLOSED;
+    struct ds_fleet_options options = {.url = url, .stream = "lacks", .replicas = 1, .within = 20};
+    struct ds_fleet *fleet;
+    if (ds_open(&store, 1, 0, 256) || ds_fleet_open(&fleet, &store, &options) != DS_FLEET_INSTEP) exit(1);
+    offer(&store, "first u32 d 1.0 = 1\n");
+    steps("without its replica", fleet, 500);
+    uint64_t first = offer_much(fleet, &store);
+    printf("without its replica: %u MB untold\n", megabytes_untold(fleet));
+    for (int times = 0; times < 1000 && megabytes_untold(fleet) > 8; times++) ds_fleet_step(fleet, 1);
+    printf("without its replica: %u MB untold, told %d\n", megabytes_untold(fleet), ds_fleet_is_told(fleet, first));
+    ds_fleet_close(fleet);
+    ds_close(&store);
+}
+
 int main(int count, char **words) {
     struct ds_handle one = DS_CLOSED, two = DS_CLOSED;
     if (count != 3 || ds_open(&one, 1, 0, 256) || ds_open(&two, 1, 0, 256)) return 1;
@@ -177,5 +236,7 @@ int main(int count, char **words) {
     waits(&one, words[2]);
     shares(&one, &two, words[1]);
     of_another_scope(&one, words[1]);
+    has_much_untold(words[1]);
+    has_much_without_its_replica(words[1]);
     return ds_close(&one) != 0;
 }

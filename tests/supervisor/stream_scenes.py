@@ -5,7 +5,7 @@ import shutil
 import signal
 import subprocess
 
-from scenes import LIVES, scene
+from scenes import LIVES, memory, scene
 from supervisors import Host, Skipped, equal, until
 
 
@@ -81,6 +81,33 @@ def a_supervisor_does_without_its_server(host):
             os.symlink(host.home / "redis", host.home / "redis2")
             until(lambda: one.ask("retrieve e label") == "found 2/200", "the label crosses")
             equal(host.ask("retrieve d label"), "found 1/16")
+            host.end()
+            one.end()
+
+
+@scene
+def a_long_time_without_a_server_costs_little(host):
+    """Changes of one entry without end take no more memory than a few megabytes while there is no server. It gets the last one afterwards."""
+    body = """
+for n in range(120):
+    lines = [f"publish {me} {'over' if n or i else 'new'} e.m mem {generation}.{1000 * n + i} = {1000 * n + i:01000d}\\n" for i in range(1000)]
+    for first in range(0, 1000, 50):
+        dsrs.sendall("".join(lines[first:first + 50]).encode())
+        for _ in range(50): hear()
+note("published")
+live()
+"""
+    with redis(host) as url:
+        with in_step(host, url, {"d": ({}, LIVES)}) as one:
+            other = f"unix://{host.home}/redis2"
+            host.start({"e": ({"publishes": ["e.m"]}, body)}, options=("--stream", other, "--slot", "200"))
+            until(lambda: host.ask("retrieve e.m mem") != "refused notfound", "it publishes")
+            before = memory(host)
+            host.noted("published")
+            grown = memory(host) - before
+            assert grown < 64 << 20, f"{grown >> 20} MB"
+            os.symlink(host.home / "redis", host.home / "redis2")
+            until(lambda: one.ask("retrieve e.m mem") == f"found {119999:01000d}", "the last change crosses")
             host.end()
             one.end()
 
