@@ -37,7 +37,7 @@ Offer = NamedTuple("Offer", [("label", str), ("endpoint", Optional[Endpoint]), (
 Sweep = NamedTuple("Sweep", [("label", str), ("generation", int), ("refused", Optional[Refused])])
 Offer.__doc__ = """Reports that RS published a label, or deleted it (None). `refused` is why the store refused it, or None.
 
-RS never repeats one that was refused, as for want of memory. `line("offer eth0 label rs 3.0 = 3/16")` of the Rs makes it: the version is
+RS never repeats one that was refused, as when memory ran out. `line("offer eth0 label rs 3.0 = 3/16")` of the Rs makes it: the version is
 the instance's generation, and 0, or 1 for a deletion, which ends in ` -`.
 """
 Sweep.__doc__ = """Reports that RS swept a service up to a generation. `refused` is why the store refused it, or None.

@@ -60,9 +60,9 @@ def times(values):
 
 def of_kills(rows):
     yield from table("Harm", "Failures", "Recovered", "Recovery, ms", "RS's pause, ms", "MB/s alone", "MB/s harmed", "Share", "Away")
-    names = {"many kills": "SIGKILL each 0.25 s, always", "stops": "SIGSTOP each 1 s, always", "kills, mirror": "both disks of a mirror, 0.25 s"}
+    names = {"many kills": "SIGKILL every 0.25 s, always", "stops": "SIGSTOP every 1 s, always", "kills, mirror": "both disks of a mirror, 0.25 s"}
     for it in named(rows, r"kills [\d.]+|many kills|stops|kills, mirror"):
-        name = names.get(it["name"], f"SIGKILL each {it['name'].split()[-1]} s")
+        name = names.get(it["name"], f"SIGKILL every {it['name'].split()[-1]} s")
         pairs = it["name"].startswith("kills ")
         alone, harmed = (it["undisturbed"], it["harmed"]) if pairs else (None, it["undisturbed"])
         left = f"{share(it):.2f}" if pairs and share(it) else None

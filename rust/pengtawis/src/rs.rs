@@ -209,7 +209,7 @@ pub enum Action<'a> {
     /// Asks an instance for a heartbeat, which [`Rs::beat`] reports.
     Ping { endpoint: Endpoint },
     /// RS published the label with this endpoint, or deleted it (`None`), unless the store refused it. RS never repeats one that was
-    /// refused, as for want of memory. [`Store::line`] makes it: `offer eth0 label rs 3.0 = 3/16` for generation 3, and
+    /// refused, as when memory ran out. [`Store::line`] makes it: `offer eth0 label rs 3.0 = 3/16` for generation 3, and
     /// `offer eth0 label rs 3.1 -` if it was deleted.
     Offer { label: &'a str, endpoint: Option<Endpoint>, refused: Option<Refusal> },
     /// RS swept what the service published up to this generation, unless the store refused it. RS never repeats one that was refused; the
