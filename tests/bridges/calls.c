@@ -14,7 +14,7 @@
 #include <time.h>
 #include <unistd.h>
 
-enum { SUB = 40, KEYS = 3200, CHANGES = 3 };
+enum { SUB = 40, KEYS = 3200, CHANGES = 3, MOST_STEPS = 30000 /* of a millisecond at least */ };
 
 static char long_password[256 + 1]; /* filled by main */
 
@@ -199,7 +199,7 @@ static void has_much_untold(const char *url) {
     uint64_t first = offer_much(fleet, &store), last = ds_fleet_mark(fleet);
     bool is_early = false;
     printf("much: %u MB untold\n", megabytes_untold(fleet));
-    for (int times = 0; times < 10000 && !ds_fleet_is_told(fleet, last); times++) {
+    for (int times = 0; times < MOST_STEPS && !ds_fleet_is_told(fleet, last); times++) {
         is_early |= ds_fleet_is_told(fleet, first);
         ds_fleet_step(fleet, 1);
     }
@@ -214,13 +214,16 @@ static void has_much_untold(const char *url) {
 static void has_much_without_its_replica(const char *url) {
     struct ds_handle store = DS_CLOSED;
     struct ds_fleet_options options = {.url = url, .stream = "lacks", .replicas = 1, .within = 20};
+    struct ds_fleet_state state;
     struct ds_fleet *fleet;
     if (ds_open(&store, 1, 0, 256) || ds_fleet_open(&fleet, &store, &options) != DS_FLEET_INSTEP) exit(1);
     offer(&store, "first u32 d 1.0 = 1\n");
-    steps("without its replica", fleet, 500);
+    for (int times = 0; times < MOST_STEPS && ds_fleet_step(fleet, 1) != DS_FLEET_DENIED; times++) continue;
+    ds_fleet_state(fleet, &state);
+    printf("without its replica: %s\n", state.said);
     uint64_t first = offer_much(fleet, &store);
     printf("without its replica: %u MB untold\n", megabytes_untold(fleet));
-    for (int times = 0; times < 1000 && megabytes_untold(fleet) > 8; times++) ds_fleet_step(fleet, 1);
+    for (int times = 0; times < MOST_STEPS && megabytes_untold(fleet) > 8; times++) ds_fleet_step(fleet, 1);
     printf("without its replica: %u MB untold, told %d\n", megabytes_untold(fleet), ds_fleet_is_told(fleet, first));
     ds_fleet_close(fleet);
     ds_close(&store);
