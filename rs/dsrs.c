@@ -12,6 +12,7 @@
 #include <errno.h>
 #include <fcntl.h>
 #include <limits.h>
+#include <poll.h>
 #include <signal.h>
 #include <stdio.h>
 #include <stdlib.h>
@@ -32,6 +33,8 @@ enum {
     DESCRIPTORS = 32,               /* of dsrs itself */
     SOON = 10,                      /* milliseconds until an event is reported again for which memory ran out */
     REST = 100,                     /* milliseconds before a client is taken in again, where none could be */
+    STRAYS_LOOKS = 50,              /* for strays at the end, while any are left, */
+    STRAYS_PAUSE = 10,              /* and milliseconds between them */
     FOLDER = PLACE_PATH - 16        /* bytes of the folder of sockets: each socket has up to 15 more */
 };
 
@@ -322,12 +325,18 @@ static bool turn(struct host *host, bool *more) {
     return !is_down || logs;
 }
 
+/* What the last instances left ends before dsrs does, unless it can't be killed. */
+static void end_strays(const struct instances *all) {
+    for (int times = 0; times < STRAYS_LOOKS && strays_kill(all); times++) poll(NULL, 0, STRAYS_PAUSE);
+}
+
 /* Serves until a signal ends it. */
 static void run(struct host *host) {
     bool more = true;
     rs_begin(&host->rs);
     notify("READY=1");
     while (turn(host, &more)) {}
+    end_strays(&host->rs.instances);
 }
 
 static void prepare(struct host *host, const struct options *options) {
@@ -343,7 +352,7 @@ static void prepare(struct host *host, const struct options *options) {
     rs->generations = (struct generations){.path = options->generations, .file = -1};
     rs->stream = (struct stream){.url = options->stream, .name = options->stream_name, .bell.file = -1};
     rs->instances.cgroups.folder = -1;
-    rs->instances.begun = strays_time();
+    rs->instances.strays_after = strays_begin();
     rs->instances.services = options->services;
     rs->instances.endpoints = host->folder;
     rs->instances.events = &rs->events;

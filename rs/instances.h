@@ -52,7 +52,7 @@ struct instances {
     const struct logger *loggers; /* the log programs of all services */
     int epoll;
     uint64_t sweep_at;    /* when strays are looked for, by clock_now; 0: no instance ended since */
-    uint64_t begun;       /* when dsrs began, by strays_time: children that are older aren't strays */
+    uint64_t strays_after; /* of strays_begin: what began up to then isn't a stray */
 };
 
 /* Carries out RS's `start`: the endpoint's socket listens at once, and the process begins in this turn or a later one.

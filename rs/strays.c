@@ -12,16 +12,13 @@
 #include <time.h>
 #include <unistd.h>
 
-enum { PIECE = 1 << 12, ENVIRONMENT = 1 << 22 /* bytes that are read of one */ };
+enum {
+    PIECE = 1 << 12,
+    ENVIRONMENT = 1 << 22,   /* bytes that are read of one */
+    NANOSECONDS = 1000000000 /* of one second */
+};
 
 struct seen { pid_t parent, group, session; char state; unsigned long long begun; };
-
-uint64_t strays_time(void) {
-    struct timespec now;
-    clock_gettime(CLOCK_BOOTTIME, &now);
-    uint64_t each = (uint64_t)sysconf(_SC_CLK_TCK);
-    return (uint64_t)now.tv_sec * each + (uint64_t)now.tv_nsec * each / 1000000000;
-}
 
 /* Reads what the kernel says of a process. The name in it, in parentheses, may have any bytes. */
 static bool look_at(pid_t pid, struct seen *seen) {
@@ -38,13 +35,34 @@ static bool look_at(pid_t pid, struct seen *seen) {
     return rest && sscanf(rest + 1, format, &seen->state, &seen->parent, &seen->group, &seen->session, &seen->begun) == 5;
 }
 
+/* Finds the next child of dsrs in /proc. */
+static bool next_child(DIR *folder, pid_t *pid, struct seen *seen) {
+    for (struct dirent *entry; folder && (entry = readdir(folder));) {
+        *pid = atoi(entry->d_name);
+        if (*pid > 0 && look_at(*pid, seen) && seen->parent == getpid()) return true;
+    }
+    return false;
+}
+
+uint64_t strays_begin(void) {
+    DIR *folder = opendir("/proc");
+    struct timespec now;
+    struct seen seen;
+    pid_t pid;
+    bool has_children = next_child(folder, &pid, &seen);
+    if (folder) closedir(folder);
+    clock_gettime(CLOCK_BOOTTIME, &now);
+    uint64_t each = (uint64_t)sysconf(_SC_CLK_TCK);
+    return has_children ? (uint64_t)now.tv_sec * each + (uint64_t)now.tv_nsec * each / NANOSECONDS : 0;
+}
+
 /* Whether it isn't a stray: it is of an instance, or a log program, or lives in the session or the group of one. */
 static bool is_known(const struct instances *all, pid_t pid, const struct seen *seen) {
     for (const struct logger *it = all->loggers; it; it = it->next)
         if (it->pid == pid || (it->pid == seen->group && seen->state != 'Z')) return true;
     for (const struct instance *it = all->first; it; it = it->next)
         if (it->pid == pid || (it->pid == seen->session && seen->state != 'Z')) return true;
-    return seen->state != 'Z' && seen->begun <= all->begun;
+    return seen->state != 'Z' && seen->begun <= all->strays_after;
 }
 
 /* Reads a file of /proc as a whole, with a zero after it. */
@@ -82,10 +100,8 @@ static bool has_a_living_instance(const struct instances *all, pid_t pid) {
 bool strays_kill(const struct instances *all) {
     DIR *folder = opendir("/proc");
     bool found = !folder && errno != ENOENT;
-    for (struct dirent *entry; folder && (entry = readdir(folder));) {
-        pid_t pid = atoi(entry->d_name);
-        struct seen seen;
-        if (pid <= 0 || !look_at(pid, &seen) || seen.parent != getpid()) continue;
+    struct seen seen;
+    for (pid_t pid; next_child(folder, &pid, &seen);) {
         if (is_known(all, pid, &seen)) continue;
         if (seen.state != 'Z' && has_a_living_instance(all, pid)) continue;
         if (seen.state != 'Z') events_tell(all->events, LOG_WARN, "stray: pid %d is killed", pid);

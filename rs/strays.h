@@ -6,8 +6,9 @@
 
 #include "instances.h"
 
-/* Returns the time now, in the clock by which /proc has the start of a process. */
-uint64_t strays_time(void);
+/* Returns the time now if dsrs has children already, or 0: what began up to then isn't a stray. In clock ticks since the
+ * machine was booted, as /proc has the start of a process. */
+uint64_t strays_begin(void);
 /* Kills and reaps the strays whose instance has ended, and reaps those that have ended themselves. Returns whether there
  * were any. A stray's instance is known by its cgroup, or where there are none by DS_ENDPOINT in the environment that it began with. */
 bool strays_kill(const struct instances *all);

@@ -374,6 +374,34 @@ def a_child_of_no_instance_is_killed(host):
 
 
 @scene
+def a_stray_as_old_as_its_supervisor_is_killed(host):
+    """The kernel's clock ticks each 10 milliseconds. A supervisor and a process that its service hides often begin in one tick."""
+    hides = "#!/bin/sh\nsetsid sleep 1000 &\necho $! > ../../hidden\nexec sleep 1000\n"
+    for _ in range(8):
+        host.start({"a": ({"limit": 1}, hides)})
+        pid = int(until(lambda: (host.home / "hidden").exists() and (host.home / "hidden").read_text(), "it is there"))
+        os.kill(host.pid("a"), signal.SIGKILL)
+        until(lambda: not lives(pid), "it is killed")
+        host.end()
+        (host.home / "hidden").unlink()
+
+
+@scene
+def strays_of_strays_end_before_their_supervisor(host):
+    """Each of twelve processes began the next, in a session of its own. So it becomes a child of the supervisor when the one before ends."""
+    body = """
+for _ in range(12):
+    if os.fork(): os.wait(), os._exit(0)
+    os.setsid()
+note("nested")
+time.sleep(1000)
+"""
+    host.start({"a": ({}, body)})
+    host.noted("nested")
+    host.end()
+
+
+@scene
 def a_program_that_is_not_there_is_a_death(host):
     host.start({"a": ({"limit": 2}, None), "b": ({}, LIVES)})
     host.logged("died a", 3)
