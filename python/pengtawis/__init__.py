@@ -1,28 +1,32 @@
 """Pengtawis: where drivers are that crash and restart. docs/guide/python.md is its page.
 
 A `Store`, an `Rs`, a `Map` and the driver tables are in this process, over libds. A `Client` and an `AsyncClient` send lines to a dsfleet.
-Every refusal is an exception. Beside actions of RS and moves of a table it is their `refused`, and isn't raised.
+Every refusal is an exception, and is raised. Those that come with actions of RS, with moves of a table or in the list of
+`Store.publish_all` are only returned.
 """
 from .client import AsyncClient, Client
 from .map import Map
 from .refusals import (
-    Ahead, AlreadyUp, Assigned, BadCause, BadFirst, BadKind, BadLabel, BadLine, BadPattern, BadRing, BadSub, BadVersion, Behind,
-    Clash, Exists, Full, GenerationsSpent, IsClosed, IsOpen, Missing, NoCaller, NoDevice, NoRoom, NoSlot, NotAllowed, NotFound,
-    NotOwner, NotPending, NotUp, OldCursor, OldEndpoint, OutOfRange, Refused, SharedName, Stale, TickBack, Toml, TooLong, TooMany,
-    TwoIds, TwoLabels, TwoUnits, UnknownField, UnknownLabel, Worn,
+    Ahead, AlreadyUp, Assigned, BadCause, BadFirst, BadItems, BadKind, BadLabel, BadLine, BadPattern, BadRing, BadSub,
+    BadVersion, Behind, Clash, Exists, Full, GenerationsSpent, IsClosed, IsOpen, Missing, NoCaller, NoDevice, NoRoom, NoSlot,
+    NotAllowed, NotFound, NotOwner, NotPending, NotSender, NotUp, OldCursor, OldEndpoint, OutOfRange, Refused, SharedName,
+    Stale, TickBack, Toml, TooLong, TooMany, TwoIds, TwoLabels, TwoUnits, UnknownField, UnknownLabel, Worn,
 )
-from .rs import Acted, Cause, Class, GiveUp, Kill, Offer, Ping, Rs, Service, Start, State, Sweep
+from .rs import Acted, Action, Cause, Class, GiveUp, Kill, Offer, Ping, Rs, Service, Start, State, Sweep
 from .store import Store
-from .table import Fail, FileTable, Finish, Hold, Moved, NetworkTable, Send, StartPort
-from .values import RS, Change, Cursor, Done, Endpoint, Floor, Items, Merged, Page, Reading, Subscribed, Swept, Version, read_item
+from .table import Fail, FileTable, Finish, Hold, Move, Moved, NetworkTable, Send, StartPort
+from .values import (
+    RS, Change, Cursor, Done, Endpoint, Floor, Items, Merged, Page, Reading, Subscribed, Swept, Value, Version, read_item,
+)
 
 __all__ = [
-    "AsyncClient", "BadLine", "Client", "FileTable", "Map", "NetworkTable", "Rs", "Store", "RS", "Change", "Cursor", "Done",
-    "Endpoint", "Floor", "Items", "Merged", "Page", "Reading", "Subscribed", "Swept", "Version", "read_item", "Acted", "Cause",
-    "Class", "GiveUp", "Kill", "Offer", "Ping", "Service", "Start", "State", "Sweep", "Fail", "Finish", "Hold", "Moved", "Send",
-    "StartPort", "Ahead", "AlreadyUp", "Assigned", "BadCause", "BadFirst", "BadKind", "BadLabel", "BadPattern", "BadRing", "BadSub",
-    "BadVersion", "Behind", "Clash", "Exists", "Full", "GenerationsSpent", "IsClosed", "IsOpen", "Missing", "NoCaller", "NoDevice",
-    "NoRoom", "NoSlot", "NotAllowed", "NotFound", "NotOwner", "NotPending", "NotUp", "OldCursor", "OldEndpoint", "OutOfRange",
-    "Refused", "SharedName", "Stale", "TickBack", "Toml", "TooLong", "TooMany", "TwoIds", "TwoLabels", "TwoUnits", "UnknownField",
-    "UnknownLabel", "Worn",
+    "AsyncClient", "BadItems", "BadLine", "Client", "FileTable", "Map", "NetworkTable", "Rs", "Store", "RS", "Change",
+    "Cursor", "Done", "Endpoint", "Floor", "Items", "Merged", "Page", "Reading", "Subscribed", "Swept", "Value", "Version",
+    "read_item", "Acted", "Action", "Cause", "Class", "GiveUp", "Kill", "Offer", "Ping", "Service", "Start", "State", "Sweep",
+    "Fail", "Finish", "Hold", "Move", "Moved", "Send", "StartPort", "Ahead", "AlreadyUp", "Assigned", "BadCause", "BadFirst",
+    "BadKind", "BadLabel", "BadPattern", "BadRing", "BadSub", "BadVersion", "Behind", "Clash", "Exists", "Full",
+    "GenerationsSpent", "IsClosed", "IsOpen", "Missing", "NoCaller", "NoDevice", "NoRoom", "NoSlot", "NotAllowed", "NotFound",
+    "NotOwner", "NotPending", "NotSender", "NotUp", "OldCursor", "OldEndpoint", "OutOfRange", "Refused", "SharedName",
+    "Stale", "TickBack", "Toml", "TooLong", "TooMany", "TwoIds", "TwoLabels", "TwoUnits", "UnknownField", "UnknownLabel",
+    "Worn",
 ]

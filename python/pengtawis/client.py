@@ -3,16 +3,17 @@ from __future__ import annotations
 
 import asyncio
 import collections
-import contextlib
 import socket
+import time
 from typing import AsyncIterator, Deque, Dict, Iterator, List, Optional, cast
 
-from .refusals import NUMBERED, BadLine, Refused
+from .refusals import BadLine, Refused
 from .values import Version
 
 AT_ONCE = 1 << 16  # bytes that are received at a time
 CODING = "utf-8", "surrogateescape"  # by which any bytes pass
-WORDS = {it.word: it for it in NUMBERED.values()}
+WORDS = {it.word: it for it in Refused.__subclasses__()}
+SOONEST = 1e-6  # seconds of a timeout that is over, since 0 would be none
 HUNG_UP = "dsfleet hung up"
 
 
@@ -57,7 +58,10 @@ def _judged(answer: List[str]) -> List[str]:
         raise BadLine(answer[0])
     if len(answer) == 1 and word == "refused":
         name, _, version = why.partition(" ")
-        raise WORDS.get(name, Refused)(Version(*map(int, version.split("."))) if version else None)
+        refused = WORDS.get(name, Refused)(Version(*map(int, version.split("."))) if version else None)
+        if name not in WORDS:  # of a newer dsfleet
+            refused.word, refused.args = name, (answer[0],)
+        raise refused
     return answer
 
 
@@ -65,7 +69,8 @@ class Client:
     """Sends lines to a dsfleet over a connection that is open until the end of its `with`. One thread at a time may use it.
 
     A call that takes longer than `timeout` seconds raises socket.timeout, which is TimeoutError from Python 3.10 on. Later calls
-    still get their own answers. ConnectionError means that dsfleet hung up.
+    still get their own answers, unless the line couldn't be sent within that time: then the client is closed. ConnectionError means
+    that dsfleet hung up.
     """
 
     def __init__(self, path: str, timeout: Optional[float] = None) -> None:
@@ -98,13 +103,23 @@ class Client:
         except BaseException:
             self.close()  # a part of the line may be under way
             raise
+        return _judged(self._answer())
+
+    def _answer(self) -> List[str]:
+        """Returns the next answer. If it isn't there in time, it is dropped when it comes."""
+        end = None if self._timeout is None else time.monotonic() + self._timeout
         try:
             while not self._answers:
+                if end is not None:
+                    self._socket.settimeout(max(end - time.monotonic(), SOONEST))
                 self._receive()
         except BaseException:
-            self._late += 1
+            self._late += not self._answers  # else it came, as a signal did
+            self._answers.clear()
             raise
-        return _judged(self._answers.popleft())
+        finally:
+            self._socket.settimeout(self._timeout)
+        return self._answers.popleft()
 
     def notices(self, timeout: Optional[float] = None) -> Iterator[int]:
         """Yields each subscription when its notice comes. First send `listen SUB`. Ends after `timeout` seconds without a notice."""
@@ -154,15 +169,19 @@ class AsyncClient:
             self._socket.close()
             raise
         cast(asyncio.ReadTransport, self._writer.transport).pause_reading()
-        self._came = asyncio.Event()
+        self._came, self._draining = asyncio.Event(), asyncio.Lock()
         self._task = asyncio.create_task(self._receive())
         return self
 
     async def __aexit__(self, *_: object) -> None:
-        self._writer.close()
+        self._ended = True
+        self._came.set()
+        self._writer.transport.abort()  # even if dsfleet doesn't read what is left
         self._task.cancel()
-        await asyncio.wait([self._task])
-        self._socket.close()
+        try:
+            await asyncio.wait([self._task])
+        finally:
+            self._socket.close()
 
     async def ask(self, line: str) -> List[str]:
         """Sends a line, and returns the lines of its answer. A refusal is raised as the exception of its word."""
@@ -172,8 +191,14 @@ class AsyncClient:
         call = asyncio.get_running_loop().create_future()
         self._calls.append(call)
         self._writer.write(sent)
-        with contextlib.suppress(OSError):  # the call raises it
-            await self._writer.drain()
+        try:
+            async with self._draining:  # Python 3.9 lets only one task wait
+                await self._writer.drain()
+        except OSError:
+            pass  # the call raises it
+        except BaseException:
+            call.cancel()  # so that its answer is dropped
+            raise
         return _judged(await call)
 
     async def notices(self) -> AsyncIterator[int]:

@@ -20,7 +20,7 @@ class Refused(Exception):
     service: Optional[int] = None  # that is at fault in settings, counted from 0
 
     def __init__(self, version: Optional[Version] = None, done: int = 0, owed: FrozenSet[int] = frozenset()) -> None:
-        super().__init__(f"{self.word}: {self.__doc__}")
+        super().__init__(f"{self.word}: {self.__doc__}" if self.__doc__ else self.word)  # python -OO has none
         self.version, self.done, self.owed = version, done, owed  # of a clash; how many items; who is owed a notice of them
 
     def __init_subclass__(cls) -> None:
@@ -31,12 +31,20 @@ class BadLine(ValueError):
     """The line can't be read, or it asks nothing of one store."""
 
 
+class BadItems(ValueError):
+    """Says that a line isn't an item, at a merge. The first `done` items were merged, and `owed` is who is owed a notice of them."""
+
+    def __init__(self, done: int, owed: FrozenSet[int]) -> None:
+        super().__init__(f"a line isn't an item: see docs/reference/lines.md. {done} items before it were merged")
+        self.done, self.owed = done, owed
+
+
 # In the order of enum ds_refusal, which counts them from 1.
 class BadSub(Refused, ValueError): """Subscriptions are numbered from 0 to 127."""
 class TooMany(Refused, ValueError): """A check, a page and a since show 1 to 256 items."""
 class TooLong(Refused, ValueError): """A pattern has at most 128 bytes."""
 class BadPattern(Refused, ValueError): """The pattern isn't a regular expression of printable ASCII."""
-class BadKind(Refused, ValueError): """The kinds aren't a sum of 1 for label, 2 for u32, 4 for str and 8 for mem."""
+class BadKind(Refused, ValueError): """A map needs at least one kind."""
 class BadLabel(Refused, ValueError): """A label's epoch is its generation, its number 0 for a put and 1 for an end; none is named rs."""
 class BadVersion(Refused, ValueError): """The epoch is the caller's generation, and the number is below 4294967295."""
 class NoCaller(Refused): """The caller's endpoint is neither a live label's nor that of RS."""
@@ -50,7 +58,7 @@ class OldCursor(Refused): """The cursor is of another incarnation: continue from
 class Ahead(Refused, ValueError): """The cursor is past everything that the store accepted."""
 class Behind(Refused): """The journal doesn't reach back to the cursor: continue from a snapshot."""
 class Full(Refused): """4096 keys are held, or floors of 64 owners."""
-class Worn(Refused): """The store's positions are used up."""
+class Worn(Refused): """The store's positions are used up, or a tick is above 2^62."""
 class NoRoom(Refused, MemoryError): """Out of memory, or the pattern compiles to too much."""
 class BadRing(Refused, ValueError): """A journal keeps 1 to 4096 items."""
 class BadFirst(Refused, ValueError): """The first position is at most 2^62. Of an `Rs`, `next` is 1 to 2097152, and slots are 16 to 1023."""
@@ -80,3 +88,7 @@ class NotPending(Refused, LookupError): """There is no unanswered request of thi
 
 
 NUMBERED = dict(enumerate(Refused.__subclasses__(), 1))
+
+
+# Of a dsfleet alone, so no call of the library is refused by it.
+class NotSender(Refused): """The connection acts under another endpoint: `as` in docs/reference/fleet.md."""

@@ -6,7 +6,7 @@ import enum
 import itertools
 import struct
 from ctypes import byref, c_char, c_uint8, c_uint16, c_uint32, c_uint64
-from typing import Any, FrozenSet, Iterator, List, NamedTuple, Optional, Union, cast
+from typing import FrozenSet, Iterator, List, NamedTuple, Optional, Union, cast
 
 from .library import packed
 from .refusals import NUMBERED, NotAllowed, NotFound, Refused
@@ -92,7 +92,7 @@ class Rs(Store):
     A supervisor reports events, and carries out the actions that each returns, in order. RS publishes labels in the store, takes them
     back and sweeps it by itself; a publication by another caller that passes for RS is refused by NotAllowed. A merge has no caller:
     merge only items of stores whose labels come from this RS, or from a later run of it. Ticks are the supervisor's: no event has one
-    below that of the last event.
+    below that of the last event, nor above 2^62.
 
     `settings` is the whole text of a TOML file (docs/reference/settings.md). A refused text has the service that is at fault in
     `service` of the exception, counted from 0, and the line in `line` if it isn't TOML. Keep `next_generation` for the next run, and
@@ -106,8 +106,11 @@ class Rs(Store):
     ('1/16', 'WAITING', 6)
     """
 
-    def __init__(self, settings: str, next: int = 1, slot: int = 16, **words: Any) -> None:
-        super().__init__(**words)
+    def __init__(
+        self, settings: str, next: int = 1, slot: int = 16,
+        incarnation: Optional[int] = None, first: int = 0, ring: int = 256, library: Optional[str] = None,
+    ) -> None:
+        super().__init__(incarnation, first, ring, library)
         packed(INSTANCE, next, slot)  # which refuses what is out of range
         self._settle("ds_rs_open", settings, next, slot)
 
@@ -137,7 +140,7 @@ class Rs(Store):
         return self._event(tick, Kind.RESTART, label=label)
 
     def death(self, endpoint: Pair, cause: int, tick: int) -> Acted:
-        """Reports that an instance died."""
+        """Reports that an instance died. By SILENT, COMPLAINT or UPDATE the first action kills it."""
         return self._event(tick, Kind.DEATH, cause, endpoint)
 
     def beat(self, endpoint: Pair, tick: int) -> Acted:
@@ -180,6 +183,7 @@ class Rs(Store):
 
     def _settle(self, call: str, settings: str, *numbers: int) -> None:
         text, fault = settings.encode(), FaultOfC()
+        self._leave()  # since RS forgets the last answer
         try:
             self._call(call, text, len(text), *numbers, byref(fault))
         except Refused as refused:

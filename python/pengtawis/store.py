@@ -7,7 +7,7 @@ from ctypes import addressof, byref, c_char, c_size_t
 from typing import Any, Dict, Iterable, Iterator, List, Optional, Tuple, Type, TypeVar, Union, cast
 
 from .library import CHANGED, OPENING, PIECE, REQUEST, ROOM, WANTING, WHOLE, Answer, Command, Given, Handle, fault_of, packed
-from .refusals import NoRoom, Refused
+from .refusals import BadItems, NoRoom, Refused
 from .values import (
     KINDS, Cursor, Done, Endpoint, Items, Merged, Page, Reading, Subscribed, Swept, Value, bit_of, kind_of, lines_of, mask_of,
 )
@@ -48,7 +48,11 @@ class Store(Handle):
     def publish(self, caller: Pair, name: str, value: Value, version: Pair, overwrite: bool = False) -> Done:
         """Puts a value under a key, over a live entry only with `overwrite`. `changed` is False if it was held already.
 
-        RS publishes a label by version (its generation, 0).
+        A name has 1 to 64 ASCII letters, digits, `.`, `_` and `-`; a str at most 256 printable ASCII characters; bytes at most 1024.
+        The version is the caller's generation, and a number that the caller counts up. RS publishes a label by version (its
+        generation, 0).
+
+        ValueError: an argument is malformed. NoCaller, NotAllowed, NotOwner, Clash, Stale, Exists, Full and others: docs/reference/lines.md.
         """
         return done(self._request(Command.PUBLISH, *publication(caller, value, version), name, overwrite=overwrite))
 
@@ -57,7 +61,8 @@ class Store(Handle):
     ) -> List[Union[Done, Exception]]:
         """Publishes entries, each a name, a value and a version, by one call of the library.
 
-        Returns, for each, what `publish` would return or raise.
+        Returns, for each, what `publish` would return or raise. A number that is out of range raises ValueError, and a value of another
+        type TypeError; then nothing is published.
 
         >>> with Store() as store:
         ...     _ = store.publish(RS, "eth0", Endpoint(3, 16), version=(3, 0))
@@ -103,14 +108,19 @@ class Store(Handle):
     def subscribe(
         self, sub: int, pattern: str, kinds: Iterable[type] = KINDS, initial: bool = True, overwrite: bool = False
     ) -> Subscribed:
-        """Follows the names that a pattern matches whole. With `initial` the first check returns what is held already."""
+        """Follows the names that a pattern matches whole. With `initial` the first check returns what is held already.
+
+        `sub` is 0 to 127, and a pattern has at most 128 bytes. Exists: the number is in use, and `overwrite` is False.
+        """
         text, mask = pattern.encode(), mask_of(kinds)
         answer = self._request(Command.SUBSCRIBE, text, sub=sub, kinds=mask, initial=initial, overwrite=overwrite)
         self._kept.pop(sub, None)
         return Subscribed(answer.after, answer.subscriptions())
 
     def check(self, sub: int, most: Optional[int] = None) -> Items:
-        """Returns all items that no check of this subscription returned yet, or the first `most`. NoRoom loses none of them.
+        """Returns all items that no check of this subscription returned yet, or the first `most`.
+
+        NoRoom loses none of them: the next check returns what was fetched already, too, whatever its `most`.
 
         >>> with Store() as store:
         ...     _ = store.subscribe(40, "eth0.*", kinds=[Endpoint])
@@ -118,17 +128,15 @@ class Store(Handle):
         ...     [str(change.value) for change in store.check(40)]
         ['3/16']
         """
-        text = self._kept.pop(sub, None) or io.BytesIO()
-        try:
-            while True:
-                shown = self._request(Command.CHECK, sub=sub, most=MOST if most is None else most).pieces
-                self._left = text
-                self._fetch(text)
-                if most is not None or shown < MOST:
-                    return Items(text.getvalue())
-        except NoRoom:
-            self._kept[sub] = text
-            raise
+        text = self._kept.get(sub) or io.BytesIO()
+        while True:
+            shown = self._request(Command.CHECK, sub=sub, most=MOST if most is None else most).pieces
+            self._kept[sub] = self._left = text  # until all of it is returned, whatever is raised meanwhile
+            self._fetch(text)
+            if most is not None or shown < MOST:
+                items = Items(text.getvalue())
+                del self._kept[sub]
+                return items
 
     def snapshot(self, pattern: str = ".*", kinds: Iterable[type] = KINDS) -> Reading:
         """Returns all that is held under a pattern and kinds, tombstones too, all floors, and the cursor after them."""
@@ -138,6 +146,8 @@ class Store(Handle):
         self, after: Optional[Tuple[str, type]] = None, pattern: str = ".*", kinds: Iterable[type] = KINDS, most: int = MOST
     ) -> Page:
         """Returns the first `most` changes of a snapshot past the key `after`, in the order of keys. The first page has all floors, too.
+
+        After all pages, continue with `since` from the first page's cursor: later ones miss what changed in between.
 
         >>> with Store() as store:
         ...     for at in range(3):
@@ -156,6 +166,8 @@ class Store(Handle):
     ) -> Iterator[Reading]:
         """Yields what took effect after a cursor, at most `most` items at a time, each time with the next cursor. Yields at least once.
 
+        The store is asked when an item of the iterator is, so refusals are raised there.
+
         >>> with Store() as store:
         ...     _, cursor = store.snapshot()
         ...     _ = store.publish(RS, "eth0", Endpoint(3, 16), version=(3, 0))
@@ -163,14 +175,17 @@ class Store(Handle):
         ...         print(items.text.decode(), end="")
         eth0 label rs 3.0 = 3/16
         """
-        more = True
+        kinds, more = list(kinds), True
         while more:
             reading = self._reading(Command.SINCE, pattern, kinds, cursor=cursor, most=most)
             yield reading
             cursor, more = reading.cursor, len(reading.items) == most
 
     def merge(self, items: Items) -> Merged:
-        """Merges the items of other stores, 256 at a time, up to the first that is refused."""
+        """Merges the items of other stores, 256 at a time, up to the first that is refused.
+
+        The refusal has in `done` how many items are merged, and in `owed` who is owed a notice of them. BadItems: a line is malformed.
+        """
         text, total, at = lines_of(items), Merged(0, 0, 0, frozenset()), 0
         while at < len(text):
             end = at
@@ -181,18 +196,23 @@ class Store(Handle):
             except Refused as refused:
                 refused.done, refused.owed = refused.done + total.done, refused.owed | total.owed
                 raise
+            except ValueError:
+                raise BadItems(total.done, total.owed) from None
             counts = total.done + answer.count, total.taken + answer.taken, total.stale + answer.stale
             total, at = Merged(*counts, total.owed | answer.subscriptions()), end
         return total
 
     def line(self, line: str) -> str:
-        """Returns the answer to a line of a script, as dsctl prints it."""
+        """Returns the answer to a line of a script, as dsctl prints it. A refusal is raised. BadLine: the line can't be read."""
         spelled = line.encode()
         self._ask("ds_call_line", spelled, len(spelled))
         return self.text()
 
     def text(self) -> str:
-        """Returns the last answer as dsctl prints it. If `line` raised NoRoom, call this to get its answer."""
+        """Returns the last answer as dsctl prints it. If `line` raised NoRoom, call this to get its answer.
+
+        If that is `refused noroom`, the line changed nothing.
+        """
         text, room = io.BytesIO(), PIECE
         while True:
             given = self._more(text, "ds_text", text.tell(), room)
@@ -242,11 +262,14 @@ class Store(Handle):
     def _more(self, text: io.BytesIO, call: str, first: int, room: int) -> Given:
         """Has the library write more of the last answer's text straight into `text`, at its position, so nothing is copied again."""
         end = text.tell()
-        text.seek(end + room - 1)
-        text.write(b"\0")
-        with text.getbuffer() as view:
-            self._call(call, first, addressof(c_char.from_buffer(view, end)), room, self._given_at)
-        text.seek(end + self._given.length)
+        try:
+            text.seek(end + room - 1)
+            text.write(b"\0")
+            with text.getbuffer() as view:
+                self._call(call, first, addressof(c_char.from_buffer(view, end)), room, self._given_at)
+            end += self._given.length
+        finally:
+            text.seek(end)
         return self._given
 
 

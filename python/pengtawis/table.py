@@ -69,13 +69,16 @@ class Table(Handle):
     def submit(self, drivers: Map, id: int, unit: int) -> Moved:
         """Follows the map, and submits a request to a unit. Its id is above that of every request that was accepted.
 
-        If it isn't accepted, `refused` is TwoIds or NoDevice; nothing is raised.
+        If it isn't accepted, `refused` is TwoIds, NoDevice or NoRoom, and isn't raised.
         """
         packed(REQUEST, id, unit)
         return self._follow("ds_table_submit", drivers, id, unit)
 
     def reply(self, endpoint: Pair, id: int) -> Moved:
-        """Takes a driver's reply to a request: the move finishes it. An answer of an older instance raises OldEndpoint."""
+        """Takes a driver's reply to a request: the move finishes it.
+
+        NotPending: no request of this id waits for a reply. OldEndpoint: the reply is of an older instance.
+        """
         packed(INSTANCE, *endpoint, id)
         self._ask("ds_table_reply", *endpoint, id)
         return Moved(self._moves())

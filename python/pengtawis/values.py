@@ -61,23 +61,48 @@ class Items:
     def __iter__(self) -> Iterator[Union[Change, Floor]]:
         return map(read_item, str(self.text, "ascii").splitlines())
 
+    def __eq__(self, other: object) -> bool:
+        return isinstance(other, Items) and self.text == other.text
+
+    def __repr__(self) -> str:
+        return f"Items({self.text!r})"
+
     def __len__(self) -> int:
         return self.text.count(b"\n")
 
 
-# The answers of a store. `owed` is the set of subscriptions that are owed a notice. `Store.since` continues from the cursor of a Reading.
+# The answers of a store. In each, `owed` is the set of subscriptions that are owed a notice.
 Done = NamedTuple("Done", [("changed", bool), ("owed", FrozenSet[int])])
 Swept = NamedTuple("Swept", [("dropped", int), ("owed", FrozenSet[int])])
 Subscribed = NamedTuple("Subscribed", [("stamp", int), ("owed", FrozenSet[int])])
 Merged = NamedTuple("Merged", [("done", int), ("taken", int), ("stale", int), ("owed", FrozenSet[int])])
 Reading = NamedTuple("Reading", [("items", Items), ("cursor", Cursor)])
 Page = NamedTuple("Page", [("items", Items), ("cursor", Cursor), ("is_last", bool)])
+Done.__doc__ = "Says that a change is held. `changed` is False if it was held already."
+Swept.__doc__ = "Says how many live entries a sweep dropped."
+Subscribed.__doc__ = "Has the stamp of a subscription, a number that rises with each subscription and each check that shows something."
+Merged.__doc__ = """Says how many items were done, and how many of these took effect or were stale.
+
+The others were held already, or aren't under a map's query.
+"""
+Reading.__doc__ = "Has items, and the cursor from which `Store.since` continues."
+Page.__doc__ = "Has items, the cursor of this page, and whether it is the last one."
 
 
 def read_item(line: str) -> Union[Change, Floor]:
-    if line.startswith("! "):
-        _, owner, generation = line.split(" ")
-        return Floor(owner, int(generation))
+    """Returns the change or the floor of a line, which has no newline. ValueError: it is malformed."""
+    try:
+        return floor_of(line) if line.startswith("! ") else change_of(line)
+    except (LookupError, TypeError, ValueError):
+        raise ValueError(f"it isn't an item: {line}") from None
+
+
+def floor_of(line: str) -> Floor:
+    _, owner, generation = line.split(" ")
+    return Floor(owner, int(generation))
+
+
+def change_of(line: str) -> Change:
     name, word, owner, version, mark, *value = line.split(" ", 5)
     kind, read = SPELLED[word]
     return Change(name, kind, owner, Version(*map(int, version.split("."))), read(value[0]) if mark == "=" else None)

@@ -3,12 +3,15 @@
 They are tried against a server that answers by the model, and against a dsfleet where PENGTAWIS_DSFLEET names one.
 """
 import asyncio
+import contextlib
 import os
 import random
 import socket
+import tempfile
 import threading
 import time
 import unittest
+from unittest import mock
 
 import support  # noqa: F401, I001: it finds the modules of tests/
 import behaviour
@@ -16,7 +19,7 @@ import model
 import servers
 import stores
 from pengtawis import AsyncClient, BadLine, Client, Refused, refusals
-from pengtawis.client import _Inbox as Inbox
+from pengtawis.client import _Inbox as Inbox, _judged
 
 DRAWN = 25000
 AT_ONCE = 50  # calls of one asyncio client
@@ -105,6 +108,24 @@ class FuzzedAtOnce(unittest.TestCase):
             asyncio.run(self.fuzz(path, 4, model.Store(ring=4096, incarnation=incarnation)))
 
 
+@contextlib.contextmanager
+def serving(work):
+    """Yields the path of a socket. Its first connection is given to `work`, in a thread."""
+    with tempfile.TemporaryDirectory() as home, socket.socket(socket.AF_UNIX) as listener:
+        listener.bind(f"{home}/socket")
+        listener.listen()
+
+        def serve():
+            with listener.accept()[0] as connection:
+                connection.settimeout(PATIENCE)
+                work(connection)
+
+        thread = threading.Thread(target=serve)
+        thread.start()
+        yield f"{home}/socket"
+        thread.join()
+
+
 def given(answer):
     if isinstance(answer, Exception):
         raise answer
@@ -128,6 +149,14 @@ class Answers(unittest.TestCase):
             self.client.ask(LABEL.replace("3/16", "3/17"))
         self.assertEqual(raised.exception.version, (3, 0))
         self.assertEqual(self.client.ask("retrieve eth0 label"), ["found 3/16"])
+
+    def test_refusals_of_a_dsfleet_alone(self):
+        for word, it in (("notsender", refusals.NotSender), ("newer", Refused)):
+            with self.assertRaises(it) as raised:
+                _judged([f"refused {word}"])
+            self.assertEqual(raised.exception.word, word)
+            self.assertIn(word, str(raised.exception))
+        self.assertEqual(Refused.word, "refused")
 
     def test_lines_that_are_none(self):
         for line, told in (("retreive eth0 label", "badline 1 0"), ("retrieve eth0", "badline 2 13"), ("side a", "norequest")):
@@ -202,6 +231,32 @@ class Answers(unittest.TestCase):
             self.assertEqual(client.ask("show"), ["shown 0"])
             self.assertEqual(client.ask("all"), ["shown 0"])
 
+    def test_notices_do_not_prolong_a_call(self):
+        over = threading.Event()
+
+        def notify(connection):
+            for _ in range(200):
+                if over.wait(0.02):
+                    return
+                connection.sendall(b"notice 40\n\n")
+
+        with serving(notify) as path, Client(path, 0.2) as client:
+            self.assertRaises(socket.timeout, client.ask, "show")
+            over.set()
+
+    def test_a_signal_when_the_answer_is_there(self):
+        """The next call gets its own answer."""
+        receive = self.client._receive
+
+        def interrupted():
+            while not self.client._answers:
+                receive()
+            raise KeyboardInterrupt
+
+        with mock.patch.object(self.client, "_receive", interrupted):
+            self.assertRaises(KeyboardInterrupt, self.client.ask, "nameof 0/2")
+        self.assertEqual(self.client.ask("show"), ["shown 0"])
+
     def test_a_server_that_hangs_up(self):
         with servers.Fake(hangs=2) as server, Client(server.path, PATIENCE) as client:
             client.ask("show")
@@ -245,6 +300,33 @@ class AtOnce(unittest.IsolatedAsyncioTestCase):
                     with self.assertRaises(asyncio.TimeoutError):
                         await asyncio.wait_for(client.ask("retrieve eth0 label"), 0.05)
                 self.assertEqual(await client.ask("show"), ["shown 0"])
+
+    async def test_a_connection_that_is_left_at_once(self):
+        with servers.Fake() as server:
+            async with AsyncClient(server.path) as client:
+                pass
+            with self.assertRaises(ConnectionError):
+                await asyncio.wait_for(client.ask("show"), PATIENCE)
+            self.assertEqual([it async for it in client.notices()], [])
+
+    async def test_what_is_not_sent_yet(self):
+        """Leaving the client ends the connection, even if the server doesn't read."""
+        left, received = threading.Event(), []
+
+        def read(connection):
+            left.wait(PATIENCE)
+            while some := connection.recv(1 << 16):
+                received.append(len(some))
+            received.append(0)
+
+        with serving(read) as path:
+            async with AsyncClient(path) as client:
+                asking = asyncio.create_task(client.ask("x" * 3000000))
+                await asyncio.sleep(0.05)
+                asking.cancel()
+            left.set()
+        self.assertEqual(received[-1:], [0])
+        self.assertLess(sum(received), 3000000)
 
     async def test_a_server_that_hangs_up(self):
         """Fails the calls that wait and those that come later, and ends the notices."""

@@ -8,12 +8,13 @@ import os
 import unittest
 
 import support
-from pengtawis import RS, Endpoint, Items, Map, NoRoom, NotFound, Offer, Rs, Store
+from pengtawis import RS, Endpoint, Items, Map, NoRoom, NotFound, Offer, Rs, Store, TooMany
 
 LIBRARY = os.environ.get("PENGTAWIS_REFUSING")
 ETH = Endpoint(3, 16)
 ITEMS = b'! tty 1\neth0 label rs 3.0 = 3/16\neth0.s str eth0 3.1 = "a value"\neth1 label rs 4.0 = 4/17\n'
 LARGE = 40  # values of 1024 bytes: more than one buffer of text
+SETTINGS = 'service = [{label = "eth0", class = "server", limit = 1}]'
 WANTED = [
     *["taken"] * 3,
     *["subscribed 1", 'found "a value"', "found " + "61" * 1024, "named eth0", "checked 3", "checked 0"],
@@ -138,11 +139,35 @@ class Growth(unittest.TestCase):
                 self.assertEqual(list(store.check(40)), [])
         self.assertGreater(refused, 4)
 
+    def test_what_comes_after_a_check_that_ran_out_of_memory(self):
+        """No item is lost by other settings, nor by a check that is refused."""
+        memory, refused = Memory(), 0
+        for left in range(80):
+            with Rs(SETTINGS, library=LIBRARY) as rs:
+                rs.up("eth0", tick=0)
+                rs.subscribe(40, ".*")
+                for at in range(LARGE):
+                    rs.publish(Endpoint(1, 16), f"eth0.m{at}", bytes(1024), (1, 0))
+                memory.once.value, memory.left.value = 0, left
+                try:
+                    items = rs.check(40)
+                except NoRoom:
+                    refused += 1
+                    memory.left.value = -1
+                    if left % 2:
+                        rs.renew(SETTINGS)
+                    else:
+                        self.assertRaises(TooMany, rs.check, 40, most=0)
+                    items = rs.check(40)
+                memory.left.value = -1
+                self.assertEqual(len(items), LARGE + 1)
+        self.assertGreater(refused, 20)
+
     def test_what_the_store_refuses_rs(self):
         """RS doesn't repeat an offer or a sweep that was refused memory. Its line, as an offer, makes it."""
         memory, refused = Memory(), {"put": 0, "event": 0}
         for left in range(40):
-            with Rs('service = [{label = "eth0", class = "server", limit = 1}]', library=LIBRARY) as rs:
+            with Rs(SETTINGS, library=LIBRARY) as rs:
                 memory.once.value, memory.left.value = 1, left
                 try:
                     acted = rs.up("eth0", tick=0)

@@ -9,7 +9,7 @@ import support  # noqa: F401, I001: it finds the modules of tests/
 import causes
 import model
 import stores
-from pengtawis import RS, Cursor, Endpoint, Floor, Items, Map, Store, refusals
+from pengtawis import RS, BadItems, Cursor, Endpoint, Floor, Items, Map, Store, read_item, refusals
 
 DRAWN = 20  # scripts of drawn commands
 COMMANDS = 300
@@ -79,6 +79,11 @@ class Refusals(unittest.TestCase):
         self.assertTrue(issubclass(refusals.NoRoom, MemoryError))
         self.assertTrue(issubclass(refusals.NotFound, LookupError))
         self.assertTrue(issubclass(refusals.BadPattern, ValueError))
+
+    def test_they_have_a_message_without_docstrings(self):
+        words = [sys.executable, "-OO", "-c", "import pengtawis; print(pengtawis.NotFound())"]
+        ran = subprocess.run(words, env={**os.environ, "PYTHONPATH": str(support.ROOT / "python")}, capture_output=True, text=True)
+        self.assertEqual((ran.stdout, ran.stderr), ("notfound\n", ""))
 
     def test_a_clash_names_its_version(self):
         with opened(LABEL, MTU) as store, self.assertRaises(refusals.Clash) as raised:
@@ -192,6 +197,10 @@ class Large(unittest.TestCase):
         self.assertEqual(sum((support.lines_of(it) for it, _ in pages), []), self.wanted(b'since "m1.*" 8 1 0 256')[:-1])
         self.assertEqual(pages[-1].cursor, (1, LARGE + 1))
 
+    def test_kinds_of_an_iterator(self):
+        readings = self.store.since((1, 0), kinds=iter([bytes]), most=150)
+        self.assertEqual([len(it.items) for it in readings], [150, 150, 100])
+
     def test_kinds_alone_are_a_scope(self):
         self.assertEqual(support.lines_of(self.store.snapshot(kinds=[Endpoint]).items), ["eth0 label rs 3.0 = 3/17"])
 
@@ -220,6 +229,18 @@ class Large(unittest.TestCase):
             self.assertEqual(other.merge(items), (LARGE + 1, LARGE + 1, 0, {40, 41}))
             self.assertEqual(other.merge(items), (LARGE + 1, 0, 0, frozenset()))
             self.assertEqual(other.snapshot().items.text, items.text)
+
+    def test_a_merge_of_a_malformed_line_says_how_far_it_came(self):
+        items = Items(self.store.snapshot().items.text + b"no item\n")
+        with opened() as other:
+            other.subscribe(7, ".*")
+            with self.assertRaises(BadItems) as raised:
+                other.merge(items)
+            self.assertEqual((raised.exception.done, raised.exception.owed), (len(items) // 256 * 256, {7}))
+            self.assertEqual(len(other.snapshot().items), raised.exception.done)
+            with self.assertRaises(BadItems) as raised:
+                other.merge(Items(b"no item\n"))
+            self.assertEqual((raised.exception.done, raised.exception.owed), (0, frozenset()))
 
     def test_a_merge_that_is_refused_says_how_far_it_came(self):
         lines = self.store.snapshot().items.text.splitlines(keepends=True)
@@ -347,6 +368,17 @@ class Numbers(unittest.TestCase):
                 for call in (lambda: store.retrieve("mtu", kind), lambda: store.delete(ETH, "mtu", kind, (3, 0)),
                              lambda: store.subscribe(40, ".*", [kind]), lambda: store.page(("mtu", kind))):
                     self.assertRaisesRegex(TypeError, "a kind is", call)
+
+    def test_items_are_equal_by_their_text(self):
+        items = Items(b"! eth0 3\n")
+        self.assertEqual((items, repr(items)), (Items(b"! eth0 3\n"), "Items(b'! eth0 3\\n')"))
+        self.assertNotEqual(items, Items(b"! eth0 4\n"))
+        self.assertNotEqual(items, items.text)
+
+    def test_lines_that_are_no_items(self):
+        for line in ("", "x", "a foo b 1.2 = 3", "a u32 b 1 = 3", "a u32 b 1.2 =", "a u32 b 1.2 = x", "! eth0", "! eth0 x"):
+            with self.subTest(line):
+                self.assertRaisesRegex(ValueError, "it isn't an item", read_item, line)
 
     def test_other_types_are_no_items(self):
         with opened(LABEL) as store, Map() as drivers:
