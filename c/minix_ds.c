@@ -45,10 +45,16 @@ static int asked(struct ds_caller *caller, const struct ds_request *request, con
     return error_of(answer->refusal);
 }
 
+/* The store isn't called, so it refuses nothing. */
+static int too_big(struct ds_caller *caller) {
+    caller->refusal = 0;
+    return -E2BIG;
+}
+
 /* Makes a request of the caller for a key. */
-static int named(struct ds_request *to, uint32_t command, const struct ds_caller *caller, const char *name, uint8_t kind) {
+static int named(struct ds_request *to, uint32_t command, struct ds_caller *caller, const char *name, uint8_t kind) {
     size_t length = strlen(name);
-    if (length > sizeof to->name) return -E2BIG;
+    if (length > sizeof to->name) return too_big(caller);
     memset(to, 0, sizeof *to);
     to->command = command, to->kinds = kind;
     to->generation = caller->endpoint / 1024, to->slot = (uint16_t)(caller->endpoint % 1024);
@@ -91,11 +97,11 @@ int ds_publish_u32(struct ds_caller *caller, const char *name, uint32_t value, i
 
 int ds_publish_str(struct ds_caller *caller, const char *name, const char *value, int flags) {
     size_t length = strlen(value);
-    return length > 256 ? -E2BIG : publish(caller, name, DS_STR, 0, value, length, flags);
+    return length > 256 ? too_big(caller) : publish(caller, name, DS_STR, 0, value, length, flags);
 }
 
 int ds_publish_mem(struct ds_caller *caller, const char *name, const void *value, size_t length, int flags) {
-    return length > 1024 ? -E2BIG : publish(caller, name, DS_MEM, 0, value, length, flags);
+    return length > 1024 ? too_big(caller) : publish(caller, name, DS_MEM, 0, value, length, flags);
 }
 
 /* Retrieves an entry and its text, of at most *length bytes. */

@@ -1,10 +1,10 @@
 /* The calls of MINIX 3's data store (DS), over ds.h: those of a driver, a server or RS, with MINIX's flags and errors.
  *
  * Callers share a struct ds_server, which has the store's handle. It begins as DS_SERVER_CLOSED. Open it by ds_open of its field store, and
- * close it by ds_close. Each caller has a struct ds_caller of its own, with its endpoint, its subscription and the number of its last
- * change. It begins with zeros, and isn't moved while its server is open. An endpoint is generation * 1024 + slot. The calls are those of
- * MINIX 3.3's lib/libsys/ds.c, written from knowledge of them, not copied. They return 0, or an error of errno.h, negative, as in MINIX.
- * Several refusals of the store share one error; the caller's field refusal has the store's own.
+ * close it by ds_close. Each caller has a struct ds_caller of its own, which begins with zeros. Set its server, its endpoint and its
+ * subscription, and don't move it while its server is open. An endpoint is generation * 1024 + slot. The calls are those of MINIX 3.3's
+ * lib/libsys/ds.c, written from knowledge of them, not copied. They return 0, or an error of errno.h, negative, as in MINIX. Several
+ * refusals of the store share one error; the caller's field refusal has the store's own.
  *
  * Left out: ds_publish_map, ds_snapshot_map and ds_retrieve_map, which share memory, and getsysinfo. These calls are tested; the
  * store below them is proved. */
@@ -12,6 +12,10 @@
 #define MINIX_DS_H
 
 #include "ds.h"
+
+#ifdef __cplusplus
+extern "C" {
+#endif
 
 typedef uint32_t ds_endpoint_t;
 #define DS_ENDPOINT(generation, slot) ((ds_endpoint_t)(generation) * 1024 + (slot))
@@ -77,7 +81,12 @@ int ds_subscribe(struct ds_caller *caller, const char *pattern, int flags);
 /* Returns the name, type and owner of the next entry that changed; ENOENT if there is none. key has DS_MAX_KEYLEN bytes. A deleted entry is
  * returned only if an earlier check returned it to this caller; it can no longer be retrieved. DS, too, forgets deleted entries. A floor is
  * returned with its owner's name, and type 0. ENOMEM loses nothing: the next check returns the same entry. Until then, each call of any
- * caller that shares the server fetches that entry first, and returns ENOMEM if it can't. So use the store only by these calls. */
+ * caller that shares the server fetches that entry first, and returns ENOMEM if it can't. So call the store by ds.h, as for a sweep of RS,
+ * only while the server's waits is NULL. *owner is 0/2 for a label, and 0 for an owner that has no live label. */
 int ds_check(struct ds_caller *caller, char *key, int *type, ds_endpoint_t *owner);
+
+#ifdef __cplusplus
+}
+#endif
 
 #endif

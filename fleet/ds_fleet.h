@@ -5,11 +5,12 @@
  * The store behind the handle is proved; this carrier is tested. If no two changes contradict each other, stores that
  * got the same items agree, in whatever order and however often the items arrived.
  *
- * A fleet owns two connections, one descriptor (the bell), and the text that the server hasn't acknowledged yet. While
- * it looks up the host of its URL it has a thread, which takes no signal and only calls getaddrinfo; no call waits for
+ * A fleet owns three descriptors (the bell, and two that it watches), two connections, a third one while it asks a
+ * Sentinel, the text that the server hasn't acknowledged yet, and a second store, for what this one refuses. While it
+ * looks up the host of its URL it has a thread, which takes no signal and only calls getaddrinfo; no call waits for
  * that thread, and it doesn't use the handle. ds_fleet_open copies its arguments, except the handle: the caller keeps
- * that open until ds_fleet_close. At most one thread at a time makes a call on the handle or its fleet. The calls of a
- * fleet send requests to the store, so fetch the text of an answer before you make one. Nothing is global, and the
+ * that open until ds_fleet_close. At most one thread at a time makes a call on the handle or its fleet. The calls of
+ * a fleet send requests to the store, so fetch the text of an answer before you make one. Nothing is global, and the
  * caller has to ignore SIGPIPE. The server is redis 7 or newer, the system Linux. */
 #ifndef DS_FLEET_H
 #define DS_FLEET_H
@@ -30,9 +31,10 @@ enum ds_fleet_word {
     DS_FLEET_AWAY,   /* there is no server, or the connection broke: a later step connects again, and nothing is lost */
     DS_FLEET_DENIED, /* the server answered by an error, or too few replicas have an entry: the state has why in `said`. A later step
                         tries again, and nothing is lost */
-    DS_FLEET_NOROOM, /* out of memory: call again, nothing is lost */
+    DS_FLEET_NOROOM, /* out of memory: call again, nothing is lost. Of ds_fleet_open also: the pattern compiles to too much */
     DS_FLEET_CLOSED, /* no store is open in the handle */
-    DS_FLEET_BADURL, DS_FLEET_NOTLS, /* of ds_fleet_open alone */
+    DS_FLEET_BADURL, /* of ds_fleet_open alone: the URL or the password can't be used, or there are certificates without TLS */
+    DS_FLEET_NOTLS,  /* of ds_fleet_open alone: the URL asks for TLS, and the library was built without it */
     DS_FLEET_BADNAME,  /* of ds_fleet_open: the stream's name. Of a step: the server is of a cluster, and the name has no {TAG} by which all
                           keys are on one node; the step tells nothing, and a later one looks again */
     DS_FLEET_BADSCOPE, /* of ds_fleet_open: the scope can't be read. Of a step: the stream has another scope; the step tells nothing, and a
@@ -43,7 +45,8 @@ enum ds_fleet_word {
 
 enum { DS_FLEET_KEEP = 1000, DS_FLEET_WITHIN = 1000, DS_FLEET_ID = 48, DS_FLEET_SAID = 256 /* bytes of a text, with its zero */ };
 
-/* A function that gets one line of the log, without its newline, while a step runs. */
+/* A function that gets one line of the log, without its newline, during ds_fleet_open or ds_fleet_step. It makes no call on the handle or
+ * the fleet. */
 typedef void ds_fleet_tell(void *context, const char *line);
 
 struct ds_fleet_options {
@@ -51,12 +54,13 @@ struct ds_fleet_options {
                              redis-sentinel://[[USER]:PASSWORD@]HOST[:PORT][,..]/NAME[/DATABASE]: Sentinels, asked for the master NAME;
                              or unix://[[USER]:PASSWORD@]/PATH. Each may end with ?db=DATABASE. Up to 8 hosts. With rediss:// and
                              rediss-sentinel:// TLS is spoken, if the library was built with -DDS_FLEET_TLS and is linked with OpenSSL */
-    const char *stream;   /* the beginning of the names of its three keys, 1 to 128 bytes; NULL: "ds" */
+    const char *stream;   /* the beginning of the names of its three keys: 1 to 128 printable ASCII characters, without spaces;
+                             NULL: "ds" */
     const char *pattern;  /* with kinds, the scope: the names that it matches whole. All on one stream need the same scope: else badscope */
     uint8_t kinds;        /* a sum of enum ds_kinds; 0: the scope is everything, and pattern may be anything */
     long keep;            /* a stream with more entries than this is compacted; 0: DS_FLEET_KEEP */
-    ds_fleet_tell *tell;  /* gets a line `WORD: TEXT` for each item that is refused or can't be read, as often as others send it, for each
-                             server met or lost, and for each compaction; may be NULL */
+    ds_fleet_tell *tell;  /* gets a line `WORD: TEXT` for each key whose item is refused or can't be read, for each server met or lost, for
+                             what a server denies, when others differ or data was lost, and for each compaction; may be NULL */
     void *context;        /* the first argument of tell */
     const char *password; /* instead of the URL's; NULL: the URL's. Less than 256 bytes */
     int replicas;         /* how many replicas have to have a change before it counts as told; 0: none */
@@ -73,8 +77,9 @@ enum ds_fleet_word ds_fleet_open(struct ds_fleet **fleet, struct ds_handle *stor
 /* Tells what is new, and merges what others told. It waits until the store is in step, for at most `patience`
  * milliseconds; with 0 it doesn't wait. A step that waits, and has just told all news, leaves what arrived meanwhile to
  * the next one, for which the bell rings. The first DS_FLEET_INSTEP means that the store has caught up. Serve no client
- * before that: a publisher that doesn't see its own earlier versions would use their numbers again. DS_FLEET_BADSCOPE
- * and DS_FLEET_BADNAME end the step at once. Call it when the bell rings, and after each change of the store. */
+ * before that: a publisher that doesn't see its own earlier versions would use their numbers again. DS_FLEET_BADSCOPE,
+ * DS_FLEET_BADNAME and DS_FLEET_CLOSED end the step at once, so pause before the next one. Call it when the bell rings,
+ * and after each change of the store. */
 enum ds_fleet_word ds_fleet_step(struct ds_fleet *fleet, unsigned patience);
 
 /* Returns a descriptor that becomes readable when a step has something to do: others told something, the server
@@ -97,12 +102,13 @@ struct ds_fleet_state {
     bool caught_up;                       /* some step has answered DS_FLEET_INSTEP */
     uint64_t position;                    /* the position up to which the store's journal was read */
     char last[DS_FLEET_ID];               /* the last entry of the stream that was read, or 0-0 */
-    uint64_t behind;                      /* how many milliseconds older that is than the stream's last entry, as of a second ago at most */
+    uint64_t behind;                      /* how many milliseconds that trails the stream's last entry: looked at each second, while there
+                                             is a server and no older entries are being read */
     uint64_t untold;                      /* bytes of lines that no server has acknowledged */
     uint64_t entries_told, entries_read;  /* entries of the stream: appended by this fleet; of others, and read by it */
     uint64_t connections, compactions;
     uint64_t unread;                      /* lines and entries from which no item could be read */
-    uint64_t refused[DS_NOROOM + 1];      /* for each of enum ds_refusal: of how many keys and owners an item is refused now */
+    uint64_t refused[DS_NOROOM + 1];      /* for each of enum ds_refusal: how many keys and owners have an item refused, as of then */
     unsigned differing;                   /* how many other stores held something else after they had read the same entries */
     char server[DS_FLEET_ID];             /* the run of the server that was met, or nothing */
     char said[DS_FLEET_SAID];             /* why the server last went away or denied something, in its words, or nothing */
@@ -110,7 +116,8 @@ struct ds_fleet_state {
 
 void ds_fleet_state(const struct ds_fleet *fleet, struct ds_fleet_state *state);
 
-/* Ends both connections and frees all memory; the store is unchanged, and open. NULL is allowed. */
+/* Ends the connections and frees all memory; the store is unchanged, and open. What is untold isn't told any more: step
+ * until DS_FLEET_INSTEP first. NULL is allowed. */
 void ds_fleet_close(struct ds_fleet *fleet);
 
 /* Return static texts: the word in lower case, such as `instep`; the word of a refusal of enum ds_refusal, such as

@@ -166,7 +166,7 @@ class Store(Handle):
     ) -> Iterator[Reading]:
         """Yields what took effect after a cursor, at most `most` items at a time, each time with the next cursor. Yields at least once.
 
-        The store is asked when an item of the iterator is, so refusals are raised there.
+        A reading is made when the iterator is advanced, so its refusal is raised there.
 
         >>> with Store() as store:
         ...     _, cursor = store.snapshot()

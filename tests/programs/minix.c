@@ -145,6 +145,9 @@ int main(void) {
     printf("it is %s\n", label);
     said("nobody's label", ds_retrieve_label_name(&inet, label, DS_ENDPOINT(9, 99)));
     said("no such number", ds_retrieve_u32(&inet, "eth0.irq", &number));
+    printf("refusal: %u\n", (unsigned)inet.refusal);
+    said("a name that is too long", ds_retrieve_u32(&inet, "a23456789a123456789a123456789a123456789a123456789a123456789a12345", &number));
+    printf("refusal: %u\n", (unsigned)inet.refusal);
 
     check(&inet), check(&inet), check(&inet), check(&inet), check(&inet);
 

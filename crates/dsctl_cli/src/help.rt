@@ -153,7 +153,7 @@ Answers:
   held ID            a move: a block driver is missing; the request is sent once
                      it is up
   answer ID done     a move, or the answer to `reply`: the driver answered; with
-                     `fault` for `done`, a driver that is no block driver is
+                     `fault` for `done`, a driver that isn't a block driver is
                      missing, or died
   start UNIT ENDPOINT
                      a move: a network driver arrived
@@ -214,13 +214,13 @@ Parts of lines and answers:
   ID                 the number of a request
   REST               a settings text in one line
   new                nothing is replaced: the key has no live entry, SUB is free
-  over               what is there is replaced, and has to be there
+  over               what is there, if anything, is replaced
   first              all that is held is shown by the first checks
   later              what is held already isn't shown
   more               another page follows this one
   last               no page follows this one
   done               the driver carried the request out
-  fault              the driver, no block driver, is missing or died
+  fault              the driver, which isn't a block driver, is missing or died
 
 Two replicas, in six lines:
   publish 0/2 new eth0 label 3.0 = 3/17   at side a, where a script begins

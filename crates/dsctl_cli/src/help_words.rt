@@ -134,7 +134,7 @@ Of a service:
              0 by default
   publishes  the names that it may publish in the data store, 64 at most
   complains  the labels of the services that it may complain of, 64 at most; by
-             default a server may complain of every service that is none
+             default a server may complain of every other class of service
   connects   the labels of the services that it may connect to, 64 at most; by
              default all
   forget     after how many ticks of one instance the failures before it no
@@ -146,7 +146,8 @@ No two services have the same label, no two block or character services the same
 major number, no two network services the same port, and no name is published
 twice.
 
-The words of faults, in the order in which they are judged:
+The words of faults. The top of the text is judged first, then each service,
+then services with each other; within each of these, this is the order:
   toml          the text isn't a TOML document
   unknownfield  a field has another name than these
   missing       a service has no label, no class or no unit
