@@ -27,15 +27,15 @@ fn print_refusal(what: &str, fault: Error) -> Result<(), Error> {
     }
 }
 
-/// Prints an answer that has items. Returns where a since continues, if there may be more of them.
-fn print_items(what: &str, word: &str, shown: Result<Shown<'_>, Error>) -> Result<Option<Cursor>, Error> {
+/// Prints an answer that has items. Returns whether there may be more of them, and where a since continues.
+fn print_items(what: &str, word: &str, shown: Result<Shown<'_>, Error>) -> Result<(bool, Option<Cursor>), Error> {
     let mut shown = match shown {
         Ok(shown) => shown,
-        Err(fault) => return print_refusal(what, fault).map(|_| None),
+        Err(fault) => return print_refusal(what, fault).map(|_| (false, None)),
     };
     print(what, word, &Owed::default());
     std::io::stdout().write_all(shown.items()?.text()).expect("standard output");
-    Ok(if shown.count() == u64::from(MOST) { Some(shown.cursor()) } else { None })
+    Ok((shown.count() == u64::from(MOST), shown.cursor()))
 }
 
 /// RS says that eth0 runs in this generation and slot.
@@ -59,7 +59,7 @@ fn publish_mtus(store: &mut Store, by: Endpoint, bytes: u32, networks: u32) -> R
 
 /// Asks for what inet wasn't shown until there is no more, because one answer has at most `MOST` items.
 fn check(store: &mut Store) -> Result<(), Error> {
-    while print_items("inet: what is new", "checked", store.check(INET, MOST))?.is_some() {}
+    while print_items("inet: what is new", "checked", store.check(INET, MOST))?.0 {}
     Ok(())
 }
 
@@ -85,7 +85,8 @@ fn main() -> Result<(), Box<dyn std::error::Error>> {
     println!("{}", store.name_of(second)?);
     let mut next = Some(Cursor { incarnation: 1, position: 2 });
     while let Some(cursor) = next {
-        next = print_items("inet: what came from position 2 on", "journaled", store.since(cursor, None, MOST))?;
+        let (has_more, end) = print_items("inet: what came from position 2 on", "journaled", store.since(cursor, None, MOST))?;
+        next = end.filter(|_| has_more);
     }
     print_items("inet: all that is held", "snapped", store.snapshot(None))?;
     Ok(())

@@ -88,7 +88,7 @@ impl FileServer {
     /// Takes the items of an answer, and puts the cursor after them.
     fn take_shown(&mut self, what: &str, mut shown: Shown<'_>) -> Result<(), Error> {
         self.take(what, &shown.items()?)?;
-        self.cursor = Some(shown.cursor());
+        self.cursor = shown.cursor();
         Ok(())
     }
 

@@ -56,7 +56,7 @@ refusals! {
     BadLabel "badlabel" 6 "a label's epoch is its generation, its number 0 for a put and 1 for an end; none is named rs";
     BadVersion "badversion" 7 "the epoch is the caller's generation, and the number is below 4294967295";
     NoCaller "nocaller" 8 "the caller's endpoint is neither a live label's nor that of RS";
-    NotAllowed "notallowed" 9 "only RS publishes labels and sweeps";
+    NotAllowed "notallowed" 9 "only RS publishes labels, deletes them and sweeps; an `Rs` does so by itself";
     NotOwner "notowner" 10 "the key belongs to another owner";
     Stale "stale" 12 "a greater version is held, or a floor of the owner made the change void";
     Exists "exists" 13 "the entry or the subscription exists, and the call doesn't overwrite";
@@ -73,17 +73,17 @@ refusals! {
     UnknownLabel "unknownlabel" 26 "the settings have no service of this label";
     BadCause "badcause" 27 "a death's cause is 1 to 6";
     AlreadyUp "alreadyup" 28 "the service is up or waits";
-    NotUp "notup" 29 "the service isn't up, or doesn't wait";
+    NotUp "notup" 29 "the service isn't in the state that the event needs: up, or waiting, or for a restart given up";
     OldEndpoint "oldendpoint" 30 "no running instance has this endpoint, or the request was last sent to another one";
-    GenerationsSpent "generationsspent" 31 "2097151 generations were started";
+    GenerationsSpent "generationsspent" 31 "RS has no generation left for a start";
     NoSlot "noslot" 32 "each process slot has an instance, or there were more slots";
-    Toml "toml" 33 "the settings aren't TOML, or a value is of another type";
+    Toml "toml" 33 "the settings aren't TOML";
     UnknownField "unknownfield" 34 "the settings have an unknown field";
     Missing "missing" 35 "a service of the settings lacks a field";
-    OutOfRange "outofrange" 36 "a value of the settings is out of range";
+    OutOfRange "outofrange" 36 "a value of the settings is of another type or out of range, or a server has a unit";
     TwoLabels "twolabels" 37 "two services have one label";
     TwoUnits "twounits" 38 "two services have one unit";
-    SharedName "sharedname" 39 "two services may publish one name";
+    SharedName "sharedname" 39 "a name is published by two services, or twice by one";
     Assigned "assigned" 40 "the unit has a driver already";
     TwoIds "twoids" 41 "the request's number isn't above all that were accepted";
     NoDevice "nodevice" 42 "the unit has no driver";
@@ -106,7 +106,14 @@ pub enum Error {
     Refused(Refusal),
     /// A merge, or a take of a map, stopped at an item that was refused. The items before it are done.
     Stopped(Stopped),
-    /// A name, a value, a number or a line of items is malformed, too long or out of range. Nothing changed.
+    /// A line of items past the first 256 of a merge is malformed. The first `done` items are done, and no item after them.
+    BadItems {
+        /// How many items are done: a multiple of 256. The malformed line is one of the next 256.
+        done: u64,
+        /// The subscriptions that are owed a notice by these items.
+        owed: Owed,
+    },
+    /// A name, a value, a number or a line is malformed, too long or out of range, or the line isn't for one store. Nothing changed.
     NoRequest,
     /// The line can't be read from this byte on. Nothing changed.
     BadLine(u64),
@@ -129,7 +136,7 @@ impl Error {
         match self {
             Error::Refused(refusal) => Some(*refusal),
             Error::Stopped(stopped) => Some(stopped.refusal),
-            Error::NoRequest | Error::BadLine(_) => None,
+            Error::BadItems { .. } | Error::NoRequest | Error::BadLine(_) => None,
         }
     }
 
@@ -157,7 +164,10 @@ impl fmt::Display for Error {
         match self {
             Error::Refused(refusal) => refusal.fmt(to),
             Error::Stopped(it) => write!(to, "{}; {} items before it are done", it.refusal, it.done),
-            Error::NoRequest => to.write_str("no store is asked this way: a name, a number or a line of items is none, or out of range"),
+            Error::BadItems { done, .. } => write!(to, "a line of items is malformed; the first {} items are done", done),
+            Error::NoRequest => {
+                to.write_str("a name, a value, a number or a line is malformed or out of range, or the line isn't for one store")
+            }
             Error::BadLine(byte) => write!(to, "the line can't be read from byte {} on", byte),
         }
     }

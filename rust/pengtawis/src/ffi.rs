@@ -144,6 +144,9 @@ pub mod command {
 /// `enum ds_word`: those words by which this crate tells answers apart.
 pub mod word {
     pub const CHANGED: u32 = 0;
+    pub const JOURNALED: u32 = 7;
+    pub const SNAPPED: u32 = 8;
+    pub const PAGED: u32 = 9;
     pub const STOPPED: u32 = 11;
     pub const REFUSED: u32 = 12;
     pub const NOREQUEST: u32 = 13;

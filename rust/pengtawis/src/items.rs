@@ -2,6 +2,7 @@
 
 use crate::values::{Endpoint, Kind, Version};
 use std::borrow::Cow;
+use std::slice::Split;
 
 /// The lines of items, as a store returns them. [`Store::merge`](crate::Store::merge) and [`Map::take`](crate::Map::take) take them
 /// unchanged.
@@ -40,8 +41,31 @@ impl Items {
     }
 
     /// Returns the items. A line that isn't an item's is skipped; a store returns no such line.
-    pub fn iter(&self) -> impl Iterator<Item = Item<'_>> {
-        self.text.split(|it| *it == b'\n').filter_map(|it| Item::read(std::str::from_utf8(it).ok()?))
+    pub fn iter(&self) -> ItemsIter<'_> {
+        ItemsIter { lines: self.text.split(|it| *it == b'\n') }
+    }
+}
+
+impl<'items> IntoIterator for &'items Items {
+    type Item = Item<'items>;
+    type IntoIter = ItemsIter<'items>;
+
+    fn into_iter(self) -> ItemsIter<'items> {
+        self.iter()
+    }
+}
+
+/// Iterates over the items of [`Items`], in order.
+#[derive(Clone, Debug)]
+pub struct ItemsIter<'items> {
+    lines: Split<'items, u8, fn(&u8) -> bool>,
+}
+
+impl<'items> Iterator for ItemsIter<'items> {
+    type Item = Item<'items>;
+
+    fn next(&mut self) -> Option<Item<'items>> {
+        self.lines.find_map(|it| Item::read(std::str::from_utf8(it).ok()?))
     }
 }
 

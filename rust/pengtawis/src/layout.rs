@@ -20,8 +20,9 @@ fn size_of_val<T>(_: &T) -> usize {
     size_of::<T>()
 }
 
-const NUMBERS: [(&str, u32); 11] = [
-    ("DS_PUBLISH", ffi::command::PUBLISH), ("DS_MERGE", ffi::command::MERGE), ("DS_STOPPED", ffi::word::STOPPED),
+const NUMBERS: [(&str, u32); 14] = [
+    ("DS_PUBLISH", ffi::command::PUBLISH), ("DS_MERGE", ffi::command::MERGE), ("DS_JOURNALED", ffi::word::JOURNALED),
+    ("DS_SNAPPED", ffi::word::SNAPPED), ("DS_PAGED", ffi::word::PAGED), ("DS_STOPPED", ffi::word::STOPPED),
     ("DS_REFUSED", ffi::word::REFUSED), ("DS_BADLINE", ffi::word::BADLINE), ("DS_RS_UP", ffi::event::UP), ("DS_RS_TICK", ffi::event::TICK),
     ("DS_RS_SWEEP", ffi::action::SWEEP), ("DS_RS_ISWAITING", ffi::state::WAITING), ("DS_RS_UPDATE", Cause::Update as u32),
     ("DS_RS_SERVER", Class::Server as u32),

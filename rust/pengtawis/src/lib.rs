@@ -1,8 +1,13 @@
 //! Pengtawis: where drivers are that crash and restart. `docs/guide/rust.md` is its page.
 //!
 //! A [`Store`], an [`Rs`] beside one, a [`Map`] and a [`Table`] are in this process, over the library for C, which is proved; this crate
-//! around it is tested. Every refusal is a variant of [`Refusal`]. No call panics. If memory runs out, a call is refused as
-//! [`Refusal::NoRoom`], and nothing is lost.
+//! around it is tested. Every refusal is a variant of [`Refusal`]. No call panics.
+//!
+//! If memory runs out, a call of a `Store`, an `Rs`, a `Map` or a `Table` is refused as [`Refusal::NoRoom`], and you can repeat it. Keep
+//! the [`Shown`] of a check until [`items`](Shown::items) succeeded; dropping it loses its items. Iterating over [`Items`] allocates by
+//! the standard library, which aborts the program if memory runs out.
+
+#![doc(test(attr(deny(unused_must_use))))] // an example that drops an answer fails
 
 mod error;
 mod ffi;
@@ -17,7 +22,7 @@ mod table;
 mod values;
 
 pub use error::{Error, Refusal, Stopped};
-pub use items::{Body, Change, Item, Items};
+pub use items::{Body, Change, Item, Items, ItemsIter};
 pub use map::Map;
 pub use rs::{Acted, Action, Cause, Rs, Service, SettingsFault, State};
 pub use shown::Shown;

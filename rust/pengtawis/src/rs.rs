@@ -56,7 +56,11 @@ impl Rs {
     }
 
     /// Gives RS other settings while services run. A service whose label stays keeps its instance, state and failures; a new one is down.
-    /// A service that isn't in the text has to be down, or else the refusal is [`Refusal::AlreadyUp`]. What is refused changes nothing.
+    /// A service that isn't in the text has to be down or given up.
+    ///
+    /// After the faults of the text, the refusals are, in this order: [`Refusal::NoSlot`], if the text has fewer slots than RS has;
+    /// [`Refusal::BadFirst`], if the last slot would be above 1023; [`Refusal::AlreadyUp`], if a service that isn't in the text is up or
+    /// waits: stop it first. What is refused changes nothing.
     pub fn renew(&mut self, settings: &str) -> Result<(), SettingsFault> {
         let mut fault = ffi::SettingsFault::default();
         // SAFETY: the handle is open, and the length is the text's.
@@ -112,7 +116,7 @@ impl Rs {
         Some(tick).filter(|it| *it != NEVER)
     }
 
-    /// Returns the generation of the next start, for the next run. Keep it before you carry out the start of the one before.
+    /// Returns the generation of the next start, for the next run. Save it before you carry out the start that used the previous one.
     pub fn next_generation(&mut self) -> u32 {
         let mut generation = 0;
         // SAFETY: the handle is open.

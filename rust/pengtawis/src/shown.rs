@@ -1,10 +1,10 @@
 //! The text of a store's last answer.
 
 use crate::error::Refusal;
-use crate::ffi::{self, stop, Answer, Given, MAX_PIECE};
+use crate::ffi::{self, stop, word, Answer, Given, MAX_PIECE};
 use crate::items::Items;
 use crate::store::Store;
-use crate::values::Cursor;
+use crate::values::{Cursor, Owed};
 use std::fmt;
 
 const ROOM: usize = 1 << 16; // bytes that are asked for at a time
@@ -12,16 +12,17 @@ const ROOM: usize = 1 << 16; // bytes that are asked for at a time
 /// The answer to a check, a since, a snapshot, a page or a line, whose text isn't fetched yet.
 ///
 /// It borrows the store, so no other request can replace the answer. The library copies each byte only once, straight into the caller's
-/// text. A call that is refused as [`Refusal::NoRoom`] may be made again, and loses nothing.
+/// text. A call that is refused as [`Refusal::NoRoom`] may be made again, and loses nothing. Keep the `Shown` of a check until `items`
+/// succeeded; dropping it loses its items.
 ///
 /// ```compile_fail
 /// # let mut store = pengtawis::Store::open(1).unwrap();
 /// let mut shown = store.check(40, 256)?;
-/// store.check(41, 256)?; // the items of the first check would be lost
+/// let _ = store.check(41, 256)?; // the items of the first check would be lost
 /// shown.items()?;
 /// # Ok::<(), pengtawis::Error>(())
 /// ```
-#[must_use = "no later answer has its items"]
+#[must_use = "dropping it loses the answer, and the items of a check"]
 pub struct Shown<'store> {
     store: &'store mut Store,
     answer: Answer,
@@ -45,9 +46,18 @@ impl<'store> Shown<'store> {
         self.answer.pieces
     }
 
-    /// Returns the cursor from which a since continues. A check has none. After a walk of all pages, continue from the first page's.
-    pub fn cursor(&self) -> Cursor {
-        Cursor { incarnation: self.answer.before, position: self.answer.after }
+    /// Returns the cursor from which a since continues; `None` unless this answers a since, a snapshot or a page. After a walk of all
+    /// pages, continue from the first page's.
+    pub fn cursor(&self) -> Option<Cursor> {
+        match self.answer.word {
+            word::JOURNALED | word::SNAPPED | word::PAGED => Some(Cursor { incarnation: self.answer.before, position: self.answer.after }),
+            _ => None,
+        }
+    }
+
+    /// Returns the subscriptions that are owed a notice by the answer, as by that to a line that changes something.
+    pub fn owed(&self) -> Owed {
+        Owed(self.answer.owed)
     }
 
     /// Returns whether a page is the last one.
@@ -80,7 +90,7 @@ impl<'store> Shown<'store> {
     /// ```
     /// # let mut store = pengtawis::Store::open(1)?;
     /// assert_eq!(store.line("nameof 3/16").unwrap_err().refusal(), Some(pengtawis::Refusal::NotFound));
-    /// store.line("publish 0/2 new eth0 label 3.0 = 3/16")?;
+    /// assert_eq!(store.line("publish 0/2 new eth0 label 3.0 = 3/16")?.text()?, "taken\n");
     /// assert_eq!(store.line("nameof 3/16")?.text()?, "named eth0\n");
     /// # Ok::<(), pengtawis::Error>(())
     /// ```

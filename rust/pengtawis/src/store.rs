@@ -119,7 +119,8 @@ impl Store {
         self.show(request, scope)
     }
 
-    /// Merges the items of other stores in order, up to the first that is refused.
+    /// Merges the items of other stores in order, 256 at a time, up to the first that is refused: [`Error::Stopped`]. If a line is
+    /// malformed, none of its 256 items is done: [`Error::NoRequest`] among the first 256, and [`Error::BadItems`] after them.
     pub fn merge(&mut self, items: &Items) -> Result<Merged, Error> {
         let (text, mut total, mut at) = (items.text(), Merged::default(), 0);
         while at < text.len() {
@@ -132,6 +133,7 @@ impl Store {
                     return Err(stopped(total, it.refusal));
                 }
                 Err(Error::Refused(refusal)) if total.done > 0 => return Err(stopped(total, refusal)),
+                Err(Error::NoRequest) if total.done > 0 => return Err(Error::BadItems { done: total.done, owed: total.owed }),
                 Err(other) => return Err(other),
             }
             at += length;
@@ -139,7 +141,8 @@ impl Store {
         Ok(total)
     }
 
-    /// Carries out the line of a script that asks one store. [`Shown::text`] is the answer as `dsctl` prints it.
+    /// Carries out a line of a script, for one store. [`Shown::text`] is the answer as `dsctl` prints it. Write `let _ = store.line(..)?;`
+    /// if you don't need the answer.
     pub fn line(&mut self, line: &str) -> Result<Shown<'_>, Error> {
         let mut answer = Answer::default();
         // SAFETY: the handle is open, and the length is the line's.

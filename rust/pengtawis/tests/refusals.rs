@@ -108,7 +108,20 @@ fn what_no_request_has() {
 #[test]
 fn faults_are_said() {
     assert_eq!(Error::from(Refusal::Stale).to_string(), "stale: a greater version is held, or a floor of the owner made the change void");
+    let refusals = [
+        (Refusal::NotAllowed, "only RS publishes labels, deletes them and sweeps; an `Rs` does so by itself"),
+        (Refusal::NotUp, "the service isn't in the state that the event needs: up, or waiting, or for a restart given up"),
+        (Refusal::GenerationsSpent, "RS has no generation left for a start"),
+        (Refusal::Toml, "the settings aren't TOML"),
+        (Refusal::OutOfRange, "a value of the settings is of another type or out of range, or a server has a unit"),
+        (Refusal::SharedName, "a name is published by two services, or twice by one"),
+    ];
+    for (refusal, said) in refusals {
+        assert_eq!(refusal.to_string(), format!("{}: {said}", refusal.word()));
+    }
     assert_eq!(Error::BadLine(7).to_string(), "the line can't be read from byte 7 on");
+    let malformed = "a name, a value, a number or a line is malformed or out of range, or the line isn't for one store";
+    assert_eq!(Error::NoRequest.to_string(), malformed);
     let it: Box<dyn std::error::Error + Send + Sync> = Refusal::NoRoom.into();
     assert!(it.to_string().starts_with("noroom: "));
 }

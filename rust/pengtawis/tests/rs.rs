@@ -215,6 +215,16 @@ fn other_settings_keep_what_runs() {
 }
 
 #[test]
+fn other_settings_leave_out_what_is_down_or_given_up() {
+    let mut rs = opened();
+    done(rs.up("log", 0));
+    done(rs.death(FIRST, Cause::Exit, 1));
+    assert_eq!(rs.services().map(|it| it.state()).collect::<Vec<_>>(), [State::Down, State::GivenUp]);
+    assert_eq!(rs.renew("slots = 2"), Ok(()));
+    assert_eq!(rs.services().count(), 0);
+}
+
+#[test]
 fn what_an_event_refuses() {
     let refused = |mut calls: Vec<Result<Acted, Error>>| calls.pop().unwrap().unwrap_err().refusal().map(|it| it.word());
     let mut it = opened();
@@ -242,8 +252,11 @@ fn what_settings_refuse() {
         ("[[service", "toml", Some(1), None),
         ("slots = 2\nlast = 3", "unknownfield", None, None),
         ("slots = 0", "outofrange", None, None),
+        ("slots = 'x'", "outofrange", None, None),
         ("[[service]]\nlabel = \"a\"", "missing", None, Some(0)),
+        (&format!("{SERVER}unit = 3"), "outofrange", None, Some(0)),
         (&twice, "twolabels", None, Some(1)),
+        (&format!("{SERVER}publishes = ['x', 'x']"), "sharedname", None, Some(0)),
     ];
     let mut rs = opened();
     done(rs.up("log", 0));
@@ -257,6 +270,7 @@ fn what_settings_refuse() {
     for (first, slot) in [(0, 16), (2_097_153, 16), (1, 15), (1, 1023)] {
         assert_eq!(words(next(first, slot).unwrap_err()), ("badfirst", None, None));
     }
+    assert_eq!(words(next(1, 1022).unwrap().renew("slots = 3").unwrap_err()), ("badfirst", None, None));
     assert_eq!(rs.service(1).unwrap().state(), State::Up { endpoint: FIRST, failures: 0 });
     assert_eq!(Rs::open(1, &twice).unwrap_err().to_string(), "service 1: twolabels: two services have one label");
 }

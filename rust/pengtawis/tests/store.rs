@@ -47,6 +47,13 @@ fn values_of_each_kind() {
         ("s", Body::Str(quoted.into())), ("z", Body::Mem(vec![])),
     ];
     assert_eq!(bodies, wanted);
+    let mut names = vec![];
+    for item in &items {
+        if let Item::Change(it) = item {
+            names.push(it.name);
+        }
+    }
+    assert_eq!(names, wanted.iter().map(|it| it.0).collect::<Vec<_>>());
 }
 
 #[test]
@@ -94,7 +101,7 @@ fn a_journal_and_pages() {
         store.publish(ETH, &format!("mtu{at:03}"), at, version(3, at), false).unwrap();
     }
     let mut all = store.snapshot(None).unwrap();
-    let (cursor, items) = (all.cursor(), all.items().unwrap());
+    let (cursor, items) = (all.cursor().unwrap(), all.items().unwrap());
     assert_eq!((cursor, items.len()), (Cursor { incarnation: 1, position: 601 }, 601));
     let (mut paged, mut after) = (Vec::new(), None::<String>);
     for at in 0.. {
@@ -112,9 +119,26 @@ fn a_journal_and_pages() {
     while counts.len() < 3 {
         let mut since = store.since(cursor, None, 100).unwrap();
         counts.push(since.items().unwrap().len());
-        cursor = since.cursor();
+        cursor = since.cursor().unwrap();
     }
     assert_eq!((counts, cursor.position), (vec![100, 100, 56], 601));
+}
+
+/// The stamps of a check aren't a cursor.
+#[test]
+fn which_answers_have_a_cursor() {
+    let mut store = with_eth();
+    store.subscribe(40, Scope::new("eth.*", Kinds::ALL), true, false).unwrap();
+    let (first, end) = (Cursor { incarnation: 1, position: 0 }, Some(Cursor { incarnation: 1, position: 1 }));
+    assert_eq!(store.since(first, None, 256).unwrap().cursor(), end);
+    assert_eq!(store.snapshot(None).unwrap().cursor(), end);
+    assert_eq!(store.page(None, None, 256).unwrap().cursor(), end);
+    assert_eq!(store.check(40, 256).unwrap().cursor(), None);
+    assert_eq!(format!("{:?}", store.check(40, 256).unwrap()), "Shown { count: 0, cursor: None, .. }");
+    let lines = [("since * 1 0 256", end), ("snapshot *", end), ("page * - 256", end), ("check 40 256", None), ("all", None)];
+    for (line, cursor) in lines {
+        assert_eq!(store.line(line).unwrap().cursor(), cursor, "{line}");
+    }
 }
 
 /// 200 values of 1024 bytes, whose lines have 400 KB: a call fetches 64 KB of them.
@@ -164,6 +188,23 @@ fn a_merge_stops_where_an_item_is_refused() {
 }
 
 #[test]
+fn a_malformed_line_of_a_merge() {
+    let mut store = with_eth();
+    store.subscribe(7, Scope::new("a.*", Kinds::ALL), false, false).unwrap();
+    let held = |store: &mut Store| store.snapshot(Some(Scope::new("a.*", Kinds::ALL))).unwrap().count();
+    let many = |count| (0..count).map(|at| format!("a{at} u32 eth0 3.{at} = 1\n")).collect::<String>();
+    assert_eq!(store.merge(&lines(&format!("{}no item\n", many(255)))), Err(Error::NoRequest));
+    assert_eq!(held(&mut store), 0);
+    let told = store.merge(&lines(&format!("{}no item\n", many(600)))).unwrap_err();
+    match told {
+        Error::BadItems { done: 512, owed } => assert_eq!(owed.iter().collect::<Vec<_>>(), [7]),
+        other => panic!("{other:?}"),
+    }
+    assert_eq!((held(&mut store), told.refusal()), (512, None));
+    assert_eq!(told.to_string(), "a line of items is malformed; the first 512 items are done");
+}
+
+#[test]
 fn lines_of_scripts() {
     let mut store = Store::open(1).unwrap();
     assert_eq!(store.line("publish 0/2 new eth0 label 3.0 = 3/16").unwrap().text().as_deref(), Ok("taken\n"));
@@ -175,4 +216,7 @@ fn lines_of_scripts() {
     store.merge(&lines(&many)).unwrap();
     let text = store.line("snapshot \"s.*\" 15").unwrap().text().unwrap();
     assert_eq!(text, format!("{many}snapshot 400 1 401\n"));
+    store.subscribe(40, Scope::new("mtu", Kinds::ALL), false, false).unwrap();
+    assert!(store.line("publish 3/16 new mtu u32 3.1 = 1500").unwrap().owed().contains(40));
+    assert_eq!(store.line("nameof 3/16").unwrap().owed(), Owed::default());
 }

@@ -31,7 +31,7 @@ fn is_whole(store: &mut Store) {
     for at in 0..THREADS {
         assert_eq!(store.retrieve::<u32>(&driver(at).0), Ok(CALLS - 1));
     }
-    assert_eq!(store.snapshot(None).unwrap().cursor().position, u64::from(THREADS + THREADS * CALLS));
+    assert_eq!(store.snapshot(None).unwrap().cursor().unwrap().position, u64::from(THREADS + THREADS * CALLS));
 }
 
 #[test]
