@@ -4,7 +4,7 @@ from __future__ import annotations
 import io
 import time
 from ctypes import addressof, byref, c_char, c_size_t
-from typing import Any, Dict, Iterable, Iterator, List, Optional, Tuple, Type, TypeVar, Union, cast
+from typing import Any, Dict, FrozenSet, Iterable, Iterator, List, Optional, Tuple, Type, TypeVar, Union, cast
 
 from .library import CHANGED, OPENING, PIECE, REQUEST, ROOM, WANTING, WHOLE, Answer, Command, Given, Handle, fault_of, packed
 from .refusals import BadItems, NoRoom, Refused
@@ -41,6 +41,7 @@ class Store(Handle):
         self._fetched = 0  # pieces of the last answer
         self._left: Optional[io.BytesIO] = None  # the text of a check to which the other pieces belong
         self._kept: Dict[int, io.BytesIO] = {}  # by subscription: what a check fetched before memory ran out
+        self._owed: FrozenSet[int] = frozenset()
         opening = time.time_ns() if incarnation is None else incarnation, first, ring
         packed(OPENING, *opening)  # which refuses what is out of range
         self._call("ds_open", *opening)
@@ -204,9 +205,14 @@ class Store(Handle):
 
     def line(self, line: str) -> str:
         """Returns the answer to a line of a script, as dsctl prints it. A refusal is raised. BadLine: the line can't be read."""
-        spelled = line.encode()
-        self._ask("ds_call_line", spelled, len(spelled))
+        spelled, self._owed = line.encode(), frozenset()
+        self._owed = self._ask("ds_call_line", spelled, len(spelled)).subscriptions()
         return self.text()
+
+    @property
+    def owed(self) -> FrozenSet[int]:
+        """The subscriptions that are owed a notice by the answer to the last `line`."""
+        return self._owed
 
     def text(self) -> str:
         """Returns the last answer as dsctl prints it. If `line` raised NoRoom, call this to get its answer.

@@ -369,6 +369,15 @@ class Numbers(unittest.TestCase):
                              lambda: store.subscribe(40, ".*", [kind]), lambda: store.page(("mtu", kind))):
                     self.assertRaisesRegex(TypeError, "a kind is", call)
 
+    def test_a_line_owes_notices(self):
+        with opened(LABEL) as store:
+            store.subscribe(40, "mtu", initial=False)
+            for line, owed in ((MTU, {40}), ("nameof 3/17", set()), (MTU.replace("new", "over").replace("3.1", "3.2"), {40})):
+                store.line(line)
+                self.assertEqual(store.owed, owed)
+            self.assertRaises(refusals.NotFound, store.line, "nameof 9/9")
+            self.assertEqual(store.owed, set())
+
     def test_items_are_equal_by_their_text(self):
         items = Items(b"! eth0 3\n")
         self.assertEqual((items, repr(items)), (Items(b"! eth0 3\n"), "Items(b'! eth0 3\\n')"))
