@@ -123,8 +123,7 @@ static int take_next(void) {
         return 1;
     }
     take_answer(is_all ? "all that is held" : "what came since", &answer);
-    next = (struct ds_request){.command = DS_SINCE, .incarnation = answer.before, .position = answer.after};
-    next.max = MOST;
+    next = (struct ds_request){.command = DS_SINCE, .incarnation = answer.before, .position = answer.after, .max = MOST};
     return !is_all && answer.pieces == MOST;
 }
 
