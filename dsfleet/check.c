@@ -14,7 +14,8 @@ static const char version_name[] = "redis_version:";
 enum {
     LEAST_VERSION = 7,
     TURN = 20,      /* milliseconds between two looks at a connection */
-    LIMIT = 5000    /* that all of it may take */
+    LIMIT = 5000,   /* that all of it may take */
+    MOVES = 4       /* from one node of a cluster to another */
 };
 
 /* The commands that a bridge sends, each with words that are as good as any: they are queued, and then discarded. */
@@ -33,8 +34,21 @@ static bool report(bool is_good, const char *bad, const char *what, const char *
     return is_good;
 }
 
+static const char *stream_of(const struct ds_fleet_options *options) { return options->stream ? options->stream : "ds"; }
+
+/* What a bridge asks in other ways: these do nothing. */
+static void ask_others(struct link *link, const struct ds_fleet_options *options, const char *stream) {
+    link_ask(link, "EVAL %s 1 %s:items", "return 0", stream);
+    link_ask(link, "DISCARD");
+    link_ask(link, "UNWATCH");
+    link_ask(link, "MULTI");
+    link_ask(link, "EXEC");
+    if (options->replicas) link_ask(link, "WAIT 0 1");
+}
+
 /* Waits for a master, and for its answers. Returns why there are none, or NULL. */
-static const char *ask_server(struct master *master, struct link *link, const char *stream) {
+static const char *ask_server(struct master *master, struct link *link, const struct ds_fleet_options *options) {
+    const char *stream = stream_of(options);
     uint64_t end = clock_now() + LIMIT;
     enum host_found found = HOST_SOUGHT;
     while ((found = master_find(master, clock_now())) == HOST_SOUGHT) {
@@ -48,8 +62,7 @@ static const char *ask_server(struct master *master, struct link *link, const ch
     link_ask(link, "WATCH %s:snapshot", stream);
     link_ask(link, "MULTI");
     for (size_t i = 0; i < sizeof commands / sizeof *commands; i++) link_ask(link, commands[i], stream);
-    link_ask(link, "EVAL %s 1 %s:items", "return 0", stream);
-    link_ask(link, "DISCARD");
+    ask_others(link, options, stream);
     for (;;) {
         enum link_state state = link_turn(link, clock_now());
         if (state == LINK_ANSWERED) return NULL;
@@ -58,6 +71,24 @@ static const char *ask_server(struct master *master, struct link *link, const ch
         poll(NULL, 0, TURN);
         link->quiet = false;
     }
+}
+
+/* Returns the node that has the stream, `HOST:PORT`, if it is another one than was asked. */
+static const char *moved_to(const struct link *link) {
+    for (size_t i = 0; i < link->came; i++) {
+        if (is_error_of(link->answers[i], "MOVED ")) return strrchr(link->answers[i]->str, ' ') + 1;
+    }
+    return NULL;
+}
+
+/* Asks a server, and the node that it names, as a bridge does. */
+static const char *ask_node(struct master *master, struct link *link, const struct ds_fleet_options *options) {
+    const char *why = ask_server(master, link, options), *place;
+    for (int moves = 0; !why && moves < MOVES && (place = moved_to(link)); moves++) {
+        master_moved(master, place);
+        why = ask_server(master, link, options);
+    }
+    return why;
 }
 
 static bool judge_rights(const struct link *link) {
@@ -82,15 +113,15 @@ static bool judge_server(const struct link *link, const char *stream) {
 }
 
 /* Asks each address until one answers. Returns whether that server will do. */
-static bool check_master(struct master *master, const char *stream) {
+static bool check_master(struct master *master, const struct ds_fleet_options *options) {
     struct link link = {0};
-    const char *why = ask_server(master, &link, stream);
+    const char *why = ask_node(master, &link, options);
     for (size_t tries = 1; why && tries < master->count; tries++) {
         report(false, warning, "server", why);
         master_failed(master);
-        why = ask_server(master, &link, stream);
+        why = ask_node(master, &link, options);
     }
-    bool is_good = report(!why, fault, "server", why) && judge_server(&link, stream);
+    bool is_good = report(!why, fault, "server", why) && judge_server(&link, stream_of(options));
     link_close(&link);
     return is_good;
 }
@@ -99,7 +130,7 @@ bool check_server(const struct ds_fleet_options *options) {
     struct master master = {.bell = -1};
     enum ds_fleet_word word = master_open(&master, options);
     bool is_good = word == DS_FLEET_INSTEP;
-    if (is_good) is_good = check_master(&master, options->stream ? options->stream : "ds");
+    if (is_good) is_good = check_master(&master, options);
     else report(false, fault, "address", word == DS_FLEET_BADTLS ? master.said : options_explained(word));
     master_close(&master);
     return is_good;

@@ -118,6 +118,11 @@ static void note_refused(struct clients *clients, const struct client *client) {
     clients->crowded |= clients->waiting >= clients->limits.all_output && backlog(client) < CLIENT_FEW;
 }
 
+/* Whether a client's further lines are left to a later turn: this one took long, or much waits for the stream. */
+static bool is_turn_over(const struct clients *clients, const struct client *client, bool holds) {
+    return clock_now() >= clients->turn_end || (holds && backlog(client) >= CLIENT_FEW);
+}
+
 /* Answers the lines that a client has sent. If one says that a change is held, all these answers wait for the stream.
  * So a line whose answer may be long is answered alone. */
 static bool answer_lines(struct clients *clients, struct client *client) {
@@ -128,7 +133,7 @@ static bool answer_lines(struct clients *clients, struct client *client) {
         bool may = may_answer(clients, client, line, length);
         alone = !client->gone && !session_is_short(line, length);
         if (!may) note_refused(clients, client);
-        if (!may || (alone && done)) break;
+        if (!may || (done && (alone || is_turn_over(clients, client, holds)))) break;
         size_t before = backlog(client);
         client->wire.lines++;
         if (client->gone) session_carry_out(clients, client, line, length);
@@ -147,7 +152,7 @@ static bool answer_lines(struct clients *clients, struct client *client) {
  * alone a client waits long after many that don't read; by the second alone, for ever after those that come later. */
 void clients_answer(struct clients *clients) {
     size_t count = clients->count, first = clients->first;
-    uint64_t end = clock_now() + CLIENTS_TURN;
+    clients->turn_end = clock_now() + CLIENTS_TURN;
     clients->crowded = clients->refused = clients->long_one = false;
     for (size_t i = 0; i < count; i++) {
         size_t at = clients->newest ? count - 1 - i : (clients->first + i) % count;
@@ -155,7 +160,7 @@ void clients_answer(struct clients *clients) {
         bool was_refused = clients->refused;
         if (is_free(clients, client) && !answer_lines(clients, client)) client->failed = true;
         if (clients->refused && !was_refused && !clients->newest) first = at;
-        clients->hurries = clock_now() >= end;
+        clients->hurries = clock_now() >= clients->turn_end;
     }
     clients->first = first;
     clients->newest ^= clients->long_one;

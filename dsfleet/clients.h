@@ -58,6 +58,7 @@ struct clients {
     bool crowded;        /* one of them until there is room for its answer; */
     bool long_one;       /* a line was answered whose answer may be long; */
     bool hurries;        /* no more of these */
+    uint64_t turn_end;   /* when what is left of the clients' lines waits for the next turn */
     bool newest;         /* in this turn the newest client comes first */
 };
 

@@ -104,11 +104,17 @@ static bool take_url(char *word, struct options *options) {
     return options->url;
 }
 
+/* Returns a variable of the environment. An empty one counts as unset. */
+static char *variable(const char *name) {
+    char *it = getenv(name);
+    return it && *it ? it : NULL;
+}
+
 /* Takes the password of the environment, if no file has one. That of redis-cli may be another server's, so a URL's
  * comes before it. */
 static void find_password(struct ds_fleet_options *fleet, char *url) {
-    if (!fleet->password) fleet->password = getenv("DSFLEET_PASSWORD");
-    if (!fleet->password && !password_of(url)) fleet->password = getenv("REDISCLI_AUTH");
+    if (!fleet->password) fleet->password = variable("DSFLEET_PASSWORD");
+    if (!fleet->password && !password_of(url)) fleet->password = variable("REDISCLI_AUTH");
 }
 
 /* Reads the words that aren't options, and the environment, and sets what depends on several options. */
@@ -118,7 +124,7 @@ static int finish_options(const struct usage *usage, int count, char **words, st
     options->socket = options->checks ? "-" : words[0];
     if (strlen(options->socket) >= PLACE_PATH) return usage_refuse(usage, "the socket's path is too long");
     char *url = words[count - 1];
-    if (!strcmp(url, "-")) url = getenv("DSFLEET_URL");
+    if (!strcmp(url, "-")) url = variable("DSFLEET_URL");
     if (!url) return usage_refuse(usage, "DSFLEET_URL isn't set");
     find_password(&options->fleet, url);
     options->fleet.url = url;
@@ -127,7 +133,8 @@ static int finish_options(const struct usage *usage, int count, char **words, st
     options->fleet.replicas = (int)options->replicas;
     options->fleet.within = (int)options->within;
     if (options->rights.readers == NO_GROUP) return GO_ON;
-    options->rights.writers = options->access.group == NO_GROUP ? getegid() : options->access.group;
+    if (options->access.group == NO_GROUP) options->access.group = getegid(); /* else a folder with setgid gives its own */
+    options->rights.writers = options->access.group;
     if (!options->access.mode) options->access.mode = READABLE;
     return GO_ON;
 }

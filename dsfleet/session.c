@@ -155,6 +155,11 @@ void session_carry_out(struct clients *clients, struct client *client, const cha
     const struct request it = request_of(line, length);
     bool is_whole = !client->wire.too_long;
     client->wire.too_long = false;
+    if (is_whole && request_is(&it, "as")) {
+        answer_as(&(struct turn){.clients = clients, .client = client}, &it); /* the lines after it are judged by it */
+        text_free(&client->held);                                             /* nobody reads it */
+        return;
+    }
     if (!is_whole || !lines_is_short(line, length) || refusal_of(client, &it)) return;
     if (request_is(&it, "subscribe")) return; /* it would be nobody's */
     lines_answer(clients->store, line, length, NULL, &said);

@@ -73,6 +73,8 @@ struct telling {
     enum telling_state state;
     bool owes_all;      /* everything held is put to what is untold, once the stream is read to its end */
     size_t sent;        /* in a round of telling, and in ADDED: bytes of the untold that the round adds, or added */
+    unsigned marks;     /* marks without news before them: they count as told once a later write has its replicas, */
+    unsigned sent_marks; /* and those of them that a round is about, or was about */
     unsigned parts;     /* in a round of telling: the entries that it adds */
     int replicas;       /* that have to have each entry; 0: none */
     int within;         /* milliseconds in which they are to have it */
@@ -81,6 +83,10 @@ struct telling {
 };
 
 void telling_cut(struct telling *telling);
+bool telling_has_news(const struct ds_fleet *fleet);
+/* Notes a mark past everything gathered. What others told, or an earlier run did, may lack replicas: then the mark counts as told
+ * once a later write has them. */
+void telling_mark(struct ds_fleet *fleet);
 
 /* ---- reading ---- */
 
@@ -94,7 +100,7 @@ struct reading {
     enum reading_state state;
     struct entry_id last;       /* the last entry read */
     struct entry_id read_up_to; /* all entries up to this id are read, or went before; 0-0, or above last */
-    char passed[DS_FLEET_ID];   /* the `at` of a snapshot that isn't to be fetched again: of no entry there ever was, or with no items */
+    struct entry_id passed;     /* the `at` of a snapshot that isn't to be fetched again: of no entry there ever was, or with no items */
     struct trail trail;         /* the entries read */
 };
 

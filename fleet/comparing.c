@@ -120,7 +120,8 @@ static bool lacks_witness(const struct comparing *comparing, const redisReply *t
 static void look_for_loss(struct ds_fleet *fleet, const struct stock *stock, bool has_less) {
     struct comparing *comparing = &fleet->comparing;
     struct reading *reading = &fleet->reading;
-    fleet->state.behind = stock->newest.first > reading->last.first ? stock->newest.first - reading->last.first : 0;
+    bool is_behind = !is_same_entry(reading->last, NO_ENTRY) && stock->newest.first > reading->last.first;
+    fleet->state.behind = is_behind ? stock->newest.first - reading->last.first : 0;
     if (has_less || is_above(comparing->asked, stock->generated) || has_lost(&comparing->stock, stock)) {
         items_say(&fleet->items, "lost: the server no longer has what it had, which is told again");
         fleet->telling.owes_all = true;

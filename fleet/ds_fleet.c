@@ -29,7 +29,7 @@ bool bridge_is_at_end(const struct ds_fleet *fleet) { return fleet->reading.stat
 void bridge_read_from_start(struct ds_fleet *fleet) {
     fleet->reading.last = NO_ENTRY;
     fleet->reading.state = READING_BEHIND;
-    *fleet->reading.passed = '\0';
+    fleet->reading.passed = NO_ENTRY;
     items_begin_anew(&fleet->items, fleet->telling.owes_all);
 }
 
@@ -44,6 +44,7 @@ enum ds_fleet_word bridge_look(struct ds_fleet *fleet, struct redisReply **looke
 }
 
 void bridge_begin_anew(struct ds_fleet *fleet, const struct stock *stock) {
+    telling_cut(&fleet->telling); /* what was added may be gone, too */
     bridge_read_from_start(fleet);
     fleet->reading.read_up_to = NO_ENTRY;
     fleet->telling.trail = fleet->reading.trail = (struct trail){.sure = NO_ENTRY};
@@ -128,8 +129,7 @@ static enum ds_fleet_word turn_listener(struct ds_fleet *fleet) {
 }
 
 static bool is_in_step(const struct ds_fleet *fleet) {
-    bool has_news = fleet->telling.owes_all || fleet->items.untold.length;
-    return fleet->server.state == SERVER_MET && bridge_is_at_end(fleet) && !has_news;
+    return fleet->server.state == SERVER_MET && bridge_is_at_end(fleet) && !telling_has_news(fleet);
 }
 
 /* Goes as far as it can without waiting. If one of the two is denied, the other continues. A step that waits ends once
@@ -250,7 +250,9 @@ enum ds_fleet_word ds_fleet_step(struct ds_fleet *fleet, unsigned patience) {
 int ds_fleet_bell(const struct ds_fleet *fleet) { return fleet->bell; }
 
 uint64_t ds_fleet_mark(struct ds_fleet *fleet) {
-    return items_gather(&fleet->items) == DS_FLEET_INSTEP ? fleet->items.gathered + 1 : 0;
+    if (items_gather(&fleet->items) != DS_FLEET_INSTEP) return 0;
+    telling_mark(fleet);
+    return fleet->items.gathered + 1;
 }
 
 bool ds_fleet_is_told(const struct ds_fleet *fleet, uint64_t mark) { return mark && fleet->telling.told + 1 >= mark; }
@@ -262,6 +264,8 @@ void ds_fleet_owed(struct ds_fleet *fleet, uint8_t owed[16]) {
 
 void ds_fleet_state(const struct ds_fleet *fleet, struct ds_fleet_state *state) {
     *state = fleet->state;
+    for (char *byte = state->said; *byte; byte++)
+        if (*byte < ' ' || *byte > '~') *byte = '?'; /* a server's newline isn't the end of a line of `state` */
     state->position = fleet->items.position;
     state->untold = fleet->items.untold.length;
     state->unread = fleet->items.unread;

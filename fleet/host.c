@@ -134,7 +134,11 @@ void host_open(struct host *host, const char *name, int bell) {
     host->is_address = is_in_digits(host->name);
 }
 
-void host_worked(struct host *host) { snprintf(host->worked, sizeof host->worked, "%s", host->address); }
+/* A look-up that still runs is of no use to this call, and would be an old answer to the next one. */
+void host_worked(struct host *host) {
+    snprintf(host->worked, sizeof host->worked, "%s", host->address);
+    host_close(host);
+}
 
 void host_failed(struct host *host) { host->turn++; }
 

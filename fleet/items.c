@@ -165,9 +165,9 @@ enum ds_fleet_word items_fold(struct items *items) {
     return word;
 }
 
-uint64_t items_drop_told(struct items *items, size_t length) {
+uint64_t items_drop_told(struct items *items, size_t length, unsigned marks) {
     text_drop(&items->untold, length);
-    items->folded += length;
+    items->folded += length + marks;
     if (length < items->folded_by) {
         items->folded_by -= length;
         return 0;

@@ -21,7 +21,7 @@ struct items {
     uint8_t kinds;                  /* 0: everything */
     uint64_t incarnation, position; /* how far the journal was read */
     struct text untold;             /* the lines of what took effect, until a server has answered for them */
-    uint64_t gathered;              /* bytes that untold ever got */
+    uint64_t gathered;              /* bytes that untold ever got, and marks that wait for a write */
     size_t fold_above;              /* bytes of untold above which items_fold is worth it, if these are more than FOLD_ABOVE of items.c */
     uint64_t folded;                /* bytes that left untold, and count as told only once a server has the first */
     size_t folded_by;               /* bytes of what is left */
@@ -52,8 +52,9 @@ enum ds_fleet_word items_gather_all(struct items *items);
 bool items_should_fold(const struct items *items);
 /* Puts all that is held in place of what is untold: of the changes of one key, only the last is left. */
 enum ds_fleet_word items_fold(struct items *items);
-/* Drops bytes from the front of what is untold, since a server has them. Returns how many of the bytes gathered count as told by it. */
-uint64_t items_drop_told(struct items *items, size_t length);
+/* Drops bytes from the front of what is untold, since a server has them. Returns how many of the bytes gathered count as told by it. Marks
+ * that the same round was about are counted as bytes. */
+uint64_t items_drop_told(struct items *items, size_t length, unsigned marks);
 /* Merges lines of an entry, whose id is for the log of what is refused. Own news is gathered first: what comes after it
  * in the journal is then what was merged, and isn't sent again. A refused line ends nothing. */
 enum ds_fleet_word items_take(struct items *items, const char *entry, const char *lines, size_t length);

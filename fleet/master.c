@@ -264,9 +264,10 @@ void master_moved(struct master *master, const char *place) {
     const char *colon = strrchr(place, ':');
     size_t length = colon ? (size_t)(colon - place) : 0;
     int port = colon ? read_number(colon + 1, LAST_PORT) : 0;
-    if (!length || length >= sizeof host || port <= 0 || master->call.path) return;
-    memcpy(host, place, length);
-    host[length] = '\0';
+    if (!colon || length >= sizeof host || port <= 0 || master->call.path) return;
+    /* Without a host it is on the one that was asked. */
+    if (length) snprintf(host, sizeof host, "%.*s", (int)length, place);
+    else snprintf(host, sizeof host, "%s", master->call.server);
     name_master(master, host, port);
 }
 

@@ -70,7 +70,7 @@ enum ds_fleet_word reading_answered(struct ds_fleet *fleet) {
     reading->state = READING_BEHIND;
     if (error) return server_denied(fleet, error);
     /* Judged by the last entry before this reading, which may begin past what was trimmed. */
-    bool has_gap = is_above(id_of(at), reading->last) && strcmp(at->str, reading->passed);
+    bool has_gap = is_above(id_of(at), reading->last) && !is_same_entry(id_of(at), reading->passed);
     const redisReply *stream = streams->type == REDIS_REPLY_ARRAY && streams->elements ? streams->element[0] : NULL;
     const redisReply *entries = is_list_of(stream, STREAM_PARTS) ? stream->element[STREAM_ENTRIES] : NULL;
     size_t count = entries && entries->type == REDIS_REPLY_ARRAY ? entries->elements : 0;
@@ -109,7 +109,7 @@ static enum ds_fleet_word snapshot_fetched(struct ds_fleet *fleet) {
     if (!is_text(at)) return DS_FLEET_INSTEP;
     struct entry_id id = id_of(at);
     if (!is_text(lines) || is_above(id, generated)) {
-        snprintf(reading->passed, sizeof reading->passed, "%s", at->str);
+        reading->passed = id;
     } else if (is_above(id, reading->last)) {
         reading->last = id;
     }

@@ -13,7 +13,9 @@
  *   ADDED       | an error instead of replicas    | ADDED: denied
  *   NEWS, ADDED | the connection ends             | NEWS: tells the next server again
  *
- * If much is untold, and no round tells it, all that is held takes its place, and the state is NEWS: limit_untold of ds_fleet.c. */
+ * If much is untold, and no round tells it, all that is held takes its place, and the state is NEWS: limit_untold of ds_fleet.c. If the
+ * server lost what it had, the state is NEWS, too: bridge_begin_anew. Marks without anything to tell are a round whose only write is a
+ * counter of the digests' key, so that the replicas are waited for. */
 #include "bridge.h"
 #include <stdio.h>
 #include <string.h>
@@ -44,11 +46,29 @@ static void ask_to_add(struct ds_fleet *fleet) {
         telling->sent += length;
     }
     link_ask(&fleet->server.teller, "XLEN %s:items", fleet->stream);
+    if (!telling->parts) link_ask(&fleet->server.teller, "HINCRBY %s:digests waits 1", fleet->stream);
+    telling->sent_marks += telling->marks;
+    telling->marks = 0;
 }
+
+static bool has_untold(const struct ds_fleet *fleet) {
+    return fleet->items.untold.length || fleet->telling.marks || fleet->telling.sent_marks;
+}
+
+bool telling_has_news(const struct ds_fleet *fleet) { return fleet->telling.owes_all || has_untold(fleet); }
 
 /* If everything held has yet to be gathered, news waits for that. */
 static bool is_telling_due(const struct ds_fleet *fleet) {
-    return fleet->items.untold.length && !(fleet->telling.owes_all && bridge_is_at_end(fleet));
+    return has_untold(fleet) && !(fleet->telling.owes_all && bridge_is_at_end(fleet));
+}
+
+/* What isn't sent yet will be a later write by itself. */
+void telling_mark(struct ds_fleet *fleet) {
+    struct telling *telling = &fleet->telling;
+    bool is_written_later = fleet->items.untold.length > telling->sent || telling->marks;
+    if (!telling->replicas || is_written_later) return;
+    telling->marks = 1;
+    fleet->items.gathered++;
 }
 
 static enum ds_fleet_word ask_to_tell(struct ds_fleet *fleet) {
@@ -61,7 +81,7 @@ static enum ds_fleet_word ask_to_tell(struct ds_fleet *fleet) {
     return DS_FLEET_INSTEP;
 }
 
-/* Each part has to be there: else all of them are sent again. */
+/* Each part has to be there, or the counter: else all of it is sent again. */
 static enum ds_fleet_word note_added(struct ds_fleet *fleet) {
     struct telling *telling = &fleet->telling;
     struct redisReply **answers = fleet->server.teller.answers;
@@ -70,6 +90,8 @@ static enum ds_fleet_word note_added(struct ds_fleet *fleet) {
         if (!is_text(answers[i])) return server_puzzles(fleet, "no entry was added");
         trail_add(&telling->trail, id_of(answers[i]));
     }
+    const redisReply *counter = telling->parts ? NULL : answers[1];
+    if (counter && is_error(counter)) return server_denied(fleet, counter);
     fleet->state.entries_told += telling->parts;
     fleet->compacting.length = (long)count_of(answers[telling->parts]);
     return DS_FLEET_INSTEP;
@@ -90,7 +112,8 @@ static enum ds_fleet_word telling_answered(struct ds_fleet *fleet) {
     if (word != DS_FLEET_INSTEP) return word;
     const redisReply *have = teller->answers[teller->came - 1];
     if (telling->replicas && count_of(have) < telling->replicas) return lacks_replicas(fleet, have);
-    telling->told += items_drop_told(&fleet->items, telling->sent);
+    telling->told += items_drop_told(&fleet->items, telling->sent, telling->sent_marks);
+    telling->sent_marks = 0;
     telling_cut(telling);
     fleet->server.pause = 0;
     return DS_FLEET_INSTEP;

@@ -17,7 +17,7 @@ from scenes import number, numbers, offer, shows
 PLACES = 512  # clients that a bridge serves at once
 ROOM = 64 << 20  # bytes of answers that may wait for all of them
 ASK = ROOT / "dsfleet" / "ask"
-NATIVE = ("answers_that_nobody_reads", "places_are_for_clients_that_read", "few_descriptors_are_told", "many_refused_items")  # not under valgrind's memory, pace and limits
+NATIVE = ("answers_that_nobody_reads", "places_are_for_clients_that_read", "few_descriptors_are_told", "many_refused_items", "many_costly_lines")  # not under valgrind's memory, pace and limits
 
 soft, hard = resource.getrlimit(resource.RLIMIT_NOFILE)
 resource.setrlimit(resource.RLIMIT_NOFILE, (hard if hard != resource.RLIM_INFINITY and hard < 8192 else 8192, hard))
@@ -203,6 +203,40 @@ def answers_that_nobody_reads(fleet, draw):
         assert most < ROOM + 32 * answer, f"{most >> 20} MB"
     until(lambda: descriptors(bridge) < 30, "they are dropped", 5)
     until(lambda: memory(bridge, "VmRSS") < 24 * answer, "memory is freed", 5)
+
+
+def answers_that_wait_for_the_server(fleet, draw):
+    """While no server takes changes, clients whose answers wait for it leave room for the long answers of others."""
+    bridge, count = fleet.start("--maxmemory-clients", "500000"), 12
+    offer(bridge, "big mem d 1.1 = " + "5a" * 1024)
+    fleet.pause_server()
+    lines, found = numbers("a", count), ["found " + "5a" * 1024]
+    with deaf(bridge, 0) as clients, bridge.client() as reader:
+        for line in lines:
+            clients.append(bridge.client())
+            clients[-1].send(f"offer {line}", *["retrieve big mem"] * 500)
+        until(lambda: bridge.state()["untold"] == str(sum(len(it) + 1 for it in lines)), "each change is held", 10)
+        reader.send("all")
+        assert reader.has_answer(5), "a long answer waits for the server"
+        assert reader.answer()[-1] == f"shown {count + 1}"
+        assert not clients[0].has_answer(0.1), "it was answered while no server takes changes"
+        fleet.resume_server()
+        for client in clients:
+            assert client.answer() == ["taken"] and all(client.answer() == found for _ in range(500))
+
+
+def many_costly_lines(fleet, draw):
+    """A client that sends many costly lines at once doesn't delay others until all of these are answered."""
+    bridge, name = fleet.start(), "n" * 40
+    offer(bridge, *numbers(name, 4000))
+    with bridge.client() as costly, bridge.client() as other:
+        assert other.ask(f"retrieve {name}1 u32") == ["found 7"]
+        bridge.pause()
+        costly.send(*['subscribe 3 "(n|nn|nnn)*.*[0-9]+.*[a-z]*n.*" 15 first over'] * 700)
+        other.send(f"retrieve {name}1 u32")
+        bridge.resume()
+        delay = took(lambda: other.answer())
+        assert delay < 2, f"a short answer took {delay:.1f} s"
 
 
 def places_are_for_clients_that_read(fleet, draw):

@@ -54,6 +54,20 @@ def who_may_connect(fleet, draw):
     shows(closed, [number("a", 1, 1), number("b", 1, 1)])
 
 
+def the_group_of_a_folder(fleet, draw):
+    """With --readers and without --group the socket has the process's own group, even in a folder whose files get the folder's group."""
+    folder = f"{fleet.home}/shared"
+    os.mkdir(folder)
+    try:
+        os.chown(folder, -1, WRITERS)
+    except PermissionError as why:
+        raise Skipped("only root has other groups") from why
+    os.chmod(folder, 0o2755)
+    plain, shared = fleet.start(at="shared/plain"), fleet.start("--readers", str(READERS), at="shared/store")
+    groups = [os.stat(it.socket).st_gid for it in (plain, shared)]
+    assert groups == [WRITERS, os.getegid()], groups
+
+
 def an_endpoint_of_a_connection(fleet, draw):
     """`as ENDPOINT` binds a connection to an endpoint, once. Then it changes nothing under another one, and offers nothing."""
     bridge = fleet.start()
@@ -67,6 +81,20 @@ def an_endpoint_of_a_connection(fleet, draw):
         for line in ("publish 0/2 over eth0 label 4.0 = 4/17", "sweep 0/2 eth0 3", "delete 3/1 eth0.mtu u32 3.1", f"offer {number('a', 1, 1)}"):
             assert driver.ask(line) == ["refused notsender"], line
         assert driver.ask("delete 3/17 eth0.mtu u32 3.1") == ["taken"]
+
+
+def an_endpoint_of_a_client_that_hangs_up(fleet, draw):
+    """`as ENDPOINT` applies to all later lines of a client, even if it hung up before any of them was carried out."""
+    bridge = fleet.start()
+    with bridge.client() as rs:
+        assert rs.ask("publish 0/2 new eth0 label 3.0 = 3/17") == ["taken"]
+    bridge.pause()
+    for at in range(9):
+        with bridge.client() as driver:
+            driver.send("as 3/17", "as 0/2", f"publish 0/2 new forged{at} label 1.0 = 1/{at + 20}", f"publish 3/17 new eth0.own{at} u32 3.{at} = 1")
+    bridge.resume()
+    until(lambda: sum("eth0.own" in it for it in bridge.all()) == 9, "what it changes under its own endpoint is held", 10)
+    assert not any("forged" in it for it in bridge.all()), bridge.all()
 
 
 def subscriptions_end_with_their_client(fleet, draw):

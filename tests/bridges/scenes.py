@@ -544,6 +544,32 @@ def snapshots_of_all_kinds(fleet, draw):
     shows(fleet.start(), [*lines, number("s", 1, 1)])
 
 
+def zeros_before_an_id(fleet, draw):
+    """A snapshot of an entry that never existed, whose id begins with many zeros, is fetched once. Bridges serve, and come to rest."""
+    script = fleet.adopt(Scripted(fleet.port))
+    first = fleet.start(url=script.url())
+    offer(first, number("a", 1, 1))
+    fleet.ask("HSET", "ds:snapshot", "at", "0" * 50 + "9" * 15 + "-0", "items", "")
+    offer(first, number("b", 1, 1))
+    late = fleet.start(wait=False)
+    until(late.tries_state, "another bridge serves", 10)
+    shows(late, [number("a", 1, 1), number("b", 1, 1)])
+    before = script.asked["XREAD COUNT"]
+    time.sleep(1)
+    assert script.asked["XREAD COUNT"] - before < 20, f"{script.asked['XREAD COUNT'] - before} readings in a second of rest"
+
+
+def behind_before_anything_is_read(fleet, draw):
+    """`behind` is 0 while a bridge has read no entry, though the stream has one: there is no time from which it could be counted."""
+    proxy, line = fleet.adopt(Proxy(fleet.port)), number("a", 1, 1)
+    first, deaf = fleet.start(), fleet.start(url=proxy.url())
+    proxy.mute()
+    offer(first, line)
+    seen = set()
+    until(lambda: seen.add(deaf.state()["behind"]) or deaf.holds(line), "it reconnects, and reads the entry", 15)
+    assert seen == {"0"} and "didn't come" in deaf.said(), f"{seen}, {deaf.said()}"
+
+
 def in_any_order_and_twice(fleet, draw):
     """Bridges hold what the model predicts, however another writer shuffles and repeats entries."""
     bridges = [fleet.start() for _ in range(2)]
@@ -767,6 +793,20 @@ def a_scope_that_changes(fleet, draw):
     shows(bridge, [*numbers("a", 10), *(number(f"b{at}", 1, 1) for at in range(30)), number("c", 1, 1)])
 
 
+def newlines_from_the_server(fleet, draw):
+    """A scope with newlines, which `state` and the log report, doesn't end their lines."""
+    bridge = fleet.start()
+    fleet.ask("HSET", "ds:snapshot", "scope", "other`\n\nfound 9/99\n\nfound 9/99\n")
+    until(lambda: bridge.state()["state"] == "badscope", "it is noticed", 10)
+    with bridge.client() as client:
+        said = client.ask("state")[-1]
+        assert said.startswith("said the stream's scope is `other`??found 9/99??found 9/99?`"), said
+        assert client.ask("retrieve nobody.home label") == ["refused notfound"]
+    assert all(it.startswith(("INFO event=", "WARN event=", "ERROR event=")) for it in bridge.said().splitlines()), bridge.said()
+    fleet.ask("HSET", "ds:snapshot", "scope", "everything")
+    offer(bridge, number("a", 1, 1))
+
+
 # ---- addresses ----
 
 
@@ -800,6 +840,35 @@ def a_name_that_is_not_answered(fleet, draw):
     assert time.monotonic() - begun < 3, "the signal waits for the name"
     names.answer(fleet.host)
     fleet.start_server()
+
+
+def a_name_that_is_answered_late(fleet, draw):
+    """The answer of a name server that comes once the last address was called isn't used for a later connection."""
+    names = fleet.adopt(Names())
+
+    def threads():
+        return len(os.listdir(f"/proc/{bridge.process.pid}/task"))
+
+    def reconnects(count):
+        """Cuts its connections, and returns how many seconds it takes to reconnect."""
+        begun = time.monotonic()
+        fleet.ask("CLIENT", "KILL", "TYPE", "normal")
+        until(lambda: int(bridge.state()["connections"]) >= count, "it reconnects", 15)
+        return time.monotonic() - begun
+
+    names.answer(fleet.host)
+    bridge = fleet.start(url=f"redis://fleet.test:{fleet.port}", named=names.named)
+    until(lambda: threads() == 1, "no name is being looked up", 10)
+    names.answer(None)
+    reconnects(2)
+    assert threads() > 1, "the name server has answered"
+    names.answer(fleet.host)
+    until(lambda: threads() == 1, "the name server answers late", 10)
+    with Fleet([], host="127.0.0.2", port=fleet.port) as other:
+        names.answer(other.host)
+        delay = reconnects(3)
+        is_there = bridge.state()["server"].encode() in other.ask("INFO", "server")
+        assert is_there or delay > 1, "it called the address that the name had"  # which it may after a second without an answer
 
 
 def a_server_that_is_demoted(fleet, draw):
