@@ -143,7 +143,8 @@ static bool is_own_folder(const char *path) {
 static int open_folder(struct host *host) {
     char path[PLACE_PATH + 2], *whole;
     snprintf(path, sizeof path, "%s.d", host->place.path);
-    if (mkdir(path, 0711) && errno != EEXIST) return failed(host, "socket");
+    bool is_new = !mkdir(path, 0711);
+    if (is_new ? chmod(path, 0711) != 0 : errno != EEXIST) return failed(host, "socket"); /* whatever the umask is */
     if (!is_own_folder(path)) {
         log_say(&host->log, LOG_ERROR, "socket: %s: it isn't a folder that this user alone may write, and is left alone", path);
         return FAILED;
@@ -242,7 +243,10 @@ static void admit(struct host *host) {
         int client = place_accept(&host->place);
         if (client < 0 && errno != EAGAIN) host->admit_at = clock_now() + REST; /* as out of descriptors */
         if (client < 0) return;
-        peers_add(peers, client, NULL, rights_user(client));
+        uid_t user = rights_user(client);
+        bool is_full = peers->of_public >= PEERS_PUBLIC - PEERS_OWN && !peers_may_order(user);
+        if (is_full) close(client);
+        else peers_add(peers, client, NULL, user);
     }
 }
 

@@ -4,6 +4,8 @@
 #include <fcntl.h>
 #include <stdio.h>
 #include <string.h>
+#include <sys/file.h>
+#include <sys/stat.h>
 #include <unistd.h>
 
 enum { BLOCK = 64, LINE = 11, MOST = 2097152 /* the generation that no instance gets any more */ };
@@ -29,8 +31,31 @@ static uint32_t read_number(int file) {
     return is_number && next <= MOST ? next : 0;
 }
 
+/* Opens the file for this dsrs alone. Returns -1, with errno: EBUSY if another one has it. */
+static int open_alone(const char *path) {
+    int file = open(path, O_RDWR | O_CREAT | O_CLOEXEC, 0600);
+    if (file < 0 || !flock(file, LOCK_EX | LOCK_NB)) return file;
+    if (errno == EWOULDBLOCK) errno = EBUSY;
+    int error = errno;
+    close(file);
+    errno = error;
+    return -1;
+}
+
+/* Makes the file again if somebody removed it. */
+static bool is_there(struct generations *generations) {
+    struct stat it;
+    if (fstat(generations->file, &it)) return false;
+    if (it.st_nlink) return true;
+    int file = open_alone(generations->path);
+    if (file < 0) return false;
+    close(generations->file);
+    generations->file = file;
+    return true;
+}
+
 uint32_t generations_open(struct generations *generations, const char *path) {
-    *generations = (struct generations){.path = path, .file = open(path, O_RDWR | O_CREAT | O_CLOEXEC, 0600)};
+    *generations = (struct generations){.path = path, .file = open_alone(path)};
     if (generations->file < 0) return 0;
     uint32_t next = read_number(generations->file);
     return next && generations_keep(generations, next) ? next : 0;
@@ -38,12 +63,12 @@ uint32_t generations_open(struct generations *generations, const char *path) {
 
 bool generations_keep(struct generations *generations, uint32_t next) {
     if (next < generations->kept || generations->kept == MOST) return true;
-    return write_number(generations, next < MOST - BLOCK ? next + BLOCK : MOST);
+    return is_there(generations) && write_number(generations, next < MOST - BLOCK ? next + BLOCK : MOST);
 }
 
 void generations_close(struct generations *generations, uint32_t next) {
     if (generations->file < 0) return;
-    if (next && next < generations->kept) write_number(generations, next);
+    if (next && next < generations->kept && is_there(generations)) write_number(generations, next);
     close(generations->file);
     generations->file = -1;
 }

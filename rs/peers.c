@@ -12,6 +12,8 @@
 
 /* ---- who there is ---- */
 
+bool peers_may_order(uid_t user) { return !user || user == geteuid(); }
+
 void peers_add(struct peers *peers, int socket, struct instance *instance, uid_t user) {
     struct peer *peer = peers->count < PEERS ? calloc(1, sizeof *peer) : NULL;
     if (!peer) {
@@ -84,27 +86,47 @@ static bool is_done(const struct peer *peer) {
     return peer->wire.ended && !peer->wire.out.length && !wire_has_line(&peer->wire);
 }
 
+/* Where the public leaves too much unread, the one that leaves most is dropped. Returns whether one was. */
+static bool drop_most(struct peers *peers) {
+    struct peer *most = NULL;
+    size_t waiting = 0;
+    for (size_t i = 0; i < peers->count; i++) {
+        struct peer *peer = peers->peer[i];
+        if (peer->is_instance || peer->gone) continue;
+        waiting += peer->wire.out.length;
+        if (!most || peer->wire.out.length > most->wire.out.length) most = peer;
+    }
+    if (waiting <= PEERS_WAIT) return false;
+    most->gone = true;
+    text_free(&most->wire.out);
+    return true;
+}
+
 /* A peer that is added meanwhile comes after those that are there, and isn't ready. */
 void peers_turn(struct rs *rs) {
     for (size_t i = 0; i < rs->peers.count; i++) {
         struct peer *peer = rs->peers.peer[i];
         if (peer->gone) continue;
+        size_t before = peer->wire.out.length;
         if (peer->socket.ready & (EPOLLIN | EPOLLHUP | EPOLLERR)) read_in(peer);
         answer_lines(rs, peer);
+        while (peer->wire.out.length > before && drop_most(&rs->peers)) continue;
     }
 }
 
-/* A socket holds a few hundred kilobytes at most. */
+/* What its socket held when it died is less than PEERS_LAST. Its descendants, which live still, may write without end. */
 void peers_finish(struct rs *rs, struct instance *instance) {
     struct peer *peer = peer_of(&rs->peers, instance);
-    bool has_read;
+    size_t count = 0, all = 0;
     if (!peer) return;
     do {
         size_t before = peer->wire.in.length;
         read_in(peer);
-        has_read = peer->wire.in.length != before;
-        while (is_ready(peer)) answer_lines(rs, peer);
-    } while (has_read && may_answer(peer));
+        count = peer->wire.in.length - before;
+        all += count;
+        do answer_lines(rs, peer);
+        while (is_ready(peer));
+    } while (count && all < PEERS_LAST && may_answer(peer));
 }
 
 /* ---- what they are sent ---- */
@@ -135,9 +157,11 @@ void peers_owe(struct peers *peers, const uint8_t owed[16]) {
     for (size_t i = 0; i < peers->count; i++) wire_owe(&peers->peer[i]->wire, owed);
 }
 
-/* Gives up what a peer that hung up was to be sent. The lines that it sent before are still carried out. */
+/* Gives up what a peer that hung up was to be sent. The lines that it sent before are still carried out, if they may
+ * change something. */
 static void hang_up(struct peer *peer) {
     peer->wire.ended = true;
+    peer->gone |= !peer->is_instance && !peers_may_order(peer->user);
     text_free(&peer->wire.out);
     parcels_drop(&peer->parcels);
 }
@@ -154,22 +178,8 @@ static void watch_peer(struct peers *peers, struct peer *peer) {
     watch_for(&peer->socket, peers->epoll, (reads ? EPOLLIN : 0U) | (wire->out.length ? EPOLLOUT : 0U));
 }
 
-/* Where the public leaves too much unread, the one that leaves most is dropped. */
-static void limit(struct peers *peers) {
-    struct peer *most = NULL;
-    size_t waiting = 0;
-    for (size_t i = 0; i < peers->count; i++) {
-        struct peer *peer = peers->peer[i];
-        if (peer->is_instance) continue;
-        waiting += peer->wire.out.length;
-        if (!most || peer->wire.out.length > most->wire.out.length) most = peer;
-    }
-    if (waiting > PEERS_WAIT) most->gone = true;
-}
-
 bool peers_send(struct peers *peers) {
     bool ready = false;
-    limit(peers);
     for (size_t i = peers->count; i-- > 0;) {
         struct peer *peer = peers->peer[i];
         if (!peer->gone) {

@@ -15,6 +15,8 @@ enum {
     PEERS = 512,             /* at once, of which two for each service are kept for instances */
     PEERS_PUBLIC = PEERS - 2 * SERVICES,
     PEERS_WAIT = 64 << 20,   /* bytes that wait for all of the public; then the one with the most is dropped */
+    PEERS_LAST = 1 << 20,    /* bytes that are read of an instance that died, */
+    PEERS_OWN = 16,          /* and places of the public for those who may order something */
     PEER_LINES = 64          /* that are answered in one turn */
 };
 
@@ -36,6 +38,8 @@ struct peers {
 
 struct rs;
 
+/* Whether a user of the public may start and stop services: root, and the user of dsrs. */
+bool peers_may_order(uid_t user);
 /* Takes in a peer by its socket, which is closed with it, or if there is no place or memory for it. */
 void peers_add(struct peers *peers, int socket, struct instance *instance, uid_t user);
 /* Reads what has come, and answers lines. */

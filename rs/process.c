@@ -84,6 +84,8 @@ static bool set_descriptors(const struct process *process) {
     if (has_sockets) socket = fcntl(process->socket, F_DUPFD_CLOEXEC, SPARE), listener = fcntl(process->listener, F_DUPFD_CLOEXEC, SPARE);
     if (input < 0 || dup2(input, STDIN_FILENO) < 0) return false;
     if (has_output && (dup2(process->output, STDOUT_FILENO) < 0 || dup2(process->output, STDERR_FILENO) < 0)) return false;
+    fcntl(STDIN_FILENO, F_SETFL, 0); /* the pipe may have O_NONBLOCK of an earlier process */
+    if (has_output) fcntl(STDOUT_FILENO, F_SETFL, 0);
     if (has_sockets && (dup2(socket, PROCESS_SOCKET) < 0 || dup2(listener, PROCESS_LISTENER) < 0)) return false;
     return !close_range(has_sockets ? PROCESS_LISTENER + 1 : PROCESS_SOCKET, ~0U, 0);
 }

@@ -124,7 +124,7 @@ static bool answer_service(struct rs *rs, struct peer *peer, const struct reques
     struct request rest = *it;
     const char *verb;
     size_t length = request_take(&rest, &verb);
-    if (peer->instance || (peer->user != geteuid() && peer->user)) return refuse(peer, "notallowed");
+    if (peer->instance || !peers_may_order(peer->user)) return refuse(peer, "notallowed");
     if (rs->ending) return refuse(peer, "notup");
     for (size_t i = 0; i < sizeof verbs / sizeof *verbs; i++) {
         if (strlen(verbs[i].verb) != length || memcmp(verbs[i].verb, verb, length)) continue;

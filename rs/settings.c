@@ -2,8 +2,11 @@
 #include "settings.h"
 #include "signals.h"
 #include <errno.h>
+#include <fcntl.h>
 #include <stdio.h>
 #include <string.h>
+#include <sys/stat.h>
+#include <unistd.h>
 
 enum {
     RING = 4096,   /* items of the store's journal */
@@ -15,8 +18,18 @@ static bool failed(struct events *events, const char *path, const char *why) {
     return false;
 }
 
+/* Opens a file, and nothing that a reading would wait for. Returns NULL, with errno. */
+static FILE *open_file(const char *path) {
+    struct stat it;
+    int file = open(path, O_RDONLY | O_NONBLOCK | O_CLOEXEC);
+    bool is_file = file >= 0 && !fstat(file, &it) && S_ISREG(it.st_mode);
+    if (is_file) return fdopen(file, "r");
+    if (file >= 0) close(file), errno = EINVAL;
+    return NULL;
+}
+
 bool settings_read(const char *path, struct text *text, struct events *events) {
-    FILE *file = fopen(path, "re");
+    FILE *file = open_file(path);
     if (!file) return failed(events, path, strerror(errno));
     bool has_room = text_room(text, MOST);
     if (has_room) text->length = fread(text->bytes, 1, MOST, file);

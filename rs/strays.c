@@ -79,6 +79,13 @@ static bool read_whole(const char *path, struct text *text) {
     return length == 0 && text_put(text, "", 1);
 }
 
+/* Whether the instance of an endpoint is up, or has its grace. */
+static bool lives(const struct instances *all, unsigned generation, unsigned slot) {
+    for (const struct instance *it = all->first; it; it = it->next)
+        if (it->generation == generation && it->slot == slot) return it->state != INSTANCE_ENDS || it->kill_at;
+    return false;
+}
+
 /* Whether a stray is of an instance that is up: by the cgroup that it is in, or by the environment that it began with. */
 static bool has_a_living_instance(const struct instances *all, pid_t pid) {
     char path[32];
@@ -91,7 +98,7 @@ static bool has_a_living_instance(const struct instances *all, pid_t pid) {
     for (size_t i = 0; by_cgroup && i < length; i++)
         if (text.bytes[i] == '/') text.bytes[i] = '\0';
     for (size_t at = 0; at < length && !found; at += strlen(text.bytes + at) + 1)
-        found = sscanf(text.bytes + at, format, &generation, &slot) == 2 && instances_at(all, generation, (uint16_t)slot);
+        found = sscanf(text.bytes + at, format, &generation, &slot) == 2 && lives(all, generation, slot);
     text_free(&text);
     return found;
 }
@@ -104,8 +111,8 @@ bool strays_kill(const struct instances *all) {
     for (pid_t pid; next_child(folder, &pid, &seen);) {
         if (is_known(all, pid, &seen)) continue;
         if (seen.state != 'Z' && has_a_living_instance(all, pid)) continue;
+        if (kill(pid, SIGKILL)) continue; /* it became another user's */
         if (seen.state != 'Z') events_tell(all->events, LOG_WARN, "stray: pid %d is killed", pid);
-        kill(pid, SIGKILL);
         waitid(P_PID, (id_t)pid, NULL, WEXITED | WNOHANG);
         found = true;
     }

@@ -3,6 +3,7 @@
 #include "clock.h"
 #include "text.h"
 #include <fcntl.h>
+#include <limits.h>
 #include <poll.h>
 #include <stdarg.h>
 #include <stdio.h>
@@ -13,7 +14,8 @@
 
 enum {
     COUNTED_EACH = 10 * SECOND,
-    LOG_WHOLE = 6 * LOG_PASSED + 200, /* bytes of the longest line: in JSON a byte may take six */
+    LOG_WHOLE = PIPE_BUF, /* bytes of the longest line, which a pipe takes whole or not at all */
+    LOG_TAIL = 10,        /* bytes of an escaped byte, and of what ends a line */
     LOG_NAME = 100
 };
 
@@ -55,11 +57,11 @@ static bool is_due(struct log *log, const char *event, size_t length) {
     return true;
 }
 
-/* Appends a text in quotes. JSON allows no byte that isn't printable ASCII, so each of these is `\u00XX` there. Returns
- * the line's length. */
+/* Appends a text in quotes, as much as fits. JSON allows no byte that isn't printable ASCII, so each of these is
+ * `\u00XX` there. Returns the line's length. */
 static size_t append_quoted(const struct log *log, char *line, size_t length, const char *text, size_t count) {
     line[length++] = '"';
-    for (size_t i = 0; i < count; i++) {
+    for (size_t i = 0; i < count && length < LOG_WHOLE - LOG_TAIL; i++) {
         unsigned char byte = (unsigned char)text[i];
         if (log->as_json && (byte < ' ' || byte > '~')) {
             length += (size_t)sprintf(line + length, "\\u%04x", byte);

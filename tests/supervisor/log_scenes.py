@@ -59,6 +59,19 @@ def a_log_program_that_fails_or_stays(host):
 
 
 @scene
+def ends_of_pipes_that_do_not_wait_are_not_passed_on(host):
+    """An instance, or a log program, that made its end of the pipe non-blocking doesn't make it so for the next one."""
+    host.service("a", "note(f'waits {os.get_blocking(1)}')\nos.set_blocking(1, False)\nif me != '1/16': live()\n")
+    reads = "#!/usr/bin/env python3\nimport os\nprint(os.get_blocking(0), file=open('out', 'a'), flush=True)\nos.set_blocking(0, False)\n"
+    host.service("a/log", reads)
+    host.start({"a": ({"limit": 5}, None)})
+    equal(host.noted("a 2/16 waits").split()[-1], "True")
+    until(lambda: len(lines(host)) == 2, lambda: f"it runs again: {lines(host)}")
+    equal(lines(host), ["True", "True"])
+    host.end()
+
+
+@scene
 def a_log_program_is_killed_with_its_supervisor(host):
     host.service("a/log", "#!/bin/sh\necho $$ > out\nexec sleep 1000\n")
     host.start({"a": ({}, LIVES)})

@@ -324,6 +324,37 @@ live()
 
 
 @scene
+def a_helper_lives_through_the_grace_of_its_instance(host):
+    """A helper of an instance that goes down lives through its grace, though another service dies meanwhile."""
+    helped = '''
+def stop(*_):
+    note("stops")
+    while not os.path.exists("../../go"): time.sleep(0.01)
+    os._exit(0)
+signal.signal(signal.SIGTERM, stop)
+if not os.fork():
+    os.setsid()
+    if not os.fork(): note(f"helper {os.getpid()}"), time.sleep(1000)
+    os._exit(0)
+os.wait()
+while True: time.sleep(1)
+'''
+    leaves = "#!/bin/sh\nsetsid sleep 1000 &\nexec sleep 1000\n"
+    host.start({"a": ({}, helped), "b": ({"limit": 9}, leaves)}, options=("--grace", "60000"))
+    pid = int(host.noted("helper").split()[-1])
+    until(lambda: len(host.processes()) == 4, "all are there")
+    host.ask("service down a")
+    host.noted("stops")
+    os.kill(host.pid("b"), signal.SIGKILL)
+    host.logged("stray")
+    host.ask("status")  # after the turn in which strays are killed
+    assert lives(pid) and not host.has_logged(f"stray pid {pid} "), host.log()
+    (host.home / "go").touch()
+    until(lambda: not lives(pid), "the helper ends with its instance")
+    host.end()
+
+
+@scene
 def orphans_that_end_are_reaped(host):
     """Processes that a living instance left to the supervisor, and that have ended, don't stay as zombies."""
     host.start({"a": ({}, "#!/bin/sh\nfor i in $(seq 50); do (sleep 0.05 &); done\nsleep 0.3\ntouch ../../ended\nexec sleep 1000\n")})
@@ -360,6 +391,16 @@ def children_from_before_the_supervisor_live(host):
 
 
 @scene
+def a_death_is_noticed_though_its_signal_was_ignored(host):
+    """A supervisor that was started with SIGCHLD ignored notices deaths nevertheless."""
+    host.words = ["env", "--ignore-signal=CHLD", *host.words]
+    host.start({"a": ({"limit": 9}, LIVES)})
+    os.kill(host.pid("a"), signal.SIGKILL)
+    host.logged("began a 2/16")
+    host.end()
+
+
+@scene
 def a_child_of_no_instance_is_killed(host):
     """A process that hides which instance began it becomes a child of the supervisor. It ends when any instance does."""
     hides = "#!/bin/sh\nenv -i setsid sh -c 'sleep 1000 & echo $! > ../../hidden'\nexec sleep 1000\n"
@@ -384,6 +425,26 @@ def a_stray_as_old_as_its_supervisor_is_killed(host):
         until(lambda: not lives(pid), "it is killed")
         host.end()
         (host.home / "hidden").unlink()
+
+
+@scene
+def a_stray_of_another_user_is_left_alone(host):
+    """A stray that became root's can't be killed by another user's supervisor, which doesn't report that, and ends all the same."""
+    if os.geteuid():
+        raise Skipped("only root may become another user")
+    for name, mode in ((host.words[0], "755"), (shutil.which("setpriv"), "4755")):
+        subprocess.run(["install", "-m", mode, name, host.home], check=True)
+    if os.statvfs(host.home).f_flag & os.ST_NOSUID:
+        raise Skipped("programs can't become root's there")
+    host.words = ["setpriv", "--reuid=65534", "--regid=65534", "--clear-groups", host.home / "dsrs"]
+    host.service("a", "#!/bin/sh\n../../setpriv --reuid=0 setsid sleep 1000 &\nuntil grep -q sleep /proc/$!/comm; do sleep 0.01; done\nexit 1\n")
+    for path in (host.home, host.home / "services", host.home / "services" / "a"):
+        shutil.chown(path, 65534)
+    host.start({"a": ({"limit": 1}, None)})
+    host.logged("givenup a")
+    host.process.send_signal(signal.SIGTERM)
+    host.ended(0)
+    equal([host.has_logged("stray"), [pathlib.Path(f"/proc/{pid}/comm").read_text() for pid in host.processes()]], [False, ["sleep\n"] * 2])
 
 
 @scene
@@ -618,6 +679,73 @@ def a_start_that_is_refused(host):
 
 
 @scene
+def settings_that_are_no_file_are_refused(host):
+    """Settings that are a FIFO, which nobody writes, are refused at the start, and when they are read again. Nothing waits for them."""
+    settings = host.home / "settings.toml"
+    os.mkfifo(settings)
+    host.start()
+    host.ended(3)
+    settings.unlink()
+    host.start({"a": ({}, LIVES)})
+    host.logged("began a")
+    pid = host.pid("a")
+    settings.unlink()
+    os.mkfifo(settings)
+    host.process.send_signal(signal.SIGHUP)
+    host.logged(f"settings {settings}: Invalid argument", 2)
+    equal([host.status()["a"][0], host.pid("a")], ["up", pid])
+    host.end()
+
+
+@scene
+def the_folder_of_sockets_may_be_passed_through(host):
+    """Services of other users reach the sockets in SOCKET.d, whatever the umask of the supervisor is."""
+    host.words = ["sh", "-c", 'umask 077; exec "$@"', "sh", *host.words]
+    host.start({"a": ({}, LIVES)})
+    host.ask("status")
+    equal(oct(os.stat(f"{host.path}.d").st_mode & 0o777), "0o711")
+    host.end()
+
+
+@scene
+def a_file_of_generations_has_one_supervisor(host):
+    """A second supervisor that would use the same generations doesn't start. The first one isn't touched."""
+    host.start({"a": ({}, LIVES)})
+    equal(host.ask("retrieve a label"), "found 1/16")
+    first, path = host.process, host.path
+    host.path = host.home / "other"
+    host.start()
+    host.ended(3)
+    assert "busy" in host.log().splitlines()[-1], host.log()
+    host.process, host.path, host.clients = first, path, {}
+    host.ask("service refresh a")
+    equal(host.ask("retrieve a label"), "found 2/16")
+    host.end()
+
+
+def first_generation(host):
+    """Starts a supervisor once more, and returns the generation of the first instance."""
+    host.start()
+    return int(host.ask("retrieve a label").split()[1].split("/")[0])
+
+
+@scene
+def a_removed_file_of_generations_is_made_again(host):
+    """If the file of generations is removed while a supervisor runs, the next run's are nevertheless above all earlier ones."""
+    file = host.home / "services" / ".generation"
+    host.start({"a": ({}, "#!/bin/sh\nexec sleep 1000\n")}, options=("--grace", "0"))
+    host.ask("status")
+    for used in (3, 200):  # fewer than are reserved at a time, and more
+        file.unlink()
+        for _ in range(used):
+            host.ask("service refresh a")
+        last = int(host.ask("retrieve a label").split()[1].split("/")[0])
+        host.end()
+        equal(first_generation(host), last + 1)
+    host.end()
+
+
+@scene
 def a_folder_that_others_may_write_is_left_alone(host):
     """The folder of sockets is this user's alone, and nothing but sockets is removed from it."""
     folder, other = pathlib.Path(f"{host.path}.d"), host.home / "other"
@@ -655,6 +783,34 @@ def one_that_talks_without_end_holds_up_nobody(host):
 
 
 @scene
+def descendants_that_write_without_end_hold_up_nobody(host):
+    """An instance dies, and its descendants write to its socket without end and without a newline. About a megabyte of that is read."""
+    body = """
+if me == "2/17":
+    note(f"pid {os.getpid()}")
+    while not os.path.exists("../../go"): time.sleep(0.01)
+    try: dsrs.setsockopt(socket.SOL_SOCKET, 32, 64 << 20)  # SO_SNDBUFFORCE, for root alone
+    except PermissionError: pass
+    dsrs.send(b"x" * (8 << 20) + b"\\ncomplain 1/16\\n", socket.MSG_DONTWAIT)
+for _ in range(6):
+    if not os.fork():
+        while True: dsrs.sendall(b"x" * 60000)
+os._exit(1)
+"""
+    host.start({"a": ({}, LIVES), "bad": ({"class": "server", "limit": 2}, body)})
+    pid = int(host.noted("bad 2/17 pid").split()[-1])
+    host.process.send_signal(signal.SIGSTOP)
+    (host.home / "go").touch()
+    until(lambda: not lives(pid), "it ends")
+    host.process.send_signal(signal.SIGCONT)
+    host.logged("died bad")
+    assert not host.has_logged("complaint"), host.log()
+    equal(host.ask("retrieve a label"), "found 1/16")
+    host.logged("givenup bad")
+    host.end()
+
+
+@scene
 def clients_that_read_nothing_cost_little(host):
     """A client that sends lines without end and reads nothing costs about a megabyte. Others are served."""
     host.start({"a": ({}, "#!/bin/sh\nexec sleep 1000\n")}, options=("--grace", "0"))
@@ -681,6 +837,91 @@ def clients_that_read_nothing_cost_little(host):
 def memory(host):
     with open(f"/proc/{host.process.pid}/status") as status:
         return next(int(it.split()[1]) * 1024 for it in status if it.startswith("VmRSS:"))
+
+
+@scene
+def many_clients_that_read_nothing_cost_little(host):
+    """All clients together leave no more than some 64 megabytes of answers unread."""
+    host.start({"a": ({}, "#!/bin/sh\nexec sleep 1000\n")}, options=("--grace", "0"))
+    for _ in range(200):
+        host.ask("service refresh a")
+    before, most = memory(host), 0
+    deaf = [socket.socket(socket.AF_UNIX) for _ in range(200)]
+    for it in deaf:
+        it.connect(str(host.path))
+        it.sendall(b"log\n" * 400)
+    for _ in range(40):
+        equal(host.ask("retrieve nobody label"), "refused notfound")
+        most = max(most, memory(host) - before)
+    assert most < 150 << 20, f"{most >> 20} MB"  # with what buffers have besides
+    for it in deaf:
+        it.close()
+    host.end()
+
+
+# A client of another user: it connects as often as it may, waits for a line, sends as much as its sockets hold, and hangs up.
+OTHERS = """
+import os, socket, sys
+os.setgroups([])
+os.setgid(65534)
+os.setuid(65534)
+all = []
+for _ in range(int(sys.argv[2])):
+    it = socket.socket(socket.AF_UNIX)
+    it.setblocking(False)
+    try: it.connect(sys.argv[1])
+    except BlockingIOError: break
+    all.append(it)
+print("there", flush=True)
+sys.stdin.readline()
+for it in all:
+    try: it.send(b"status\\n" * 30000)
+    except OSError: pass
+"""
+
+
+def others(host, count):
+    """Starts a client of another user, with this many connections."""
+    if os.geteuid():
+        raise Skipped("only root may become another user")
+    os.chmod(host.home, 0o711)
+    it = subprocess.Popen(["python3", "-c", OTHERS, host.path, str(count)], stdin=subprocess.PIPE, stdout=subprocess.PIPE, text=True)
+    equal(it.stdout.readline(), "there\n")
+    return it
+
+
+@scene
+def lines_of_others_that_hung_up_hold_up_nobody(host):
+    """Lines that another user sent before he hung up change nothing, and aren't carried out."""
+    host.start({f"s{number:02}": ({}, "#!/bin/sh\nexec sleep 1000\n") for number in range(16)})
+    host.logged("began s15")
+    host.ask("status")
+    files = open_files(host)
+    with others(host, 120) as it:
+        until(lambda: open_files(host) >= files + 120, "they are connected")
+        host.process.send_signal(signal.SIGSTOP)
+        it.communicate("\n")
+    before = used(host.process.pid)[0]
+    host.process.send_signal(signal.SIGCONT)
+    until(lambda: open_files(host) <= files, "they are dropped")
+    took = used(host.process.pid)[0] - before
+    assert took < 300, f"{took} hundredths of a second"
+    host.end()
+
+
+def open_files(host):
+    return len(os.listdir(f"/proc/{host.process.pid}/fd"))
+
+
+@scene
+def others_leave_places_for_the_user_of_the_supervisor(host):
+    """While another user holds all connections that he gets, the user of the supervisor still gets some."""
+    host.start({"a": ({}, LIVES)})
+    host.logged("began a")
+    with others(host, 450):
+        equal(host.ask("retrieve a label"), "found 1/16")
+        assert host.ask("service down a").startswith("kill 1/16")
+    host.end()
 
 
 @scene
@@ -814,3 +1055,34 @@ live()
     assert {"level": "INFO", "event": "output", "service": "a", "text": 'a "quote", a \\ and \x1b\xe9'} in lines, host.log()
     assert all({"level", "event"} <= set(it) for it in lines), host.log()
     assert any(it["event"] == "began" and "a 1/16" in it["text"] for it in lines), host.log()
+
+
+@scene
+def lines_of_json_are_whole(host):
+    """If what reads standard error is slow, lines are left out, and never parts of one, however long a line becomes as JSON."""
+    body = r"""
+for number in range(6):
+    while not os.path.exists(f"../../go{number}"): time.sleep(0.01)
+    sys.stdout.buffer.writelines(b"\xe9" * (700 + 29 * (it + number) % 320) + b"\n" for it in range(100))
+    sys.stdout.flush()
+    note(f"round {number}")
+live()
+"""
+    pipe, said = host.home / "errors", b""
+    os.mkfifo(pipe)
+    host.words = ["sh", "-c", 'exec "$@" 2> "$0"', pipe, *host.words]
+    with open(os.open(pipe, os.O_RDONLY | os.O_NONBLOCK), "rb", buffering=0) as errors:
+        host.start({"a": ({}, body)}, options=("--log-format", "json"))
+        for number in range(6):
+            (host.home / f"go{number}").touch()
+            host.noted(f"round {number}")
+            host.ask("status")
+            said += errors.read(1 << 20) or b""
+        host.end()
+        said += errors.read(1 << 20) or b""
+    assert b'"service":"a"' in said and b'"left_out"' in said, said[-500:]
+    for line in said.splitlines():
+        try:
+            json.loads(line)
+        except ValueError as why:
+            raise AssertionError(f"{why}: {line}") from why
