@@ -145,6 +145,7 @@ def a_repeated_change_has_its_replicas(fleet, draw):
         until(lambda: fleet.entries() == 1, "it is in the stream")
         bridge.kill()
     bridge.start()
+    bridge.serves()
     with Fleet([]) as replica, bridge.client() as client:
         client.send(f"offer {line}")
         until(lambda: "0 of 1 replicas" in bridge.state()["said"], "it waits for a replica")
