@@ -88,8 +88,8 @@ int ds_fleet_bell(const struct ds_fleet *fleet);
 
 /* Returns a mark past everything that has taken effect in the store so far; 0 if memory runs out, or no store is open. */
 uint64_t ds_fleet_mark(struct ds_fleet *fleet);
-/* Returns whether the server has acknowledged everything before the mark, so that it is in the stream. So one client
- * may get its answer while others still change the store. */
+/* Returns whether the server has acknowledged everything before the mark, so that it is in the stream and, with
+ * `replicas`, that many have it. So one client may get its answer while others still change the store. */
 bool ds_fleet_is_told(const struct ds_fleet *fleet, uint64_t mark);
 
 /* Sets in owed the bit of each subscription to which what others told since the last call owes a notice. Other bits are

@@ -14,8 +14,8 @@
  *   NEWS, ADDED | the connection ends             | NEWS: tells the next server again
  *
  * If much is untold, and no round tells it, all that is held takes its place, and the state is NEWS: limit_untold of ds_fleet.c. If the
- * server lost what it had, the state is NEWS, too: bridge_begin_anew. Marks without anything to tell are a round whose only write is a
- * counter of the digests' key, so that the replicas are waited for. */
+ * server lost what it had, the state is NEWS, too: bridge_begin_anew. A round for marks alone writes nothing but a counter, in the
+ * key of the digests, so that it has a write whose replicas it can wait for. */
 #include "bridge.h"
 #include <stdio.h>
 #include <string.h>

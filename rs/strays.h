@@ -10,7 +10,8 @@
  * machine was booted, as /proc has the start of a process. */
 uint64_t strays_begin(void);
 /* Kills and reaps the strays whose instance has ended, and reaps those that have ended themselves. Returns whether there
- * were any. A stray's instance is known by its cgroup, or where there are none by DS_ENDPOINT in the environment that it began with. */
+ * were any. Those that became another user's are left alone. A stray's instance is known by its cgroup, or where there are
+ * none by DS_ENDPOINT in the environment that it began with. */
 bool strays_kill(const struct instances *all);
 
 #endif
