@@ -1,0 +1,2 @@
+pub mod LossLemmas
+pub mod CompactionLemmas

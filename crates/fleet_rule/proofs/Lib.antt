@@ -1,0 +1,15 @@
+pub mod CoverLemmas
+pub mod Kept
+pub mod GrowLemmas
+pub mod HostLemmas
+pub mod StepLemmas
+pub mod LawLemmas
+pub mod EchoLemmas
+pub mod SameLemmas
+pub mod RunLemmas
+pub mod ExampleLemmas
+pub mod CarelessCompactionLemmas
+pub mod CarelessReadingLemmas
+pub mod CarelessSendingLemmas
+pub mod CarelessMeetingLemmas
+pub mod PremiseLemmas

@@ -1,0 +1,13 @@
+pub mod Covered
+pub mod Server
+pub mod Bridge
+pub mod Fleet
+pub mod Happens
+pub mod Laws
+pub mod Same
+pub mod Example
+pub mod CarelessCompaction
+pub mod CarelessReading
+pub mod CarelessSending
+pub mod CarelessMeeting
+pub mod Premises
