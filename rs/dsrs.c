@@ -1,6 +1,7 @@
 /* dsrs: a supervisor of processes. RS of the library decides, and dsrs carries it out. docs/guide/supervise.md. */
 #include "clock.h"
 #include "heard.h"
+#include "leftovers.h"
 #include "notify.h"
 #include "place.h"
 #include "reload.h"
@@ -33,6 +34,7 @@ enum {
     DESCRIPTORS = 32,               /* of dsrs itself */
     SOON = 10,                      /* milliseconds until an event is reported again for which memory ran out */
     REST = 100,                     /* milliseconds before a client is taken in again, where none could be */
+    LAST_LOGS = 300,                /* milliseconds that log programs have after the grace of services */
     STRAYS_LOOKS = 50,              /* for strays at the end, while any are left, */
     STRAYS_PAUSE = 10,              /* and milliseconds between them */
     FOLDER = PLACE_PATH - 16        /* bytes of the folder of sockets: each socket has up to 15 more */
@@ -56,8 +58,8 @@ static const char help[] =
     "  --version           prints the version\n"
     "  -h, --help          prints this\n"
     "\n"
-    "Signals: TERM and INT stop all services, the last one first, and end it; a second one kills them. HUP reads the\n"
-    "settings again: unless they have a fault, what they leave out stops, and what is new in them starts.\n"
+    "Signals: TERM and INT stop all services at once, and end it; a second one kills them. HUP reads the settings\n"
+    "again: unless they have a fault, what they leave out stops, and what is new in them starts.\n"
     "Statuses: 0 ended by a signal, 2 usage, 3 a failure, which standard error tells.\n";
 
 #define STREAM "DSRS_STREAM"
@@ -153,9 +155,7 @@ static int open_folder(struct host *host) {
     int length = snprintf(host->folder, sizeof host->folder, "%s", whole);
     free(whole);
     errno = ENAMETOOLONG;
-    if (length >= (int)sizeof host->folder) return failed(host, "socket");
-    empty_folder(host->folder);
-    return GO_ON;
+    return length < (int)sizeof host->folder ? GO_ON : failed(host, "socket");
 }
 
 /* A limit isn't raised, since services would have it, too. */
@@ -178,10 +178,13 @@ static int open_all(struct host *host) {
     if (!watch_open(&host->signals, host->epoll, signals_open(signals, sizeof signals / sizeof *signals), EPOLLIN)) return failed(host, "signalfd");
     int timer = timerfd_create(CLOCK_MONOTONIC, TFD_NONBLOCK | TFD_CLOEXEC);
     if (!watch_open(&host->timer, host->epoll, timer, EPOLLIN)) return failed(host, "timerfd");
-    if (!heard_open(&host->heard, host->epoll, host->folder)) return failed(host, "notify");
     if (prctl(PR_SET_CHILD_SUBREAPER, 1)) return failed(host, "subreaper"); /* what a dead instance leaves is ours */
+    if (!rs_open(rs)) return FAILED; /* settings with a fault end nobody */
     if (!cgroups_open(&rs->instances.cgroups, host->cgroup, &rs->events)) return FAILED;
-    if (!rs_open(rs) || !place_serve(&host->place)) return FAILED;
+    leftovers_end(host->folder, &rs->events);
+    empty_folder(host->folder);
+    if (!heard_open(&host->heard, host->epoll, host->folder)) return failed(host, "notify");
+    if (!place_serve(&host->place)) return FAILED;
     return watch_open(&host->listener, host->epoll, host->place.listener, EPOLLIN) ? GO_ON : failed(host, "epoll");
 }
 
@@ -189,7 +192,8 @@ static void close_all(struct host *host) {
     peers_close(&host->rs.peers);
     rs_close(&host->rs);
     cgroups_close(&host->rs.instances.cgroups);
-    if (host->heard.file >= 0) empty_folder(host->folder), rmdir(host->folder);
+    if (host->heard.file >= 0) empty_folder(host->folder);
+    if (*host->folder) rmdir(host->folder); /* unless an earlier run's sockets are in it */
     place_leave(&host->place);
     log_close(&host->log);
 }
@@ -202,11 +206,13 @@ static void begin_end(struct host *host) {
     events_tell(&rs->events, LOG_INFO, "ends: all services go down");
     rs->ending = true;
     rs->left = rs->services;
+    rs->ends_at = clock_now() + rs->instances.grace + LAST_LOGS;
 }
 
 /* What has its grace is killed now, and what is to end later gets none. */
 static void end_graces(struct rs *rs) {
     rs->instances.grace = 0;
+    rs->ends_at = clock_now();
     for (struct instance *it = rs->instances.first; it; it = it->next)
         if (it->kill_at) it->kill_at = clock_now();
     for (struct service *it = rs->kept; it < rs->kept + KEPT; it++)
@@ -226,7 +232,7 @@ static void read_signals(struct host *host) {
     while (read(host->signals.file, &signal, sizeof signal) == sizeof signal) {
         if (signal.ssi_signo == SIGTERM || signal.ssi_signo == SIGINT) take_end(host);
         if (signal.ssi_signo == SIGHUP && !host->rs.ending) reload_begin(&host->rs);
-        if (signal.ssi_signo == SIGCHLD && !instances->sweep_at) instances->sweep_at = clock_now();
+        if (signal.ssi_signo == SIGCHLD) instances_stir(instances);
     }
 }
 
@@ -255,7 +261,7 @@ static void reap(struct rs *rs) {
     for (struct instance *it = rs->instances.first; it; it = it->next) {
         if (!it->pidfd.ready) continue;
         if (it->state == INSTANCE_RUNS) peers_finish(rs, it);
-        instances_reap(&rs->instances, it);
+        instances_note_end(&rs->instances, it);
     }
 }
 
@@ -356,7 +362,6 @@ static void prepare(struct host *host, const struct options *options) {
     rs->generations = (struct generations){.path = options->generations, .file = -1};
     rs->stream = (struct stream){.url = options->stream, .name = options->stream_name, .bell.file = -1};
     rs->instances.cgroups.folder = -1;
-    rs->instances.strays_after = strays_begin();
     rs->instances.services = options->services;
     rs->instances.endpoints = host->folder;
     rs->instances.events = &rs->events;

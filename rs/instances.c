@@ -1,9 +1,11 @@
 /* The instances of services. See instances.h. */
 #include "instances.h"
 #include "clock.h"
+#include "groups.h"
 #include "process.h"
 #include "strays.h"
 #include <errno.h>
+#include <fcntl.h>
 #include <signal.h>
 #include <stdio.h>
 #include <stdlib.h>
@@ -15,7 +17,13 @@
 #include <sys/wait.h>
 #include <unistd.h>
 
-enum { BACKLOG = 64, PATH = sizeof((struct sockaddr_un *)0)->sun_path, SWEEP_EACH = 500, AGAIN = 10 /* milliseconds */ };
+enum {
+    BACKLOG = 64,
+    PATH = sizeof((struct sockaddr_un *)0)->sun_path,
+    DESCRIPTORS = 5 + 8,                /* that a start may take, and that are left for clients */
+    SWEEP_EACH = 500, AGAIN = 10,       /* milliseconds */
+    PAUSE_FIRST = 100, PAUSE_MOST = 3200 /* milliseconds until a start for which something was short is tried again */
+};
 
 /* ---- its sockets ---- */
 
@@ -48,18 +56,26 @@ static void close_endpoint(const struct instances *all, struct instance *it) {
     it->listener = -1;
 }
 
-/* ---- its beginning ---- */
-
-/* A process that can't be watched doesn't go on. Returns false, with the errno of before. */
-static bool give_up(const struct instances *all, struct instance *it) {
+/* Closes what open_sockets has opened. Returns false, with the errno of before. */
+static bool drop_sockets(const struct instances *all, struct instance *it) {
     int error = errno;
-    kill(-it->pid, SIGKILL); /* if it has a group already */
-    kill(it->pid, SIGKILL);
-    waitpid(it->pid, NULL, 0);
-    watch_close(&it->pidfd, all->epoll);
-    it->pid = 0;
+    close_endpoint(all, it);
+    if (it->socket >= 0) close(it->socket), close(it->theirs);
+    it->socket = it->theirs = -1;
     errno = error;
     return false;
+}
+
+/* ---- its beginning ---- */
+
+/* Whether there are descriptors for a start, and some more. Returns false, with errno. */
+static bool has_descriptors(void) {
+    int spare[DESCRIPTORS], count = 0;
+    while (count < DESCRIPTORS && (spare[count] = fcntl(STDIN_FILENO, F_DUPFD_CLOEXEC, 0)) >= 0) count++;
+    int error = errno;
+    for (int i = 0; i < count; i++) close(spare[i]);
+    errno = error;
+    return count == DESCRIPTORS;
 }
 
 /* Its name is that of the endpoint's socket. */
@@ -71,8 +87,12 @@ static bool open_cgroup(const struct instances *all, struct instance *it) {
     return it->cgroup >= 0;
 }
 
+/* Returns false, with errno, and then no process began. */
 static bool begin_process(struct instances *all, struct instance *it) {
-    if (!open_cgroup(all, it)) return false;
+    int pidfd;
+    if (!has_descriptors()) return false;
+    if (it->listener < 0 && !open_sockets(all, it)) return drop_sockets(all, it);
+    if (it->cgroup < 0 && !open_cgroup(all, it)) return false;
     uint64_t silence = 2 * (uint64_t)it->service->settings.period * all->tick * 1000; /* RS takes it for dead after two periods */
     const struct service *service = it->service;
     struct process process = {
@@ -80,14 +100,13 @@ static bool begin_process(struct instances *all, struct instance *it) {
         .endpoint = it->endpoint, .endpoints = all->endpoints, .socket = it->theirs, .listener = it->listener, .cgroup = it->cgroup,
         .first_sub = service->server < 0 ? -1 : service->server * SERVER_SUBS, .silence = silence,
     };
-    pid_t pid = process_begin(&process);
+    pid_t pid = process_begin(&process, &pidfd);
+    if (pid < 0) return false;
     close(it->theirs);
     it->theirs = -1;
-    if (pid < 0) return false;
     it->pid = pid;
-    /* It isn't reaped yet, so its number is its own. */
-    bool is_watched = watch_open(&it->pidfd, all->epoll, (int)syscall(SYS_pidfd_open, it->pid, 0), EPOLLIN);
-    return is_watched || give_up(all, it);
+    watch_open(&it->pidfd, all->epoll, pidfd, EPOLLIN); /* otherwise instances_stir finds its end */
+    return true;
 }
 
 void instances_fail(struct instances *all, struct instance *it, const char *why) {
@@ -96,9 +115,29 @@ void instances_fail(struct instances *all, struct instance *it, const char *why)
     it->cause = CAUSE_EXIT;
 }
 
+/* Whether others use up what is short, for a while, so that the service has no part in it. */
+static bool is_shortage(int error) {
+    static const int shortages[] = {EAGAIN, ENOMEM, EMFILE, ENFILE, ENOSPC, EDQUOT, ENOBUFS, EROFS};
+    for (size_t i = 0; i < sizeof shortages / sizeof *shortages; i++)
+        if (error == shortages[i]) return true;
+    return false;
+}
+
+static void wait_for_more(struct instances *all, struct instance *it, const char *why) {
+    if (!it->pause) events_tell(all->events, LOG_WARN, "short: %s %s %s", it->service->label, it->endpoint, why);
+    it->pause = !it->pause ? PAUSE_FIRST : it->pause < PAUSE_MOST ? 2 * it->pause : PAUSE_MOST;
+    it->again_at = clock_now() + it->pause;
+}
+
 static void begin(struct instances *all, struct instance *it) {
+    bool has_begun = begin_process(all, it);
+    int error = errno;
+    if (!has_begun && is_shortage(error)) {
+        wait_for_more(all, it, strerror(error));
+        return;
+    }
     it->state = INSTANCE_RUNS;
-    if (!begin_process(all, it)) instances_fail(all, it, strerror(errno));
+    if (!has_begun) instances_fail(all, it, strerror(error));
     else events_tell(all->events, LOG_INFO, "began: %s %s pid %d", it->service->label, it->endpoint, it->pid);
 }
 
@@ -108,15 +147,24 @@ static bool is_something_left(const struct instances *all, const struct service 
     return false;
 }
 
+/* Strays are looked for soon, but no more often than each SWEEP_EACH. */
+static void ask_for_sweep(struct instances *all) {
+    uint64_t now = clock_now(), soonest = all->swept_at + SWEEP_EACH;
+    if (!all->sweep_at) all->sweep_at = all->swept_at && now < soonest ? soonest : now;
+}
+
+/* Frees an instance of which nothing is left but its first process, which has ended. */
 static void drop(struct instances *all, struct instance *gone) {
     struct instance **link = &all->first;
     while (*link != gone) link = &(*link)->next;
     *link = gone->next;
+    if (gone->pid) waitid(P_PIDFD, (id_t)gone->pidfd.file, &(siginfo_t){0}, WEXITED);
+    watch_close(&gone->pidfd, all->epoll);
     events_tell(all->events, LOG_INFO, "gone: %s %s", gone->service->label, gone->endpoint);
     const int files[] = {gone->socket, gone->theirs, gone->cgroup};
     for (size_t i = 0; i < sizeof files / sizeof *files; i++)
         if (files[i] >= 0) close(files[i]);
-    if (!all->sweep_at) all->sweep_at = clock_now();
+    ask_for_sweep(all);
     *gone = (struct instance){0};
 }
 
@@ -130,7 +178,7 @@ static struct instance *unused(struct instances *all) {
     return it;
 }
 
-void instances_start(struct instances *all, struct service *service, uint32_t generation, uint16_t slot) {
+struct instance *instances_start(struct instances *all, struct service *service, uint32_t generation, uint16_t slot) {
     struct instance *it = unused(all);
     *it = (struct instance){.pidfd.file = -1, .next = all->first, .service = service, .generation = generation, .slot = slot,
                             .socket = -1, .theirs = -1, .listener = -1, .cgroup = -1};
@@ -138,20 +186,20 @@ void instances_start(struct instances *all, struct service *service, uint32_t ge
     all->first = it;
     service->since = clock_now();
     *service->status = '\0';
-    if (!open_sockets(all, it)) it->state = INSTANCE_RUNS, instances_fail(all, it, strerror(errno));
-    else if (!is_something_left(all, service)) begin(all, it);
+    if (!is_something_left(all, service)) begin(all, it);
+    return it;
 }
 
 /* ---- its end ---- */
 
-/* Signals the group, once, unless its first process is reaped: then its number may be another's. A child that hasn't
- * called setsid yet is in no group of its own, so it is signalled by itself. */
+/* Signals the group. Its number is its own, since its first process isn't reaped. A child that hasn't called setsid yet is in no group
+ * of its own, so it is signalled by itself. */
 static void signal_group(const struct instance *it, int number) {
-    if (it->pidfd.file < 0) return;
+    if (!it->pid) return;
     if (kill(-it->pid, number)) syscall(SYS_pidfd_send_signal, it->pidfd.file, number, NULL, 0);
 }
 
-/* Its cgroup has who left the group, too, and what is left once the first process is reaped. */
+/* Its cgroup has who left the group, too. */
 static void kill_all(const struct instance *it) {
     signal_group(it, SIGKILL);
     cgroups_kill(it->cgroup);
@@ -159,7 +207,7 @@ static void kill_all(const struct instance *it) {
 
 void instances_kill(struct instances *all, struct instance *it, bool gently) {
     close_endpoint(all, it);
-    if (gently) signal_group(it, SIGTERM);
+    if (gently) signal_group(it, SIGTERM), signal_group(it, SIGCONT); /* one that is stopped sees no other signal */
     else kill_all(it);
     it->kill_at = gently ? clock_now() + all->grace : 0;
     it->state = INSTANCE_ENDS;
@@ -193,15 +241,22 @@ static enum cause cause_of(const siginfo_t *how) {
     }
 }
 
-/* The group's number is safe only until the first process is reaped, so the group is killed before that. */
-void instances_reap(struct instances *all, struct instance *it) {
+void instances_stir(struct instances *all) {
+    all->look_at = clock_now();
+    ask_for_sweep(all);
+    for (struct instance *it = all->first; it; it = it->next)
+        if (it->pid && !it->is_over && !it->pidfd.wanted) it->pidfd.ready = EPOLLIN; /* the epoll had no memory for it */
+}
+
+void instances_note_end(struct instances *all, struct instance *it) {
     siginfo_t how = {0};
-    if (it->pidfd.file < 0 || waitid(P_PIDFD, (id_t)it->pidfd.file, &how, WEXITED | WNOHANG | WNOWAIT) || !how.si_pid) return;
+    it->pidfd.ready = 0;
+    if (waitid(P_PIDFD, (id_t)it->pidfd.file, &how, WEXITED | WNOHANG | WNOWAIT) || !how.si_pid) return;
+    it->is_over = true;
+    watch_for(&it->pidfd, all->epoll, 0);
+    instances_stir(all);
+    if (it->state != INSTANCE_RUNS) return; /* RS had it killed, or the rest of its group has the grace that is left */
     kill_all(it);
-    it->kill_at = 0;
-    waitid(P_PIDFD, (id_t)it->pidfd.file, &how, WEXITED);
-    watch_close(&it->pidfd, all->epoll);
-    if (it->state != INSTANCE_RUNS) return; /* RS had it killed */
     it->died = true;
     it->cause = cause_of(&how);
     const char *what = how.si_code == CLD_EXITED ? "status" : "signal";
@@ -209,23 +264,14 @@ void instances_reap(struct instances *all, struct instance *it) {
     close_endpoint(all, it);
 }
 
-/* Whether nothing of its group is left. The number isn't given to others while any process is in the group. */
-static bool is_group_gone(const struct instance *it) {
-    if (!it->pid) return true;
-    if (it->pidfd.file >= 0) return false;
-    for (;;) {
-        siginfo_t how = {0};
-        if (waitid(P_PGID, (id_t)it->pid, &how, WEXITED | WNOHANG)) return errno == ECHILD;
-        if (!how.si_pid) return false; /* a process of it hasn't ended yet */
-    }
-}
-
-/* Whether nothing of it is left. Nobody reports the end of a process that left the group, so the cgroup is looked at again. */
+/* Whether nothing of it is left but its first process, which has ended. What left the group has no grace of its own. Nobody reports
+ * its end, so the cgroup is looked at again. */
 static bool is_gone(const struct instances *all, struct instance *it) {
     char name[ENDPOINT];
-    if (!is_group_gone(it)) return false;
+    if (it->pid && !it->is_alone) return false;
     name_cgroup(it, name);
     if (it->cgroup < 0 || cgroups_remove(&all->cgroups, name)) return true;
+    cgroups_kill(it->cgroup);
     it->kill_at = clock_now() + AGAIN;
     return false;
 }
@@ -233,23 +279,38 @@ static bool is_gone(const struct instances *all, struct instance *it) {
 /* Who left the group of a dead instance becomes a child of dsrs when its own parent ends, which may be a little later. */
 static void sweep(struct instances *all) {
     if (!all->sweep_at || clock_now() < all->sweep_at) return;
-    all->sweep_at = strays_kill(all) ? clock_now() + SWEEP_EACH : 0;
+    all->swept_at = clock_now();
+    all->sweep_at = strays_kill(all) ? all->swept_at + SWEEP_EACH : 0;
+}
+
+/* Of a start that waits for an older instance's end, the beginning isn't due by the clock. */
+static bool may_begin(const struct instances *all, const struct instance *it) {
+    return it->state == INSTANCE_WAITS && clock_now() >= it->again_at && !is_something_left(all, it->service);
 }
 
 void instances_turn(struct instances *all) {
+    for (struct instance *it = all->first; it; it = it->next)
+        if (it->kill_at && clock_now() >= it->kill_at) kill_all(it), it->kill_at = 0;
+    if (all->look_at && clock_now() >= all->look_at) all->look_at = groups_look(all) ? 0 : clock_now() + AGAIN;
     for (struct instance *it = all->first, *next; it; it = next) {
         next = it->next;
-        if (it->kill_at && clock_now() >= it->kill_at) kill_all(it), it->kill_at = 0;
         if (it->state == INSTANCE_ENDS && is_gone(all, it)) drop(all, it);
     }
     for (struct instance *it = all->first; it; it = it->next)
-        if (it->state == INSTANCE_WAITS && !is_something_left(all, it->service)) begin(all, it);
+        if (may_begin(all, it)) begin(all, it);
     sweep(all);
+}
+
+static void bring_forward(uint64_t *due, uint64_t at) {
+    if (at && (!*due || at < *due)) *due = at;
 }
 
 uint64_t instances_due(const struct instances *all) {
     uint64_t due = all->sweep_at;
-    for (const struct instance *it = all->first; it; it = it->next)
-        if (it->kill_at && (!due || it->kill_at < due)) due = it->kill_at;
+    bring_forward(&due, all->look_at);
+    for (const struct instance *it = all->first; it; it = it->next) {
+        bring_forward(&due, it->kill_at);
+        if (it->state == INSTANCE_WAITS) bring_forward(&due, it->again_at);
+    }
     return due;
 }

@@ -8,7 +8,6 @@
 #include <stdio.h>
 #include <string.h>
 #include <sys/epoll.h>
-#include <sys/syscall.h>
 #include <sys/wait.h>
 #include <unistd.h>
 
@@ -34,9 +33,10 @@ static void begin(struct logger *logger, const char *services, const char *label
     char folder[PATH_MAX];
     snprintf(folder, sizeof folder, "%s/log", label);
     struct process process = {.services = services, .folder = folder, .label = label, .input = logger->input, .output = -1};
-    logger->pid = process_begin(&process);
+    int pidfd;
+    logger->pid = process_begin(&process, &pidfd);
     bool began = logger->pid > 0;
-    if (began && watch_open(&logger->pidfd, epoll, (int)syscall(SYS_pidfd_open, logger->pid, 0), EPOLLIN)) {
+    if (began && watch_open(&logger->pidfd, epoll, pidfd, EPOLLIN)) {
         logger->due = 0;
         return;
     }

@@ -18,11 +18,11 @@ struct output {
 
 /* Opens a pipe, from which dsrs or a log program reads. Where there can't be one, instances print to dsrs' own standard error. */
 void output_open(struct output *output, int epoll, bool has_logger);
-/* Passes on what has come, up to some kilobytes. Returns whether there was any. */
-bool output_pass(struct output *output, const char *label, struct log *log);
+/* Passes on what has come, up to some kilobytes. */
+void output_pass(struct output *output, const char *label, struct log *log);
 /* Closes the end that instances write to: a log program reads what is left. */
 void output_end(struct output *output);
-/* Passes on what is left, and closes the pipe. */
+/* Passes on what is in the pipe, and closes it. */
 void output_close(struct output *output, int epoll, const char *label, struct log *log);
 
 #endif

@@ -105,14 +105,15 @@ static _Noreturn void become(const struct process *process, pid_t parent) {
     _exit(NOT_RUN);
 }
 
-/* Forks, straight into the cgroup if there is one. */
-static pid_t fork_into(int cgroup) {
-    struct clone_args how = {.flags = CLONE_INTO_CGROUP, .exit_signal = SIGCHLD, .cgroup = (uint64_t)cgroup};
-    return cgroup < 0 ? fork() : (pid_t)syscall(SYS_clone3, &how, sizeof how);
+/* Forks, straight into the cgroup if there is one. The descriptor of the child is made with it, so there is no child without one. */
+static pid_t fork_into(int cgroup, int *pidfd) {
+    struct clone_args how = {.flags = CLONE_PIDFD, .exit_signal = SIGCHLD, .pidfd = (uint64_t)(uintptr_t)pidfd};
+    if (cgroup >= 0) how.flags |= CLONE_INTO_CGROUP, how.cgroup = (uint64_t)cgroup;
+    return (pid_t)syscall(SYS_clone3, &how, sizeof how);
 }
 
-pid_t process_begin(const struct process *process) {
-    pid_t parent = getpid(), child = fork_into(process->endpoint ? process->cgroup : -1);
+pid_t process_begin(const struct process *process, int *pidfd) {
+    pid_t parent = getpid(), child = fork_into(process->endpoint ? process->cgroup : -1, pidfd);
     if (!child) become(process, parent);
     return child;
 }

@@ -20,8 +20,9 @@ struct process {
 };
 
 /* Forks a process that becomes `run`. It ends with dsrs. An instance is the leader of a new session, and so of
- * a new group; a log program of a new group in the session of dsrs. Returns its number, or -1. If `run` can't be executed, the
- * process ends with status 127 after a line to standard error. */
-pid_t process_begin(const struct process *process);
+ * a new group; a log program of a new group in the session of dsrs. Returns its number, and a descriptor of it by which its end is
+ * seen; or -1 with errno, and then nothing began. If `run` can't be executed, the process ends with status 127 after a line to
+ * standard error. */
+pid_t process_begin(const struct process *process, int *pidfd);
 
 #endif

@@ -69,7 +69,7 @@ static void take(struct rs *rs) {
     events_tell(&rs->events, LOG_INFO, "settings: %s: in force", rs->path);
     rs_learn(rs);
     for (struct service *it = rs->kept; it < rs->kept + KEPT; it++)
-        if (*it->label && it->is_left_out) rs_end_log(rs, it);
+        if (*it->label && it->is_left_out) rs_end_log(it, rs->instances.grace);
 }
 
 /* What a refusal of RS means here, if its word doesn't say it. */

@@ -1,5 +1,6 @@
 /* RS. See rs.h. */
 #include "rs.h"
+#include "clock.h"
 #include "lines.h"
 #include "settings.h"
 #include <errno.h>
@@ -160,12 +161,14 @@ static void kill_instance(struct rs *rs, const struct ds_rs_action *action) {
 
 static void start_instance(struct rs *rs, const struct ds_rs_action *action) {
     struct service *service = service_of(rs, action);
-    if (service) instances_start(&rs->instances, service, action->generation, action->slot);
+    if (service) instances_start(&rs->instances, service, action->generation, action->slot)->pinged_at = rs->ticks.now;
 }
 
 static void ping_instance(struct rs *rs, const struct ds_rs_action *action) {
-    const struct instance *it = instances_at(&rs->instances, action->generation, action->slot);
-    if (it) peers_tell(&rs->peers, it, "ping");
+    struct instance *it = instances_at(&rs->instances, action->generation, action->slot);
+    if (!it) return;
+    it->pinged_at = rs->ticks.now;
+    peers_tell(&rs->peers, it, "ping");
 }
 
 /* Nobody would find an instance whose label the store refused, so it counts as dead. */
@@ -215,9 +218,20 @@ static bool is_start_due(struct rs *rs) {
     return false;
 }
 
+/* Whether RS finds a missing heartbeat at a tick, or asks for one: both come before starts. One that hasn't sent a heartbeat yet may have
+ * time for its `startup`, so it isn't counted. */
+static bool is_heartbeat_due(const struct rs *rs) {
+    for (const struct instance *it = rs->instances.first; it; it = it->next) {
+        uint64_t period = it->service->settings.period;
+        if (!period || it->state == INSTANCE_ENDS) continue;
+        if (rs->ticks.now - it->pinged_at >= period || (it->beat_at && rs->ticks.now - it->beat_at >= 2 * period)) return true;
+    }
+    return false;
+}
+
 /* Whether RS may start an instance at an event. */
 static bool may_start(struct rs *rs, const struct ds_rs_event *event) {
-    if (event->kind == DS_RS_TICK) return is_start_due(rs);
+    if (event->kind == DS_RS_TICK) return is_start_due(rs) && !is_heartbeat_due(rs);
     return event->kind == DS_RS_UP || event->kind == DS_RS_REFRESH || event->kind == DS_RS_RESTART;
 }
 
@@ -225,6 +239,12 @@ static bool may_start(struct rs *rs, const struct ds_rs_event *event) {
 static bool refuse_start(struct ds_answer *answer, struct text *to) {
     *answer = (struct ds_answer){.word = DS_REFUSED, .refusal = DS_NOROOM};
     return !to || text_print(to, "refused noroom\n");
+}
+
+static void note_beat(struct rs *rs, const struct ds_rs_event *event, const struct ds_answer *answer) {
+    bool is_beat = event->kind == DS_RS_BEAT && answer->word == DS_ACTED;
+    struct instance *it = is_beat ? instances_at(&rs->instances, event->generation, event->slot) : NULL;
+    if (it) it->beat_at = event->tick;
 }
 
 /* Owes the notices of what RS did, and notes which servers get one. */
@@ -247,6 +267,7 @@ static bool report(struct rs *rs, struct ds_rs_event *event, struct text *to, st
     bool put = !to || (answer->word == DS_NOREQUEST ? text_print(to, "norequest\n") : lines_fetch(&rs->store, to) == LINES_ANSWERED);
     while (count < ACTIONS && !ds_rs_action(&rs->store, count, &actions[count])) count++;
     for (size_t i = 0; i < count; i++) act(rs, &actions[i]);
+    note_beat(rs, event, answer);
     note_told(rs, answer->owed);
     return put;
 }
@@ -285,9 +306,19 @@ void rs_bury(struct rs *rs) {
     }
 }
 
+/* An instance that hasn't begun can't send a heartbeat. RS hears one in its place. */
+static void vouch_for_waiting(struct rs *rs) {
+    for (const struct instance *it = rs->instances.first; it; it = it->next) {
+        if (it->state != INSTANCE_WAITS || !it->service->settings.period) continue;
+        struct ds_rs_event beat = rs_of_instance(DS_RS_BEAT, it->generation, it->slot, CAUSE_NONE);
+        rs_event(rs, &beat, NULL);
+    }
+}
+
 /* RS does one thing at each report. Where it is refused, as without a free slot, a later tick tries again. */
 void rs_tick(struct rs *rs) {
     struct ds_answer answer = {.word = DS_ACTED, .count = 1};
+    if (rs_due(rs) <= rs->ticks.now) vouch_for_waiting(rs);
     while (rs_due(rs) <= rs->ticks.now && answer.word == DS_ACTED && answer.count) {
         struct ds_rs_event tick = {.kind = DS_RS_TICK};
         report(rs, &tick, NULL, &answer);
@@ -315,11 +346,9 @@ void rs_begin(struct rs *rs) {
 }
 
 bool rs_go_down(struct rs *rs) {
-    bool is_last = rs->left == rs->services;
-    if (!rs->left || (!is_last && instances_has(&rs->instances, rs->service[rs->left]))) return false;
-    if (!rs_tell(rs, DS_RS_DOWN, rs->service[rs->left - 1]->label)) return false;
-    rs->left--;
-    return true;
+    size_t before = rs->left;
+    while (rs->left && rs_tell(rs, DS_RS_DOWN, rs->service[rs->left - 1]->label)) rs->left--;
+    return rs->left < before;
 }
 
 /* ---- log programs ---- */
@@ -343,12 +372,13 @@ bool rs_turn_logs(struct rs *rs, uint64_t *due) {
     return runs;
 }
 
-void rs_end_log(struct rs *rs, struct service *it) {
+void rs_end_log(struct service *it, uint64_t grace) {
     if (it->output.to < 0) return;
     output_end(&it->output);
-    logger_end(&it->logger, rs->instances.grace);
+    logger_end(&it->logger, grace);
 }
 
 void rs_end_logs(struct rs *rs) {
-    for (size_t i = 0; i < rs->services; i++) rs_end_log(rs, rs->service[i]);
+    uint64_t now = clock_now(), rest = rs->ends_at > now ? rs->ends_at - now : 0;
+    for (size_t i = 0; i < rs->services; i++) rs_end_log(rs->service[i], rest);
 }

@@ -32,6 +32,7 @@ struct rs {
     struct events events;
     size_t left;   /* while it goes down: how many services are still to be stopped, the last one first */
     bool ending;
+    uint64_t ends_at; /* when log programs are killed then, by clock_now */
     bool repeats;  /* an event is reported again a little later, since memory ran out, or the generation isn't kept */
     bool unkept;   /* the next generation couldn't be written */
     enum cause cause; /* of an end that the current event brings, */
@@ -65,12 +66,13 @@ void rs_tick(struct rs *rs);
 uint64_t rs_due(struct rs *rs);
 /* Keeps the store in step with those of other hosts. */
 void rs_keep_step(struct rs *rs);
-/* While it goes down: stops the next service once nothing of the one after it is left. Returns whether it did. */
+/* While it goes down: stops all services, the last one first. Returns whether it stopped one. */
 bool rs_go_down(struct rs *rs);
 /* Starts, reaps and kills log programs, and brings `due` forward to when the next of them is due. Returns whether one runs. */
 bool rs_turn_logs(struct rs *rs, uint64_t *due);
-/* Once nothing of a service is left: its log program reads what is left, and ends. */
-void rs_end_log(struct rs *rs, struct service *service);
+/* Once nothing of a service is left: its log program reads what is left, and ends within a grace. */
+void rs_end_log(struct service *service, uint64_t grace);
+/* The same of all services, at the end. */
 void rs_end_logs(struct rs *rs);
 void rs_close(struct rs *rs);
 

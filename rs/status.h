@@ -6,7 +6,7 @@
 
 /* Puts a line for each service, in the order of the settings:
  *   LABEL STATE ENDPOINT PID SECONDS FAILURES CAUSE STATUS
- * STATE is down, up, ready, waiting or givenup; ENDPOINT and PID are `-` unless it is up; SECONDS are those since its last
+ * STATE is down, wants, up, ready, waiting or givenup; ENDPOINT and PID are `-` unless it is up; SECONDS are those since its last
  * start or end; STATUS may have spaces. Then `services N`. Returns false where memory runs out. */
 bool status_put(struct rs *rs, struct text *to);
 

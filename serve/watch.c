@@ -7,8 +7,9 @@ enum { EVENTS = 64 /* of one turn */ };
 
 static bool watch_control(struct watch *watch, int epoll, int operation, uint32_t wanted) {
     struct epoll_event event = {.events = wanted, .data.ptr = watch};
+    if (epoll_ctl(epoll, operation, watch->file, &event)) return false;
     watch->wanted = wanted;
-    return !epoll_ctl(epoll, operation, watch->file, &event);
+    return true;
 }
 
 bool watch_open(struct watch *watch, int epoll, int file, uint32_t wanted) {

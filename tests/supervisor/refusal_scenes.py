@@ -150,3 +150,32 @@ def nothing_starts_whose_generation_is_not_kept(host):
     host.start()
     assert int(host.ask("retrieve a label").split()[1].split("/")[0]) > kept, "a generation again"
     host.end()
+
+
+@scene
+def a_start_that_is_held_back_holds_no_kill_back(host):
+    """While a start waits, since the next generation can't be written, services that hang are found and killed, and asked for heartbeats."""
+    readonly = host.home / "readonly"
+    host.words = ["env", f"LD_PRELOAD={build(host)}", f"READONLY={readonly}", *host.words]
+    beats = "note('there')\nwhile True:\n    said = hear()\n    note('asked')\n    dsrs.sendall(b'beat\\n')\n"
+    host.start({"a": ({"limit": 1000}, LIVES), "hb": ({"period": 30, "limit": 9}, beats)})
+    host.noted("hb 2/17 there")
+    readonly.touch()
+    until(lambda: host.ask("service refresh a") == "refused noroom", "the generations that are kept are used up")
+    os.kill(until(lambda: processes(host).get("a"), "it is up"), signal.SIGKILL)
+    host.logged("died a")
+    until(lambda: host.status()["a"][0] == "waiting", "it waits")
+    asked_before = host.notes().count("asked")
+    until(lambda: host.notes().count("asked") > asked_before + 2, "it is asked for heartbeats")
+    equal(host.status()["hb"][0], "up")
+    os.kill(host.pid("hb"), signal.SIGSTOP)
+    host.logged("kill hb 2/17 cause 4")
+    equal({label: host.status()[label][0] for label in ("a", "hb")}, {"a": "waiting", "hb": "waiting"})
+    readonly.unlink()
+    until(lambda: both_running(host, "a", "hb"), "both begin")
+    host.end()
+
+
+def both_running(host, *labels):
+    found = processes(host)
+    return all(label in found and lives(found[label]) for label in labels)

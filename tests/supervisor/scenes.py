@@ -401,17 +401,21 @@ def a_death_is_noticed_though_its_signal_was_ignored(host):
 
 
 @scene
-def a_child_of_no_instance_is_killed(host):
-    """A process that hides which instance began it becomes a child of the supervisor. It ends when any instance does."""
+def a_child_of_no_instance_lives(host):
+    """A process that hides which instance began it becomes a child of the supervisor. It lives, whatever instance dies."""
     hides = "#!/bin/sh\nenv -i setsid sh -c 'sleep 1000 & echo $! > ../../hidden'\nexec sleep 1000\n"
-    host.start({"a": ({}, hides), "b": ({"limit": 9}, LIVES)})
+    host.start({"a": ({"limit": 9}, hides), "b": ({"limit": 9}, LIVES)})
     pid = int(until(lambda: (host.home / "hidden").exists() and (host.home / "hidden").read_text(), "it is there"))
     time.sleep(0.1)
     assert lives(pid), host.log()
-    os.kill(host.pid("b"), signal.SIGKILL)
-    until(lambda: not lives(pid), "it is killed")
-    assert host.status()["a"][0] == "up", host.status()
+    for label in "ba":
+        os.kill(host.pid(label), signal.SIGKILL)
+        host.logged(f"began {label}", 2)
+        time.sleep(0.6)  # strays are killed meanwhile
+        assert lives(pid) and not host.has_logged("stray"), host.log()
     host.end()
+    assert lives(pid), host.log()
+    os.kill(pid, signal.SIGKILL)
 
 
 @scene
@@ -588,8 +592,7 @@ def goes_down_in_reverse_order(host):
     for label in "abcd":
         host.logged(f"began {label}")
     host.end()
-    order = [it.split()[:2] for it in host.events() if it.startswith(("kill", "gone"))]
-    equal(order, [[verb, label] for label in "dcba" for verb in ("kill", "gone")])
+    equal([it.split()[1] for it in host.events() if it.startswith("kill")], list("dcba"))
 
 
 def ends_at_a_second_signal(host, line):
@@ -921,18 +924,6 @@ def others_leave_places_for_the_user_of_the_supervisor(host):
     with others(host, 450):
         equal(host.ask("retrieve a label"), "found 1/16")
         assert host.ask("service down a").startswith("kill 1/16")
-    host.end()
-
-
-@scene
-def few_descriptors(host):
-    """If there aren't descriptors for all, services that can't start fail like others, and the rest runs."""
-    host.words = ["prlimit", "--nofile=60:60", *host.words]
-    host.start({f"s{i}": ({"limit": 2}, "#!/bin/sh\nexec sleep 1000\n") for i in range(12)})
-    host.logged("descriptors 60 are allowed")
-    host.logged("nostart s")
-    host.logged("givenup s11")
-    assert host.has_logged("began s0 "), host.log()
     host.end()
 
 

@@ -1,0 +1,12 @@
+/* The groups of instances whose first process has ended. It stays a zombie until nothing else is in its group, so the number of
+ * the group isn't given to others meanwhile. */
+#ifndef DSRS_GROUPS_H
+#define DSRS_GROUPS_H
+
+#include "instances.h"
+
+/* Reaps what has ended in these groups, but for the first processes, and notes which of them are alone. Returns false if the children
+ * of dsrs can't be listed now. */
+bool groups_look(struct instances *all);
+
+#endif

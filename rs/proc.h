@@ -1,0 +1,24 @@
+/* What the kernel reports of processes, in /proc. */
+#ifndef DSRS_PROC_H
+#define DSRS_PROC_H
+
+#include "text.h"
+#include <stdbool.h>
+#include <stdint.h>
+#include <sys/types.h>
+
+struct proc_seen { pid_t parent, group, session; char state; };
+
+/* Reads a file of /proc as a whole, with a zero after it. Returns false if it can't be read, or memory runs out. */
+bool proc_read(const char *path, struct text *text);
+/* Reads the state of a process. Returns false if there is none with this number. */
+bool proc_look(pid_t pid, struct proc_seen *seen);
+/* Puts the number of each child of dsrs, a pid_t each. They keep their numbers until dsrs reaps them. Returns false if they
+ * can't be listed. */
+bool proc_children(struct text *numbers);
+/* Takes the number at a place of this list, and moves the place on. Returns false past the last one. */
+bool proc_next(const struct text *numbers, size_t *at, pid_t *pid);
+/* Finds the endpoint in the environment that a process began with, if its folder of sockets is this one. */
+bool proc_endpoint(pid_t pid, const char *endpoints, uint32_t *generation, uint16_t *slot);
+
+#endif
