@@ -265,11 +265,6 @@ static void reap(struct rs *rs) {
     }
 }
 
-static void pass_output(struct rs *rs) {
-    for (struct service *it = rs->kept; it < rs->kept + KEPT; it++)
-        if (it->output.from.ready) output_pass(&it->output, it->label, rs->events.log);
-}
-
 /* Instances that were started get their voice. */
 static void take_in(struct rs *rs) {
     for (struct instance *it = rs->instances.first; it; it = it->next) {
@@ -313,7 +308,7 @@ static bool turn(struct host *host, bool *more) {
     if (host->signals.ready) read_signals(host);
     if (host->listener.ready) admit(host);
     if (host->heard.ready) heard_read(&host->heard, rs);
-    pass_output(rs);
+    bool has_lines = rs_pass_output(rs);
     peers_turn(rs);
     reap(rs);
     rs_bury(rs);
@@ -323,13 +318,14 @@ static bool turn(struct host *host, bool *more) {
     *more = rs->ending ? rs_go_down(rs) : reload_turn(rs);
     take_in(rs);
     rs_keep_step(rs);
-    *more |= peers_send(&rs->peers);
+    *more |= peers_send(&rs->peers) | has_lines;
     bool is_down = rs->ending && !rs->left && !rs->instances.first;
     if (is_down) rs_end_logs(rs);
     uint64_t due = instances_due(&rs->instances);
     if (rs->repeats) due = clock_now() + SOON;
     rs->repeats = false;
     bool logs = rs_turn_logs(rs, &due);
+    rs_watch_output(rs, &due);
     set_timer(host, due);
     log_count(&host->log);
     return !is_down || logs;
@@ -357,7 +353,8 @@ static void prepare(struct host *host, const struct options *options) {
     host->cgroup = options->cgroup;
     rs->path = options->settings;
     rs->slot = (uint16_t)options->slot;
-    rs->events.log = &host->log;
+    rs->events.log = rs->outlet.log = &host->log;
+    rs->outlet.room.file = host->log.descriptor;
     rs->events.begun = clock_now();
     rs->generations = (struct generations){.path = options->generations, .file = -1};
     rs->stream = (struct stream){.url = options->stream, .name = options->stream_name, .bell.file = -1};

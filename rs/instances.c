@@ -22,7 +22,7 @@ enum {
     PATH = sizeof((struct sockaddr_un *)0)->sun_path,
     DESCRIPTORS = 5 + 8,                /* that a start may take, and that are left for clients */
     SWEEP_EACH = 500, AGAIN = 10,       /* milliseconds */
-    PAUSE_FIRST = 100, PAUSE_MOST = 3200 /* milliseconds until a start for which something was short is tried again */
+    PAUSE_FIRST = 100, PAUSE_MOST = 800 /* milliseconds until a start for which something was short is tried again */
 };
 
 /* ---- its sockets ---- */

@@ -1,5 +1,5 @@
-/* What a service prints: each line goes to the log with the label in front. A service that prints faster than it is read
- * waits at its pipe. */
+/* What services print: each line goes to the log with the label in front. A service that prints faster than it is read waits at its pipe.
+ * While standard error is full, no service is read, so no line is lost. */
 #ifndef DSRS_OUTPUT_H
 #define DSRS_OUTPUT_H
 
@@ -7,22 +7,46 @@
 #include "watch.h"
 #include <stddef.h>
 
-enum { OUTPUT_LINE = LOG_PASSED /* bytes of a line; a longer one is cut into several */ };
+enum {
+    OUTPUT_LINE = LOG_PASSED, /* bytes of a line; a longer one is cut into several */
+    OUTPUT_PIECE = 1 << 12    /* bytes that are read at a time */
+};
 
 struct output {
-    struct watch from;      /* the end that is read, here or by a log program, and then it isn't watched; or -1 */
+    struct watch from;      /* the end that is read; or -1 */
+    bool is_read;           /* by dsrs, and not by a log program */
     int to;                 /* the end that instances write to, or -1 */
     size_t length;          /* bytes of the line that isn't whole yet */
     char line[OUTPUT_LINE];
 };
 
+/* Where lines go. It holds what was read of one service and isn't passed on yet. */
+struct outlet {
+    struct log *log;
+    struct watch room;      /* standard error, watched while it is full */
+    bool is_full;
+    uint64_t patience;      /* milliseconds that outputs may wait for room when they are closed */
+    bool is_last;           /* nothing waits any more: while it is full, lines are left out */
+    struct output *output;  /* whose bytes these are, */
+    const char *label;
+    size_t at, count;       /* from which one on they aren't passed on, and how many there are */
+    char bytes[OUTPUT_PIECE];
+};
+
 /* Opens a pipe, from which dsrs or a log program reads. Where there can't be one, instances print to dsrs' own standard error. */
 void output_open(struct output *output, int epoll, bool has_logger);
-/* Passes on what has come, up to some kilobytes. */
-void output_pass(struct output *output, const char *label, struct log *log);
+/* Lets a log program read, after the lines that dsrs has read are passed on; or dsrs, once there is none. */
+void output_hand_over(struct output *output, const char *label, struct outlet *outlet);
+void output_take_back(struct output *output);
+/* Passes on what the outlet holds, until a time by clock_now. Returns whether that was all. */
+bool outlet_push(struct outlet *outlet, uint64_t until);
+/* Reads some kilobytes into an outlet that holds nothing, and passes them on. Returns whether that was all. */
+bool output_pass(struct output *output, const char *label, struct outlet *outlet, uint64_t until);
+/* Watches a pipe unless the outlet is full. */
+void output_watch(struct output *output, int epoll, const struct outlet *outlet);
 /* Closes the end that instances write to: a log program reads what is left. */
 void output_end(struct output *output);
 /* Passes on what is in the pipe, and closes it. */
-void output_close(struct output *output, int epoll, const char *label, struct log *log);
+void output_close(struct output *output, int epoll, const char *label, struct outlet *outlet);
 
 #endif

@@ -21,14 +21,17 @@ static void finish(struct rs *rs) {
     notify("READY=1");
 }
 
-/* Judges the settings, and notes which services they leave out. */
+/* Judges the settings, and notes which services they leave out. An empty file, as a full disk leaves it, isn't taken for settings that leave
+ * out all. */
 static bool judge(struct rs *rs, const struct text *settings) {
     struct ds_handle judged = DS_CLOSED;
     struct ds_rs_service found;
     if (!settings_open(&judged, rs->path, settings, 1, rs->slot, &rs->events)) return false;
-    for (size_t i = 0; i < rs->services; i++) rs->service[i]->leaves = !rs_find(&judged, rs->service[i]->label, &found);
+    bool is_empty = ds_rs_service(&judged, 0, &found) && !settings_say_none(settings);
+    if (is_empty) events_tell(&rs->events, LOG_ERROR, "settings: %s: no service, and no line `service = []`", rs->path);
+    for (size_t i = 0; i < rs->services && !is_empty; i++) rs->service[i]->leaves = !rs_find(&judged, rs->service[i]->label, &found);
     ds_close(&judged);
-    return true;
+    return !is_empty;
 }
 
 void reload_begin(struct rs *rs) {

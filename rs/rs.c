@@ -7,17 +7,27 @@
 #include <limits.h>
 #include <stdio.h>
 #include <string.h>
+#include <sys/epoll.h>
 #include <unistd.h>
 
-enum { ACTIONS = 8 /* of one event; the library has six at most */, FIRST_GENERATION = 1 };
+enum {
+    ACTIONS = 8, /* of one event; the library has six at most */
+    FIRST_GENERATION = 1,
+    OUTPUT_TURN = 2, /* milliseconds of a turn for what services print, */
+    LAST_LINES = 200 /* and at the end, until standard error has room */
+};
 
 /* ---- services ---- */
 
-/* What it prints goes to its log program, if it has one. */
-static void open_output(struct rs *rs, struct service *service) {
+static bool has_log_program(const struct rs *rs, const struct service *service) {
     char program[PATH_MAX];
     int length = snprintf(program, sizeof program, "%s/%s/log/run", rs->instances.services, service->label);
-    bool has_logger = length < (int)sizeof program && !access(program, F_OK);
+    return length < (int)sizeof program && !access(program, F_OK);
+}
+
+/* What it prints goes to its log program, if it has one. */
+static void open_output(struct rs *rs, struct service *service) {
+    bool has_logger = has_log_program(rs, service);
     output_open(&service->output, rs->instances.epoll, has_logger);
     logger_open(&service->logger, has_logger ? service->output.from.file : -1);
 }
@@ -30,6 +40,16 @@ static void list_loggers(struct rs *rs) {
         it->logger.next = rs->instances.loggers;
         rs->instances.loggers = &it->logger;
     }
+}
+
+/* A log program may have come, or gone, since the last start of its service. */
+static void look_for_log_program(struct rs *rs, struct service *it) {
+    bool had = it->logger.input >= 0, has = it->output.to >= 0 && has_log_program(rs, it);
+    if (it->output.from.file < 0 || had == has || it->logger.pid) return;
+    if (has) output_hand_over(&it->output, it->label, &rs->outlet);
+    else output_take_back(&it->output);
+    logger_open(&it->logger, has ? it->output.from.file : -1);
+    list_loggers(rs);
 }
 
 static bool is_label(const char *label, const char *bytes, size_t length) { return strlen(label) == length && !memcmp(label, bytes, length); }
@@ -120,8 +140,10 @@ bool rs_open(struct rs *rs) {
 
 void rs_close(struct rs *rs) {
     uint32_t next = 0;
+    rs->outlet.patience = LAST_LINES;
     for (struct service *it = rs->kept; it < rs->kept + KEPT; it++)
-        if (*it->label) output_close(&it->output, rs->instances.epoll, it->label, rs->events.log);
+        if (*it->label) output_close(&it->output, rs->instances.epoll, it->label, &rs->outlet);
+    watch_for(&rs->outlet.room, rs->instances.epoll, 0);
     if (ds_rs_next(&rs->store, &next)) next = 0;
     generations_close(&rs->generations, next);
     stream_close(&rs->stream, rs->instances.epoll);
@@ -161,7 +183,9 @@ static void kill_instance(struct rs *rs, const struct ds_rs_action *action) {
 
 static void start_instance(struct rs *rs, const struct ds_rs_action *action) {
     struct service *service = service_of(rs, action);
-    if (service) instances_start(&rs->instances, service, action->generation, action->slot)->pinged_at = rs->ticks.now;
+    if (!service) return;
+    look_for_log_program(rs, service);
+    instances_start(&rs->instances, service, action->generation, action->slot)->pinged_at = rs->ticks.now;
 }
 
 static void ping_instance(struct rs *rs, const struct ds_rs_action *action) {
@@ -351,11 +375,38 @@ bool rs_go_down(struct rs *rs) {
     return rs->left < before;
 }
 
+/* ---- what services print ---- */
+
+/* Each service has its turn, in a circle. So a flood of one delays the others by a piece, and everything else by OUTPUT_TURN. */
+bool rs_pass_output(struct rs *rs) {
+    uint64_t until = clock_now() + OUTPUT_TURN;
+    if (rs->outlet.room.ready) rs->outlet.is_full = false;
+    rs->outlet.room.ready = 0;
+    if (rs->outlet.is_full) return false;
+    for (size_t looked = 0; outlet_push(&rs->outlet, until) && looked < KEPT; looked++) {
+        struct service *it = &rs->kept[rs->next_output];
+        rs->next_output = (rs->next_output + 1) % KEPT;
+        if (!*it->label || !it->output.from.ready) continue;
+        if (!output_pass(&it->output, it->label, &rs->outlet, until) || clock_now() >= until) break;
+    }
+    return !rs->outlet.is_full && rs->outlet.at < rs->outlet.count;
+}
+
+void rs_watch_output(struct rs *rs, uint64_t *due) {
+    struct outlet *outlet = &rs->outlet;
+    for (struct service *it = rs->kept; it < rs->kept + KEPT; it++)
+        if (*it->label) output_watch(&it->output, rs->instances.epoll, outlet);
+    watch_for(&outlet->room, rs->instances.epoll, outlet->is_full ? EPOLLOUT : 0);
+    if (!outlet->is_full || outlet->room.wanted) return;
+    outlet->is_full = false; /* it is tried again */
+    if (!*due || clock_now() + OUTPUT_TURN < *due) *due = clock_now() + OUTPUT_TURN;
+}
+
 /* ---- log programs ---- */
 
 /* What is left of its output is passed on. */
 static void forget_service(struct rs *rs, struct service *service) {
-    output_close(&service->output, rs->instances.epoll, service->label, rs->events.log);
+    output_close(&service->output, rs->instances.epoll, service->label, &rs->outlet);
     *service->label = '\0';
     list_loggers(rs);
 }

@@ -30,6 +30,8 @@ struct rs {
     struct generations generations;
     struct stream stream;
     struct events events;
+    struct outlet outlet;     /* of what services print, */
+    size_t next_output;       /* and whose turn it is, an index of kept */
     size_t left;   /* while it goes down: how many services are still to be stopped, the last one first */
     bool ending;
     uint64_t ends_at; /* when log programs are killed then, by clock_now */
@@ -58,6 +60,10 @@ struct ds_rs_event rs_of_instance(enum ds_rs_event_kind kind, uint32_t generatio
 bool rs_event(struct rs *rs, struct ds_rs_event *event, struct text *to);
 /* Reports what RS has to learn, without an answer. Returns false where memory ran out for it: it is to be reported again. */
 bool rs_tell(struct rs *rs, enum ds_rs_event_kind kind, const char *label);
+/* Passes on what services print, for a few milliseconds. Returns whether there is more to be passed on at once. */
+bool rs_pass_output(struct rs *rs);
+/* Watches what services print, or standard error while it is full. Brings `due` forward if that can't be watched. */
+void rs_watch_output(struct rs *rs, uint64_t *due);
 /* Reports instances that died. */
 void rs_bury(struct rs *rs);
 /* Reports the time if something is due, until nothing is. */
@@ -72,7 +78,7 @@ bool rs_go_down(struct rs *rs);
 bool rs_turn_logs(struct rs *rs, uint64_t *due);
 /* Once nothing of a service is left: its log program reads what is left, and ends within a grace. */
 void rs_end_log(struct service *service, uint64_t grace);
-/* The same of all services, at the end. */
+/* As `rs_end_log`, for all services, at the end. */
 void rs_end_logs(struct rs *rs);
 void rs_close(struct rs *rs);
 

@@ -57,6 +57,20 @@ static bool name_folders(struct ds_handle *store) {
     return true;
 }
 
+bool settings_say_none(const struct text *text) {
+    char line[64];
+    for (size_t at = 0, length; at < text->length; at += length + 1) {
+        const char *end = memchr(text->bytes + at, '\n', text->length - at);
+        int one = 0, all = 0;
+        length = end ? (size_t)(end - text->bytes) - at : text->length - at;
+        snprintf(line, sizeof line, "%.*s", (int)length, text->bytes + at);
+        sscanf(line, " service = [ ]%n", &one);
+        sscanf(line, " services = [ ]%n", &all);
+        if (one || all) return true;
+    }
+    return false;
+}
+
 bool settings_open(struct ds_handle *store, const char *path, const struct text *text, uint32_t next, uint16_t slot,
                    struct events *events) {
     struct ds_settings_fault fault = {.service = UINT32_MAX};

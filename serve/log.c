@@ -2,6 +2,7 @@
 #include "log.h"
 #include "clock.h"
 #include "text.h"
+#include <errno.h>
 #include <fcntl.h>
 #include <limits.h>
 #include <poll.h>
@@ -40,10 +41,17 @@ void log_open(struct log *log, bool as_json) {
     if (own >= 0) log->descriptor = own;
 }
 
-static bool write_line(const struct log *log, const char *line, size_t length) {
+/* UNWRITABLE: the reader is gone, or a disk is full. */
+enum written { WRITTEN, NO_ROOM, UNWRITABLE };
+
+static enum written write_line(const struct log *log, const char *line, size_t length) {
     struct pollfd it = {.fd = log->descriptor, .events = POLLOUT};
-    if (log->is_socket) return send(log->descriptor, line, length, MSG_DONTWAIT | MSG_NOSIGNAL) > 0;
-    return poll(&it, 1, 0) > 0 && (it.revents & POLLOUT) && write(log->descriptor, line, length) > 0;
+    ssize_t put;
+    if (!log->is_socket && poll(&it, 1, 0) <= 0) return NO_ROOM;
+    if (log->is_socket) put = send(log->descriptor, line, length, MSG_DONTWAIT | MSG_NOSIGNAL);
+    else put = write(log->descriptor, line, length);
+    if (put > 0) return WRITTEN;
+    return put < 0 && (errno == EAGAIN || errno == EINTR || errno == ENOBUFS) ? NO_ROOM : UNWRITABLE;
 }
 
 /* Whether an event may have one more line. */
@@ -85,7 +93,7 @@ void log_say(struct log *log, const char *level, const char *format, ...) {
     size_t length = (size_t)snprintf(line, sizeof line, head, level, (int)event, text);
     length = append_quoted(log, line, length, text + rest, strlen(text + rest));
     length += (size_t)sprintf(line + length, log->as_json ? "}\n" : "\n");
-    if (!is_due(log, text, event) || !write_line(log, line, length)) log->left_out++;
+    if (!is_due(log, text, event) || write_line(log, line, length) != WRITTEN) log->left_out++;
 }
 
 void log_tell(void *log, const char *line) {
@@ -94,23 +102,28 @@ void log_tell(void *log, const char *line) {
 }
 
 /* Writes a line of another program as JSON. */
-static bool pass_json(const struct log *log, const char *name, const char *line, size_t length) {
+static enum written pass_json(const struct log *log, const char *name, const char *line, size_t length) {
     char whole[LOG_WHOLE];
-    if (length > LOG_PASSED || strlen(name) > LOG_NAME) return false;
+    if (length > LOG_PASSED || strlen(name) > LOG_NAME) return UNWRITABLE;
     size_t put = (size_t)sprintf(whole, "{\"level\":\"" LOG_INFO "\",\"event\":\"output\",\"service\":\"%s\",\"text\":", name);
     put = append_quoted(log, whole, put, line, length);
     put += (size_t)sprintf(whole + put, "}\n");
     return write_line(log, whole, put);
 }
 
-static bool pass_text(const struct log *log, const char *name, const char *line, size_t length) {
+static enum written pass_text(const struct log *log, const char *name, const char *line, size_t length) {
     char whole[LOG_PASSED + LOG_NAME];
-    int put = snprintf(whole, sizeof whole, "%s: %.*s\n", name, (int)length, line);
-    return put > 0 && put < (int)sizeof whole && write_line(log, whole, (size_t)put);
+    if (length > LOG_PASSED || strlen(name) > LOG_NAME - sizeof ": \n") return UNWRITABLE;
+    size_t put = (size_t)sprintf(whole, "%s: ", name);
+    memcpy(whole + put, line, length);
+    whole[put + length] = '\n';
+    return write_line(log, whole, put + length + 1);
 }
 
-void log_pass(struct log *log, const char *name, const char *line, size_t length) {
-    if (!(log->as_json ? pass_json : pass_text)(log, name, line, length)) log->left_out++;
+bool log_pass(struct log *log, const char *name, const char *line, size_t length) {
+    enum written written = (log->as_json ? pass_json : pass_text)(log, name, line, length);
+    log->left_out += written == UNWRITABLE;
+    return written != NO_ROOM;
 }
 
 void log_count(struct log *log) {
@@ -119,7 +132,7 @@ void log_count(struct log *log) {
     const char *format = LOG_WARN " event=left_out lines=%llu\n";
     if (log->as_json) format = "{\"level\":\"" LOG_WARN "\",\"event\":\"left_out\",\"lines\":%llu}\n";
     int length = snprintf(line, sizeof line, format, (unsigned long long)log->left_out);
-    if (!write_line(log, line, (size_t)length)) return;
+    if (write_line(log, line, (size_t)length) != WRITTEN) return;
     log->left_out = 0;
     log->count_at = clock_now() + COUNTED_EACH;
 }

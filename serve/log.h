@@ -1,6 +1,6 @@
 /* The lines that dsfleet and dsrs write to standard error, as `LEVEL event=WORD text="TEXT"`, or as objects of JSON.
- * Writing never waits: a line that can't be written at once is left out, and counted. Lines of one event are limited,
- * so that a flood of one kind neither fills a disk nor hides the other kinds. */
+ * Writing never waits: a line of an event that can't be written at once is left out, and counted. Lines of one event are
+ * limited, so that a flood of one kind neither fills a disk nor hides the other kinds. */
 #ifndef SERVE_LOG_H
 #define SERVE_LOG_H
 
@@ -38,8 +38,9 @@ void log_say(struct log *log, const char *level, const char *format, ...) __attr
 /* Writes a line of a fleet, as its `tell`. */
 void log_tell(void *log, const char *line);
 /* Writes a line of another program, of at most LOG_PASSED bytes without its newline, as `NAME: LINE`. These aren't
- * limited. */
-void log_pass(struct log *log, const char *name, const char *line, size_t length);
+ * limited. Returns false if standard error is full, and the line isn't written. If it can't be written at all, as without
+ * a reader, it is left out, and counted. */
+bool log_pass(struct log *log, const char *name, const char *line, size_t length);
 /* Writes how many lines were left out, each ten seconds at most. */
 void log_count(struct log *log);
 void log_close(struct log *log);

@@ -98,7 +98,7 @@ def settings_with_a_fault_end_nobody(host):
 
 @scene
 def what_is_short_is_waited_for(host):
-    """No process, no socket, no room for one, for a while: services that can't start wait, and no failure counts."""
+    """No process, no socket, no space for one, for a while: services that can't start wait, and no failure counts."""
     short = host.home / "short"
     host.words = ["env", f"LD_PRELOAD={refusal_scenes.build(host)}", f"SHORT={short}", *host.words]
     labels = [f"s{number}" for number in range(4)]

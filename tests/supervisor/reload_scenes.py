@@ -107,7 +107,7 @@ def removed_services_go_down_first(host):
     equal(host.ask("service up a"), "refused unknownlabel")
     until(lambda: (host.home / "services/a/log/out").read_text().endswith("end\n"), "its log program ends")
     equal((host.home / "services/a/log/out").read_text(), "bye\nend\n")
-    reload(host, "")
+    reload(host, "service = []\n")
     in_force(host, 2)
     equal(host.status(), {})
     reload(host, described("a", 0))
@@ -130,9 +130,12 @@ def settings_that_change_nothing(host):
         (described(".c", 1), "a label begins with a dot"),
         ("slots = 63\n" + described("c", 1), "noslot"),
         (good, "they are in use"),
+        ("", "no service"),
     ):
         reload(host, text)
         host.logged(f"settings {path}: {why}")
+    reload(host, "slots = 64\n# service = []\n")
+    host.logged(f"settings {path}: no service", 2)
     path.unlink()
     host.process.send_signal(signal.SIGHUP)
     host.logged(f"settings {path}: No such file")
