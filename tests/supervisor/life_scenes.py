@@ -111,7 +111,9 @@ def what_is_short_is_waited_for(host):
         until(lambda: all(host.status()[it][0] == "wants" for it in labels), lambda: f"they wait: {host.status()}")
         time.sleep(1)  # RS would have given them up
         equal([host.status()[it][0] for it in labels], ["wants"] * 4)
+        begun = len([it for it in host.events() if it.startswith("began")])
         short.unlink()
+        until(lambda: len([it for it in host.events() if it.startswith("began")]) == begun + 4, "they begin, though nobody asks")
         for label in labels:
             assert host.pid(label) != before[label], host.status()
     equal([host.status()[it][4] for it in labels], ["0"] * 4)
@@ -235,7 +237,7 @@ def all_services_have_one_grace(host):
     begun = time.monotonic()
     host.end()
     took = time.monotonic() - begun
-    assert 1.4 < took < 3.5, f"{took:.2f} s"
+    assert 1.4 < took < 2.8, f"{took:.2f} s"
 
 
 # ---- heartbeats ----
@@ -271,7 +273,7 @@ def stops_and_continuations_cost_little(host):
     time.sleep(2)
     count, turns = read_calls(host.process.pid) - before, used(host.process.pid)[1] - turns
     assert turns > 50, f"it was woken {turns} times only"
-    assert count < 6 * turns + 400, f"{count} readings in {turns} turns"
+    assert count < 3 * turns + 100, f"{count} readings in {turns} turns"
     host.end()
 
 
