@@ -1,11 +1,12 @@
 """The tones of a picture, in light and in dark: one for each driver, in a shade for each generation, and those of the rest."""
 import re
+from html import escape
 
 LIGHT = ["#a85c00", "#006d77", "#7b1fa2", "#2e7d32", "#ad1457", "#3949ab", "#5d4037", "#59616b"]
 DARK = ["#ffb454", "#5fd3dd", "#d79bf0", "#84d68a", "#ff8fb8", "#a8b5ff", "#d2b3a6", "#aab4c0"]
-SHADES = "abc"  # of generations, by turns
-STRONG = (0.0, 0.3, 0.55)  # how much of the paper's opposite is in a shade
-PALE = (0.14, 0.3, 0.46)  # how much of the tone is in a band's shade
+SHADES = "abcdef"  # of generations, from the oldest to the newest
+STRONG = (0.0, 0.11, 0.22, 0.33, 0.44, 0.55)  # how much of the paper's opposite is in a shade
+PALE = (0.14, 0.21, 0.28, 0.34, 0.40, 0.46)  # how much of the tone is in a band's shade
 TONES = len(LIGHT)
 
 
@@ -35,16 +36,29 @@ def grounds(paper, ink, faint, rule, none, bad, plain, vain):
     )
 
 
-def shade(place, generation):
-    """Returns the name of a driver's tone, by its place among the drivers, in the shade of a generation. Without a place: the last tone."""
-    return f"{TONES - 1 if place is None else place % (TONES - 1)}{SHADES[(generation - 1) % len(SHADES)]}"
+def shade(place, generation, generations):
+    """Returns the name of a driver's tone, by its place among the drivers, in the shade of a generation among all of its own in the picture.
+
+    The newer the generation, the stronger the shade. Without a place: the last tone.
+    """
+    known = sorted(generations)
+    rank = known.index(generation) if generation in known else 0
+    strongest = min(len(SHADES) - 1, 3 * (len(known) - 1))
+    strength = round(rank * strongest / max(1, len(known) - 1))
+    return f"{TONES - 1 if place is None else place % (TONES - 1)}{SHADES[strength]}"
+
+
+def with_tooltip(part, words):
+    """Returns a part, such as `<path .../>`, with the words that a browser shows where the pointer rests on it."""
+    name = part[1:].partition(" ")[0]
+    return f"{part[:-2]}><title>{escape(words)}</title></{name}>" if words else part
 
 
 def style_of(parts):
     """Returns the style of a picture with these parts: of the tones, those that it has."""
     looks = {word for it in parts for found in re.findall(r'class="([^"]*)"', it) for word in found.split()}
     rules = STYLE.split("}")
-    return "}".join(it for it in rules if not (tone := re.search(r"\.([fsp]\d[abc])\{", it)) or tone[1] in looks)
+    return "}".join(it for it in rules if not (tone := re.search(r"\.([fsp]\d[a-f])\{", it)) or tone[1] in looks)
 
 
 STYLE = (

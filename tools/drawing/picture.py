@@ -3,12 +3,14 @@ from html import escape
 
 from . import story
 from .layout import TEXT, TOP, SIDE
-from .look import shade, style_of
+from .look import shade, style_of, with_tooltip
 from .sizes import CHIP, LINE, MONO, SMALL, TINY, chip_width, sans_width
 
 # The parts that a picture may have, and what they mean, in the order of the legend below it.
 LEGEND = {
     "strips": "Across a band there is a strip for each driver, in the shade of the generation that its holder takes for living.",
+    "shades": "The newer the generation, the stronger the shade.",
+    "numbers": "Narrow strips have numbers, which are below the drivers' names, too.",
     "hatched": "A hatched strip lags: RS knows better. No strip goes back to an older generation.",
     "floor": "Filled: a floor, which ends what its owner left.",
     "gone": "A dashed frame: gone.",
@@ -51,11 +53,11 @@ class Picture:
         shown = escape("".join(it if it.isprintable() or it == "\u00a0" else "?" for it in text))
         self.out.append(f'<text class="{looks}" x="{x:.1f}" y="{y:.1f}" font-size="{size}" text-anchor="{anchor}">{shown}</text>')
 
-    def rect(self, x, y, wide, high, look, more=""):
-        self.out.append(f'<rect class="{look}" x="{x:.1f}" y="{y:.1f}" width="{wide:.1f}" height="{high:.1f}"{more}/>')
+    def rect(self, x, y, wide, high, look, more="", tooltip=""):
+        self.out.append(with_tooltip(f'<rect class="{look}" x="{x:.1f}" y="{y:.1f}" width="{wide:.1f}" height="{high:.1f}"{more}/>', tooltip))
 
-    def path(self, steps, look):
-        self.out.append(f'<path class="{look}" d="{steps}"/>')
+    def path(self, steps, look, tooltip=""):
+        self.out.append(with_tooltip(f'<path class="{look}" d="{steps}"/>', tooltip))
 
     # ---- the ground ----
 
@@ -142,7 +144,7 @@ class Picture:
     def tone(self, tone):
         """Returns the name of a driver's tone in the shade of a generation; the last tone is for RS and those that aren't drawn."""
         label, generation = tone
-        return shade(self.layout.labels.index(label) if label in self.layout.labels else None, generation)
+        return shade(self.layout.labels.index(label) if label in self.layout.labels else None, generation, self.layout.generations.get(label, ()))
 
     def strokes(self):
         for it in self.layout.story.strokes:
@@ -155,7 +157,12 @@ class Picture:
                 self.has.add("trail")
                 self.path(f"M{begin:.1f} {self.made[it.message][1] + 8:.1f} V{y:.1f}", "trail plain")
             bends = "".join(f" H{left - sign * 4:.1f} l{sign * 4} {down} H{right:.1f} l{sign * 4} {-down}" for left, right, down in self.crossed(it))
-            self.path(f"M{begin:.1f} {y:.1f}{bends} H{end - sign * 4:.1f}", f"stroke {self.look_of(it)}{dashed}")
+            self.path(f"M{begin:.1f} {y:.1f}{bends} H{end - sign * 4:.1f}", f"stroke {self.look_of(it)}{dashed}", self.told(it.row))
+
+    def told(self, number):
+        """Returns the tooltip of an arrow: its line and the answer."""
+        row = self.layout.rows[number]
+        return f"line {row.number}: {row.line} -> {row.last}"
 
     # ---- bands ----
 
@@ -172,20 +179,25 @@ class Picture:
     def strips(self, holder):
         """Draws in a band a strip for each label, in the tone of the generation that the holder takes to be alive."""
         it = self.layout
-        wide = it.wide[holder] / max(1, len(it.labels))
-        for place, label in enumerate(it.labels or [""]):
+        for label in it.labels or [""]:
+            x, wide = it.strip(holder, label)
             begin, before = None, None
-            for number in range(len(it.rows) + 1):
+            for number in range(it.end + 1):
                 state = self.state(holder, label, number)
                 if state != before:
                     if before:
-                        self.strip(it.left(holder) + wide * place, wide, begin, number, before)
+                        self.strip(x, wide, begin, number, before)
                     begin, before = number, state
+        if it.is_narrow:
+            x, wide = it.strip(holder, None)
+            held = [number for number in range(it.end) if holder in it.rows[number].held]
+            if held:
+                self.strip(x, wide, held[0], it.end, ("none", False))
 
     def state(self, holder, label, number):
         """Returns the tone of a label's strip at a row, and whether RS knows better; None if there is no band."""
         it = self.layout
-        if number == len(it.rows) or holder not in it.rows[number].held:
+        if number == it.end or holder not in it.rows[number].held:
             return None
         known = next((found for item in it.rows[number].held[holder] if (found := story.LABEL.match(item)) and found[1] == label), None)
         if known is None or not known[4]:
@@ -195,13 +207,15 @@ class Picture:
         return (f"p{self.tone((label, int(known[2])))}", not lives)
 
     def strip(self, x, wide, begin, end, state):
-        tops = self.layout.tops + [self.layout.bottom]
+        it = self.layout
+        top, bottom = it.tops[begin], it.bottom if end == it.end else it.tops[end]
         look, is_hatched = state
-        self.has |= {"strips"} if look != "none" else set()
+        self.has |= {"strips", "shades"} if look != "none" else set()
+        self.has |= {"numbers"} if look != "none" and it.is_narrow else set()
         self.has |= {"hatched"} if is_hatched else set()
-        self.rect(x, tops[begin], wide, tops[end] - tops[begin], look)
+        self.rect(x, top, wide, bottom - top, look)
         if is_hatched:
-            self.rect(x, tops[begin], wide, tops[end] - tops[begin], "hatched")
+            self.rect(x, top, wide, bottom - top, "hatched")
 
     def block(self, holder, block):
         x, y = self.layout.left(holder), self.layout.tops[block.row]
@@ -231,7 +245,9 @@ class Picture:
             x, tone = it.middle[life.lane], self.tone(life.tone)
             top, wide = it.y(*born) - CHIP / 2, it.tag[life.lane]
             bottom = it.y(*life.died) if life.died else it.bottom
-            self.rect(x - 4, top, 8, max(bottom - top, CHIP), f"f{tone}")
+            until = f"until line {it.rows[life.died[0]].number}" if life.died else "to the end"
+            told = f"{life.label} as {life.endpoint}, from line {it.rows[life.born[0]].number} {until}"
+            self.rect(x - 4, top, 8, max(bottom - top, CHIP), f"f{tone}", tooltip=told)
             self.rect(x - wide / 2, top, wide, CHIP, f"f{tone}", ' rx="4"')
             self.text(x, top + 11, life.endpoint, "on", TINY, "middle", True)
             if life.died:
@@ -303,8 +319,13 @@ class Picture:
         self.text(SIDE + TEXT - 10, 26, "answer", "ink strong", LINE, "end")
         for lane, title in it.title.items():
             self.text(it.middle[lane], 26, title, "ink strong", LINE, "middle")
+            for y in it.heads:
+                wide = sans_width(title, TINY) + 2
+                self.rect(it.middle[lane] - wide / 2, y - 20, wide, 24, "paper")
+                self.text(it.middle[lane], y - 11, title, "faint", TINY, "middle")
         for x, label in it.strip_titles():
-            self.text(x, 39, label, "faint", TINY, "middle")
+            for y in (39, *it.heads):
+                self.text(x, y, label, "faint", TINY, "middle")
         for y, first, last in it.folds:
             self.text(SIDE + 24, y, f"lines {first} to {last} aren't shown" if first < last else f"line {first} isn't shown", "faint", TINY)
         for number, texts in it.texts.items():

@@ -3,7 +3,7 @@ import math
 import re
 from html import escape
 
-from .look import shade, style_of
+from .look import shade, style_of, with_tooltip
 from .sizes import LINE, SMALL, TINY, sans_width
 
 EVENT = re.compile(r"(\d+\.\d{3}) (\w+)(?: (.*))?")
@@ -14,6 +14,7 @@ STEPS = (0.001, 0.002, 0.005, 0.01, 0.02, 0.05, 0.1, 0.2, 0.5, 1, 2, 5, 10, 20, 
 LEGEND = (
     "A bar is a process, in the shade of its generation; its number is in it where there is room. Pale: it was killed, and something of it",
     "is left. A cross: it died, or was killed for a cause. A triangle: this service got a notice of what happened. A block: RS gave it up.",
+    "A tick above a bar: the service said that it is ready.",
 )
 
 
@@ -22,6 +23,13 @@ class Life:
 
     def __init__(self, generation, began):
         self.generation, self.began, self.lost, self.gone, self.cause = generation, began, None, None, 0
+
+    def told(self, label):
+        """Returns the tooltip of the instance: its label, its generation, and from when to when it ran."""
+        began = "before the log" if self.began is None else f"{self.began:.3f} s"
+        lost = "the end of the log" if self.lost is None else f"{self.lost:.3f} s"
+        cause = f", {CAUSES[self.cause % len(CAUSES)]}" if self.lost is not None and self.cause else ""
+        return f"{label}, generation {self.generation}: from {began} to {lost}{cause}"
 
 
 class Run:
@@ -83,11 +91,11 @@ class Drawing:
     def text(self, x, y, text, look="ink", size=SMALL, anchor="start"):
         self.out.append(f'<text class="{look}" x="{x:.1f}" y="{y:.1f}" font-size="{size}" text-anchor="{anchor}">{escape(text)}</text>')
 
-    def rect(self, x, y, wide, high, look):
-        self.out.append(f'<rect class="{look}" x="{x:.1f}" y="{y:.1f}" width="{wide:.1f}" height="{high:.1f}"/>')
+    def rect(self, x, y, wide, high, look, tooltip=""):
+        self.out.append(with_tooltip(f'<rect class="{look}" x="{x:.1f}" y="{y:.1f}" width="{wide:.1f}" height="{high:.1f}"/>', tooltip))
 
-    def path(self, steps, look):
-        self.out.append(f'<path class="{look}" d="{steps}"/>')
+    def path(self, steps, look, tooltip=""):
+        self.out.append(with_tooltip(f'<path class="{look}" d="{steps}"/>', tooltip))
 
     def svg(self):
         self.scale()
@@ -121,12 +129,13 @@ class Drawing:
             lost = self.last if life.lost is None else life.lost
             gone = self.last if life.gone is None else life.gone
             if began <= self.last and gone >= self.first:
-                self.life(life, shade(self.labels.index(label), life.generation), y, self.x(began), self.x(lost), self.x(gone))
+                generations = [it.generation for it in self.run.lives[label]]
+                self.life(label, life, shade(self.labels.index(label), life.generation, generations), y, self.x(began), self.x(lost), self.x(gone))
         self.deaths(label)
 
-    def life(self, life, tone, y, began, lost, gone):
-        self.rect(lost, y + 10, gone - lost, 14, f"p{tone}")
-        self.rect(began, y + 10, max(lost - began, 1), 14, f"f{tone}")
+    def life(self, label, life, tone, y, began, lost, gone):
+        self.rect(lost, y + 10, gone - lost, 14, f"p{tone}", life.told(label))
+        self.rect(began, y + 10, max(lost - began, 1), 14, f"f{tone}", life.told(label))
         if lost - began > sans_width(str(life.generation), TINY) + 16:
             self.text(began + 4, y + 21, str(life.generation), "on", TINY)
 
@@ -152,7 +161,7 @@ class Drawing:
             self.rect(x - 4, y + 11, 8, 12, "fbad")
         if word == "complaint" and by in self.labels:
             begin, end = self.y(by) + LANE / 2, y + LANE / 2
-            self.path(f"M{x:.1f} {begin:.1f} V{end:.1f}", "stroke plain")
+            self.path(f"M{x:.1f} {begin:.1f} V{end:.1f}", "stroke plain", f"{at:.3f} s: {by} complains about {label}")
 
 
 def is_log(text):
