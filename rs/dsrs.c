@@ -3,6 +3,7 @@
 #include "heard.h"
 #include "leftovers.h"
 #include "notify.h"
+#include "outputs.h"
 #include "place.h"
 #include "reload.h"
 #include "rs.h"
@@ -308,7 +309,7 @@ static bool turn(struct host *host, bool *more) {
     if (host->signals.ready) read_signals(host);
     if (host->listener.ready) admit(host);
     if (host->heard.ready) heard_read(&host->heard, rs);
-    bool has_lines = rs_pass_output(rs);
+    bool has_lines = outputs_pass(rs);
     peers_turn(rs);
     reap(rs);
     rs_bury(rs);
@@ -320,12 +321,12 @@ static bool turn(struct host *host, bool *more) {
     rs_keep_step(rs);
     *more |= peers_send(&rs->peers) | has_lines;
     bool is_down = rs->ending && !rs->left && !rs->instances.first;
-    if (is_down) rs_end_logs(rs);
+    if (is_down) outputs_end_logs(rs);
     uint64_t due = instances_due(&rs->instances);
     if (rs->repeats) due = clock_now() + SOON;
     rs->repeats = false;
-    bool logs = rs_turn_logs(rs, &due);
-    rs_watch_output(rs, &due);
+    bool logs = outputs_turn_logs(rs, &due);
+    outputs_watch(rs, &due);
     set_timer(host, due);
     log_count(&host->log);
     return !is_down || logs;

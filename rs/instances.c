@@ -1,6 +1,7 @@
 /* The instances of services. See instances.h. */
 #include "instances.h"
 #include "clock.h"
+#include "endpoints.h"
 #include "groups.h"
 #include "process.h"
 #include "strays.h"
@@ -11,60 +12,15 @@
 #include <stdlib.h>
 #include <string.h>
 #include <sys/epoll.h>
-#include <sys/socket.h>
 #include <sys/syscall.h>
-#include <sys/un.h>
 #include <sys/wait.h>
 #include <unistd.h>
 
 enum {
-    BACKLOG = 64,
-    PATH = sizeof((struct sockaddr_un *)0)->sun_path,
     DESCRIPTORS = 5 + 8,                /* that a start may take, and that are left for clients */
     SWEEP_EACH = 500, AGAIN = 10,       /* milliseconds */
     PAUSE_FIRST = 100, PAUSE_MOST = 800 /* milliseconds until a start for which something was short is tried again */
 };
-
-/* ---- its sockets ---- */
-
-static void name_endpoint(const struct instances *all, const struct instance *it, char path[PATH]) {
-    snprintf(path, PATH, "%s/%u.%u", all->endpoints, it->generation, it->slot);
-}
-
-static void name_cgroup(const struct instance *it, char name[ENDPOINT]) { snprintf(name, ENDPOINT, "%u.%u", it->generation, it->slot); }
-
-/* Makes its sockets before the process runs, so a client that finds the label can connect at once and waits. Returns false,
- * with errno. */
-static bool open_sockets(const struct instances *all, struct instance *it) {
-    struct sockaddr_un address = {.sun_family = AF_UNIX};
-    int pair[2];
-    if (socketpair(AF_UNIX, SOCK_STREAM | SOCK_CLOEXEC, 0, pair)) return false;
-    it->socket = pair[0];
-    it->theirs = pair[1];
-    name_endpoint(all, it, address.sun_path);
-    it->listener = socket(AF_UNIX, SOCK_SEQPACKET | SOCK_CLOEXEC, 0);
-    return it->listener >= 0 && !bind(it->listener, (struct sockaddr *)&address, sizeof address) && !listen(it->listener, BACKLOG);
-}
-
-/* From here on the kernel refuses who connects to the endpoint. */
-static void close_endpoint(const struct instances *all, struct instance *it) {
-    char path[PATH];
-    if (it->listener < 0) return;
-    name_endpoint(all, it, path);
-    unlink(path);
-    close(it->listener);
-    it->listener = -1;
-}
-
-/* Closes what open_sockets has opened. Returns false, with the errno of before. */
-static bool drop_sockets(const struct instances *all, struct instance *it) {
-    int error = errno;
-    close_endpoint(all, it);
-    if (it->socket >= 0) close(it->socket), close(it->theirs);
-    it->socket = it->theirs = -1;
-    errno = error;
-    return false;
-}
 
 /* ---- its beginning ---- */
 
@@ -77,6 +33,8 @@ static bool has_descriptors(void) {
     errno = error;
     return count == DESCRIPTORS;
 }
+
+static void name_cgroup(const struct instance *it, char name[ENDPOINT]) { snprintf(name, ENDPOINT, "%u.%u", it->generation, it->slot); }
 
 /* Its name is that of the endpoint's socket. */
 static bool open_cgroup(const struct instances *all, struct instance *it) {
@@ -91,7 +49,7 @@ static bool open_cgroup(const struct instances *all, struct instance *it) {
 static bool begin_process(struct instances *all, struct instance *it) {
     int pidfd;
     if (!has_descriptors()) return false;
-    if (it->listener < 0 && !open_sockets(all, it)) return drop_sockets(all, it);
+    if (it->listener < 0 && !endpoints_open(all, it)) return false;
     if (it->cgroup < 0 && !open_cgroup(all, it)) return false;
     uint64_t silence = 2 * (uint64_t)it->service->settings.period * all->tick * 1000; /* RS takes it for dead after two periods */
     const struct service *service = it->service;
@@ -206,7 +164,7 @@ static void kill_all(const struct instance *it) {
 }
 
 void instances_kill(struct instances *all, struct instance *it, bool gently) {
-    close_endpoint(all, it);
+    endpoints_close(all, it);
     if (gently) signal_group(it, SIGTERM), signal_group(it, SIGCONT); /* one that is stopped sees no other signal */
     else kill_all(it);
     it->kill_at = gently ? clock_now() + all->grace : 0;
@@ -261,7 +219,7 @@ void instances_note_end(struct instances *all, struct instance *it) {
     it->cause = cause_of(&how);
     const char *what = how.si_code == CLD_EXITED ? "status" : "signal";
     events_tell(all->events, LOG_WARN, "died: %s %s cause %d %s %d", it->service->label, it->endpoint, it->cause, what, how.si_status);
-    close_endpoint(all, it);
+    endpoints_close(all, it);
 }
 
 /* Whether nothing of it is left but its first process, which has ended. What left the group has no grace of its own. Nobody reports

@@ -1,6 +1,7 @@
 /* Other settings while services run. See reload.h. */
 #include "reload.h"
 #include "notify.h"
+#include "outputs.h"
 #include "settings.h"
 #include <string.h>
 
@@ -72,7 +73,7 @@ static void take(struct rs *rs) {
     events_tell(&rs->events, LOG_INFO, "settings: %s: in force", rs->path);
     rs_learn(rs);
     for (struct service *it = rs->kept; it < rs->kept + KEPT; it++)
-        if (*it->label && it->is_left_out) rs_end_log(it, rs->instances.grace);
+        if (*it->label && it->is_left_out) outputs_end_log(it, rs->instances.grace);
 }
 
 /* What a refusal of RS means here, if its word doesn't say it. */

@@ -1,56 +1,20 @@
 /* RS. See rs.h. */
 #include "rs.h"
-#include "clock.h"
 #include "lines.h"
+#include "outputs.h"
 #include "settings.h"
 #include <errno.h>
 #include <limits.h>
 #include <stdio.h>
 #include <string.h>
-#include <sys/epoll.h>
 #include <unistd.h>
 
 enum {
     ACTIONS = 8, /* of one event; the library has six at most */
-    FIRST_GENERATION = 1,
-    OUTPUT_TURN = 2, /* milliseconds of a turn for what services print, */
-    LAST_LINES = 200 /* and at the end, until standard error has room */
+    FIRST_GENERATION = 1
 };
 
 /* ---- services ---- */
-
-static bool has_log_program(const struct rs *rs, const struct service *service) {
-    char program[PATH_MAX];
-    int length = snprintf(program, sizeof program, "%s/%s/log/run", rs->instances.services, service->label);
-    return length < (int)sizeof program && !access(program, F_OK);
-}
-
-/* What it prints goes to its log program, if it has one. */
-static void open_output(struct rs *rs, struct service *service) {
-    bool has_logger = has_log_program(rs, service);
-    output_open(&service->output, rs->instances.epoll, has_logger);
-    logger_open(&service->logger, has_logger ? service->output.from.file : -1);
-}
-
-/* Processes of log programs aren't strays. */
-static void list_loggers(struct rs *rs) {
-    rs->instances.loggers = NULL;
-    for (struct service *it = rs->kept; it < rs->kept + KEPT; it++) {
-        if (!*it->label) continue;
-        it->logger.next = rs->instances.loggers;
-        rs->instances.loggers = &it->logger;
-    }
-}
-
-/* A log program may have come, or gone, since the last start of its service. */
-static void look_for_log_program(struct rs *rs, struct service *it) {
-    bool had = it->logger.input >= 0, has = it->output.to >= 0 && has_log_program(rs, it);
-    if (it->output.from.file < 0 || had == has || it->logger.pid) return;
-    if (has) output_hand_over(&it->output, it->label, &rs->outlet);
-    else output_take_back(&it->output);
-    logger_open(&it->logger, has ? it->output.from.file : -1);
-    list_loggers(rs);
-}
 
 static bool is_label(const char *label, const char *bytes, size_t length) { return strlen(label) == length && !memcmp(label, bytes, length); }
 
@@ -83,7 +47,7 @@ static struct service *add_service(struct rs *rs, const struct ds_rs_service *se
     while (*it->label) it++; /* a reload waits until nothing of the last one is left */
     *it = (struct service){.server = -1};
     memcpy(it->label, settings->label, settings->label_length);
-    open_output(rs, it);
+    outputs_open(rs, it);
     it->wish = rs_keeps_down(rs, it) ? WISH_NOTHING : WISH_START;
     return it;
 }
@@ -114,7 +78,7 @@ void rs_learn(struct rs *rs) {
         rs->service[rs->services] = learn(rs, &settings);
         if (settings.period && settings.period < shortest) shortest = settings.period;
     }
-    list_loggers(rs);
+    outputs_list_logs(rs);
     rs->ticks.leap = shortest > 3 ? shortest / 2 : 1; /* RS misses nobody before two periods */
 }
 
@@ -140,10 +104,7 @@ bool rs_open(struct rs *rs) {
 
 void rs_close(struct rs *rs) {
     uint32_t next = 0;
-    rs->outlet.patience = LAST_LINES;
-    for (struct service *it = rs->kept; it < rs->kept + KEPT; it++)
-        if (*it->label) output_close(&it->output, rs->instances.epoll, it->label, &rs->outlet);
-    watch_for(&rs->outlet.room, rs->instances.epoll, 0);
+    outputs_close(rs);
     if (ds_rs_next(&rs->store, &next)) next = 0;
     generations_close(&rs->generations, next);
     stream_close(&rs->stream, rs->instances.epoll);
@@ -184,7 +145,7 @@ static void kill_instance(struct rs *rs, const struct ds_rs_action *action) {
 static void start_instance(struct rs *rs, const struct ds_rs_action *action) {
     struct service *service = service_of(rs, action);
     if (!service) return;
-    look_for_log_program(rs, service);
+    outputs_look(rs, service);
     instances_start(&rs->instances, service, action->generation, action->slot)->pinged_at = rs->ticks.now;
 }
 
@@ -373,63 +334,4 @@ bool rs_go_down(struct rs *rs) {
     size_t before = rs->left;
     while (rs->left && rs_tell(rs, DS_RS_DOWN, rs->service[rs->left - 1]->label)) rs->left--;
     return rs->left < before;
-}
-
-/* ---- what services print ---- */
-
-/* Each service has its turn, in a circle. So a flood of one delays the others by a piece, and everything else by OUTPUT_TURN. */
-bool rs_pass_output(struct rs *rs) {
-    uint64_t until = clock_now() + OUTPUT_TURN;
-    if (rs->outlet.room.ready) rs->outlet.is_full = false;
-    rs->outlet.room.ready = 0;
-    if (rs->outlet.is_full) return false;
-    for (size_t looked = 0; outlet_push(&rs->outlet, until) && looked < KEPT; looked++) {
-        struct service *it = &rs->kept[rs->next_output];
-        rs->next_output = (rs->next_output + 1) % KEPT;
-        if (!*it->label || !it->output.from.ready) continue;
-        if (!output_pass(&it->output, it->label, &rs->outlet, until) || clock_now() >= until) break;
-    }
-    return !rs->outlet.is_full && rs->outlet.at < rs->outlet.count;
-}
-
-void rs_watch_output(struct rs *rs, uint64_t *due) {
-    struct outlet *outlet = &rs->outlet;
-    for (struct service *it = rs->kept; it < rs->kept + KEPT; it++)
-        if (*it->label) output_watch(&it->output, rs->instances.epoll, outlet);
-    watch_for(&outlet->room, rs->instances.epoll, outlet->is_full ? EPOLLOUT : 0);
-    if (!outlet->is_full || outlet->room.wanted) return;
-    outlet->is_full = false; /* it is tried again */
-    if (!*due || clock_now() + OUTPUT_TURN < *due) *due = clock_now() + OUTPUT_TURN;
-}
-
-/* ---- log programs ---- */
-
-/* What is left of its output is passed on. */
-static void forget_service(struct rs *rs, struct service *service) {
-    output_close(&service->output, rs->instances.epoll, service->label, &rs->outlet);
-    *service->label = '\0';
-    list_loggers(rs);
-}
-
-bool rs_turn_logs(struct rs *rs, uint64_t *due) {
-    bool runs = false;
-    for (struct service *it = rs->kept; it < rs->kept + KEPT; it++) {
-        if (!*it->label) continue;
-        bool is_there = logger_turn(&it->logger, rs->instances.services, it->label, rs->instances.epoll, &rs->events);
-        if (it->logger.due && (!*due || it->logger.due < *due)) *due = it->logger.due;
-        if (it->is_left_out && !is_there) forget_service(rs, it);
-        runs |= is_there;
-    }
-    return runs;
-}
-
-void rs_end_log(struct service *it, uint64_t grace) {
-    if (it->output.to < 0) return;
-    output_end(&it->output);
-    logger_end(&it->logger, grace);
-}
-
-void rs_end_logs(struct rs *rs) {
-    uint64_t now = clock_now(), rest = rs->ends_at > now ? rs->ends_at - now : 0;
-    for (size_t i = 0; i < rs->services; i++) rs_end_log(rs->service[i], rest);
 }

@@ -60,10 +60,6 @@ struct ds_rs_event rs_of_instance(enum ds_rs_event_kind kind, uint32_t generatio
 bool rs_event(struct rs *rs, struct ds_rs_event *event, struct text *to);
 /* Reports what RS has to learn, without an answer. Returns false where memory ran out for it: it is to be reported again. */
 bool rs_tell(struct rs *rs, enum ds_rs_event_kind kind, const char *label);
-/* Passes on what services print, for a few milliseconds. Returns whether there is more to be passed on at once. */
-bool rs_pass_output(struct rs *rs);
-/* Watches what services print, or standard error while it is full. Brings `due` forward if that can't be watched. */
-void rs_watch_output(struct rs *rs, uint64_t *due);
 /* Reports instances that died. */
 void rs_bury(struct rs *rs);
 /* Reports the time if something is due, until nothing is. */
@@ -74,12 +70,6 @@ uint64_t rs_due(struct rs *rs);
 void rs_keep_step(struct rs *rs);
 /* While it goes down: stops all services, the last one first. Returns whether it stopped one. */
 bool rs_go_down(struct rs *rs);
-/* Starts, reaps and kills log programs, and brings `due` forward to when the next of them is due. Returns whether one runs. */
-bool rs_turn_logs(struct rs *rs, uint64_t *due);
-/* Once nothing of a service is left: its log program reads what is left, and ends within a grace. */
-void rs_end_log(struct service *service, uint64_t grace);
-/* As `rs_end_log`, for all services, at the end. */
-void rs_end_logs(struct rs *rs);
 void rs_close(struct rs *rs);
 
 #endif
