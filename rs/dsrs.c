@@ -38,6 +38,7 @@ enum {
     LAST_LOGS = 300,                /* milliseconds that log programs have after the grace of services */
     STRAYS_LOOKS = 50,              /* for strays at the end, while any are left, */
     STRAYS_PAUSE = 10,              /* and milliseconds between them */
+    PLACE_LOOKS = 50, PLACE_PAUSE = 20, /* the same at the start, while the socket is taken */
     FOLDER = PLACE_PATH - 16        /* bytes of the folder of sockets: each socket has up to 15 more */
 };
 
@@ -168,10 +169,16 @@ static void look_at_limit(struct host *host) {
             (unsigned long long)limit.rlim_cur, (unsigned long long)wanted);
 }
 
+/* A child of a dsrs that was killed has its socket and its lock until it executes the program of its service, or the kernel kills it. */
+static void wait_for_place(const struct place *place) {
+    for (int times = 0; times < PLACE_LOOKS && place_is_taken(place); times++) poll(NULL, 0, PLACE_PAUSE);
+}
+
 static int open_all(struct host *host) {
     static const int signals[] = {SIGTERM, SIGINT, SIGHUP, SIGCHLD};
     struct rs *rs = &host->rs;
     look_at_limit(host);
+    wait_for_place(&host->place);
     if (!place_lock(&host->place)) return FAILED;
     if (open_folder(host) != GO_ON) return FAILED;
     host->epoll = rs->peers.epoll = rs->instances.epoll = epoll_create1(EPOLL_CLOEXEC);

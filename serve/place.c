@@ -71,6 +71,17 @@ static int open_lock(const char *path) {
     return -1;
 }
 
+bool place_is_taken(const struct place *place) {
+    char path[PLACE_PATH + 8];
+    struct stat it;
+    name_lock(place, path);
+    if (!lstat(place->path, &it) && S_ISSOCK(it.st_mode) && is_served(place)) return true;
+    int lock = open(path, O_RDWR | O_CLOEXEC | O_NOFOLLOW | O_NONBLOCK);
+    bool is_held = lock >= 0 && flock(lock, LOCK_EX | LOCK_NB) && errno == EWOULDBLOCK;
+    if (lock >= 0) close(lock);
+    return is_held;
+}
+
 bool place_lock(struct place *place) {
     char path[PLACE_PATH + 8];
     name_lock(place, path);

@@ -23,6 +23,9 @@ struct place {
     ino_t inode;
 };
 
+/* Whether a process serves the socket, or has the lock beside it. */
+bool place_is_taken(const struct place *place);
+
 /* These return false after saying to the log why not. */
 
 /* Takes the lock beside the path, by which no other process serves it. It is let go when its holder ends, however

@@ -1,4 +1,5 @@
 """Scenes of the life of processes: numbers, groups, graces, shortages, and what a killed supervisor left."""
+import fcntl
 import os
 import pathlib
 import resource
@@ -55,6 +56,23 @@ def a_killed_supervisor_leaves_nobody_beside_the_next(host):
             assert "TWO" not in notes[-1], f"{label}: {notes}"
         host.kill()
         host.start()
+    host.ask("status")
+    host.end()
+
+
+@scene
+def a_child_that_has_not_begun_holds_up_no_start(host):
+    """A child of a killed supervisor has its socket and its lock until it executes the program. The next run waits for that."""
+    host.start({"a": ({}, SLEEPS)})
+    host.logged("began a")
+    lock = os.open(f"{host.path}.lock", os.O_RDWR)
+    host.kill()
+    fcntl.flock(lock, fcntl.LOCK_EX)
+    host.start()
+    time.sleep(0.3)
+    assert host.process.poll() is None, host.log()
+    os.close(lock)
+    host.logged("began a", 2)
     host.end()
 
 

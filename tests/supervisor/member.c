@@ -1,5 +1,6 @@
 /* member SEED: a service of the storm. It holds its label's lock as long as anything of its group lives, and notes
- * if the lock is held already. Then it acts at random, or does nothing if SEED is `quiet`. */
+ * if the lock is held already. Then it acts at random, or does nothing if SEED is `quiet`. If SEED is `deaf`, it stays though its
+ * supervisor has ended. */
 #include <fcntl.h>
 #include <poll.h>
 #include <signal.h>
@@ -90,6 +91,7 @@ int main(int count, char **words) {
     if (count != 2 || !label || !endpoint) return 2;
     int lock = open("lock", O_RDWR | O_CREAT, 0600), is_mute = 0;
     note(flock(lock, LOCK_EX | LOCK_NB) ? "TWO AT ONCE" : "began");
+    if (!strcmp(words[1], "deaf")) wait_for_ever();
     srand((unsigned)(atoi(words[1]) * 7919 + atoi(endpoint)));
     publish();
     int what = strcmp(words[1], "quiet") ? rand() % WHATS : WHATS, after = rand() % LONGEST;

@@ -40,9 +40,9 @@ def victim(host, label):
     return None
 
 
-def harm(host, draw):
+def harm(host, draw, labels=LABELS):
     """Sends a command about a service, or kills one."""
-    label = draw.choice(LABELS)
+    label = draw.choice(labels)
     if draw.random() < 0.5:
         host.ask(f"service {draw.choice(VERBS)} {label}")
         return
@@ -122,6 +122,61 @@ def kill(host, count, draw: random.Random):
     at_rest(host, MANY)
     host.end()
     return f"{killed} kills in {took:.1f} s, {starts(host)} starts, memory grew by {grown >> 10} KB"
+
+
+# Programs of services, of which the kernel ends some with their supervisor, and leaves others. A process of the last one leaves its group, and may
+# live for a second beside the next instance, so that service isn't harmed.
+SHAPES = (
+    "exec {member} {seed}", "exec {member} deaf", "{member} deaf; exit 1", "{member} deaf & exec sleep 1000", "exec setpriv --reuid=65534 {member} deaf",
+    "setsid {member} deaf & exec sleep 1000",
+)
+HARMED = [label for index, label in enumerate(LABELS) if index % len(SHAPES) < len(SHAPES) - 1]
+
+
+def shape(host, index, draw):
+    run = SHAPES[index % len(SHAPES)].format(member=f"{host.room}/member", seed=draw.randrange(1 << 20))
+    return "#!/bin/sh\n" + (run if not os.geteuid() else run.replace("setpriv --reuid=65534 ", "")) + "\n"
+
+
+def die(host, count, draw: random.Random):
+    """Kills the supervisor itself, COUNT times, at random, and starts it again at once. No two instances of a label may run at once."""
+    host.start({label: ({"class": "server", "limit": 1000}, shape(host, index, draw)) for index, label in enumerate(LABELS)}, tick=TICK, options=("--grace", "50"))
+    for path in (host.home, host.room):
+        path.chmod(0o711)
+    for path in [host.home / "notes", *(host.home / "services" / label / "lock" for label in LABELS)]:
+        path.touch()
+        path.chmod(0o666)
+    refused = 0
+    for _ in range(count):
+        end = time.monotonic() + draw.random() ** 2
+        while time.monotonic() < end and host.process.poll() is None:
+            if os.path.exists(host.path) and draw.random() < 0.3:
+                harm_quietly(host, draw)
+            time.sleep(0.01)
+        refused += host.process.poll() is not None
+        host.kill()
+        host.start(tick=TICK, options=("--grace", "50"))
+    until(lambda: served(host), "it serves")
+    begun = [line.split()[1] for line in host.notes().splitlines()]
+    assert len(begun) == len(set(begun)), "an endpoint comes twice"
+    at_rest(host)
+    host.end()
+    return f"{count} kills of the supervisor, {refused} starts refused, {starts(host)} starts of services"
+
+
+def harm_quietly(host, draw):
+    """Harms a service, while the supervisor may not serve yet."""
+    try:
+        harm(host, draw, HARMED)
+    except (OSError, supervisors.Gone):
+        host.clients.clear()
+
+
+def served(host):
+    """Returns whether the supervisor serves. One that was refused is started again."""
+    if host.process.poll() is not None:
+        host.start(tick=TICK, options=("--grace", "50"))
+    return os.path.exists(host.path) and host.ask("show")
 
 
 def resident(host):
