@@ -1,6 +1,7 @@
 /* The groups of instances whose first process has ended. See groups.h. */
 #include "groups.h"
 #include "proc.h"
+#include <signal.h>
 #include <sys/wait.h>
 #include <unistd.h>
 
@@ -27,6 +28,40 @@ static bool reap(pid_t child) {
     return !waitid(P_PID, (id_t)child, &how, WEXITED | WNOHANG) && how.si_pid;
 }
 
+/* Returns the instance that a child left, if nothing else is in its group; or NULL. */
+static struct instance *left_alone(const struct instances *all, pid_t child) {
+    uint32_t generation;
+    uint16_t slot;
+    bool is_found = proc_endpoint(child, all->endpoints, &generation, &slot);
+    for (struct instance *it = all->first; is_found && it; it = it->next)
+        if (it->generation == generation && it->slot == slot) return it->is_alone ? it : NULL;
+    return NULL;
+}
+
+/* Whether a child is the first process of an instance. */
+static bool is_first(const struct instances *all, pid_t child) {
+    for (const struct instance *it = all->first; it; it = it->next)
+        if (it->pid == child) return true;
+    return false;
+}
+
+/* Kills what left the groups that are empty now. A child that is dying may be of any of them. */
+static void kill_left(struct instances *all, const struct text *numbers) {
+    struct proc_seen seen;
+    size_t at = 0;
+    for (pid_t child; proc_next(numbers, &at, &child);) {
+        if (is_first(all, child) || !proc_look(child, &seen) || seen.state == 'Z') continue;
+        if (!seen.has_memory) {
+            note_alone(all, false);
+            return;
+        }
+        struct instance *it = left_alone(all, child);
+        if (!it || kill(child, SIGKILL)) continue;
+        events_tell(all->events, LOG_WARN, "stray: pid %d is killed", child);
+        it->is_alone = false;
+    }
+}
+
 /* Children of what is reaped here became children of dsrs when it ended, maybe after the listing: then the groups are looked at once more. */
 bool groups_look(struct instances *all) {
     bool is_listed = true, again = note_alone(all, true);
@@ -42,6 +77,7 @@ bool groups_look(struct instances *all) {
             it->is_alone = false;
             again |= is_listed && reap(child);
         }
+        if (!again) kill_left(all, &numbers);
         text_free(&numbers);
     }
     return is_listed;

@@ -36,7 +36,11 @@ bool proc_look(pid_t pid, struct proc_seen *seen) {
     if (length <= 0) return false;
     line[length] = '\0';
     const char *rest = strrchr(line, ')');
-    return rest && sscanf(rest + 1, " %c %d %d %d", &seen->state, &seen->parent, &seen->group, &seen->session) == 4;
+    unsigned long memory = 0;
+    const char *format = " %c %d %d %d %*d %*d %*u %*u %*u %*u %*u %*u %*u %*d %*d %*d %*d %*d %*d %*u %lu";
+    int read_parts = rest ? sscanf(rest + 1, format, &seen->state, &seen->parent, &seen->group, &seen->session, &memory) : 0;
+    seen->has_memory = memory;
+    return read_parts == 5;
 }
 
 /* ---- children ---- */

@@ -7,7 +7,7 @@
 #include <stdint.h>
 #include <sys/types.h>
 
-struct proc_seen { pid_t parent, group, session; char state; };
+struct proc_seen { pid_t parent, group, session; char state; bool has_memory; /* until it is dying */ };
 
 /* Reads a file of /proc as a whole, with a zero after it. Returns false if it can't be read, or memory runs out. */
 bool proc_read(const char *path, struct text *text);

@@ -277,6 +277,24 @@ def a_start_that_waits_misses_no_heartbeat(host):
     host.end()
 
 
+# ---- what left a group ----
+
+
+@scene
+def a_daemon_ends_before_the_next_instance(host):
+    """A process that left the group by a session of its own ends with its instance, however that ends, and the next one begins after it."""
+    (host.home / "locks.py").write_text(LOCKS + "time.sleep(1000)\n")
+    daemon = f"#!/bin/sh\nsetsid setsid python3 -S {host.home}/locks.py $PWD &\nexec sleep 1000\n"
+    host.start({label: ({"limit": 99}, daemon) for label in "ab"})
+    for times in range(1, 8):
+        for label in "ab":
+            notes = locked(host, label, times)
+            assert "TWO" not in notes[-1], f"{label}: {notes}"
+        host.ask("service refresh a")
+        os.kill(host.pid("b"), signal.SIGKILL)
+    host.end()
+
+
 # ---- how often it looks ----
 
 

@@ -40,9 +40,9 @@ def victim(host, label):
     return None
 
 
-def harm(host, draw, labels=LABELS):
+def harm(host, draw):
     """Sends a command about a service, or kills one."""
-    label = draw.choice(labels)
+    label = draw.choice(LABELS)
     if draw.random() < 0.5:
         host.ask(f"service {draw.choice(VERBS)} {label}")
         return
@@ -124,13 +124,11 @@ def kill(host, count, draw: random.Random):
     return f"{killed} kills in {took:.1f} s, {starts(host)} starts, memory grew by {grown >> 10} KB"
 
 
-# Programs of services, of which the kernel ends some with their supervisor, and leaves others. A process of the last one leaves its group, and may
-# live for a second beside the next instance, so that service isn't harmed.
+# Programs of services, of which the kernel ends some with their supervisor, and leaves others.
 SHAPES = (
     "exec {member} {seed}", "exec {member} deaf", "{member} deaf; exit 1", "{member} deaf & exec sleep 1000", "exec setpriv --reuid=65534 {member} deaf",
     "setsid {member} deaf & exec sleep 1000",
 )
-HARMED = [label for index, label in enumerate(LABELS) if index % len(SHAPES) < len(SHAPES) - 1]
 
 
 def shape(host, index, draw):
@@ -167,7 +165,7 @@ def die(host, count, draw: random.Random):
 def harm_quietly(host, draw):
     """Harms a service, while the supervisor may not serve yet."""
     try:
-        harm(host, draw, HARMED)
+        harm(host, draw)
     except (OSError, supervisors.Gone):
         host.clients.clear()
 
