@@ -75,7 +75,7 @@ struct telling {
     size_t sent;        /* in a round of telling, and in ADDED: bytes of the untold that the round adds, or added */
     unsigned marks;     /* marks without news before them: they count as told once a later write has its replicas, */
     unsigned sent_marks; /* and those of them that a round is about, or was about */
-    unsigned parts;     /* in a round of telling: the entries that it adds */
+    unsigned parts;     /* in a round of telling, or of writing a snapshot: the entries that it adds */
     int replicas;       /* that have to have each entry; 0: none */
     int within;         /* milliseconds in which they are to have it */
     uint64_t told;      /* bytes that count as told */
@@ -83,6 +83,11 @@ struct telling {
 };
 
 void telling_cut(struct telling *telling);
+/* For a compaction, whose snapshot has everything held: whether one question can add all that is untold; puts that to the
+ * question, an argument for each entry; and notes that these ids are the entries'. */
+bool telling_may_add_all(const struct ds_fleet *fleet);
+void telling_put_all(struct ds_fleet *fleet, struct question *question);
+void telling_added_all(struct ds_fleet *fleet, const struct redisReply *ids);
 bool telling_has_news(const struct ds_fleet *fleet);
 /* Notes a mark past everything gathered. What others told, or an earlier run did, may lack replicas: then the mark counts as told
  * once a later write has them. */
@@ -98,9 +103,11 @@ enum reading_state {
 
 struct reading {
     enum reading_state state;
-    struct entry_id last;       /* the last entry read */
+    struct entry_id last;       /* the last entry read, */
+    struct text said;           /* and its fields, one a line; nothing: that is unknown, say since `last` is a snapshot's */
     struct entry_id read_up_to; /* all entries up to this id are read, or went before; 0-0, or above last */
     struct entry_id passed;     /* the `at` of a snapshot that isn't to be fetched again: of no entry there ever was, or with no items */
+    struct entry_id merged;     /* the `at` of the snapshot that was merged last; 0-0: none was */
     struct trail trail;         /* the entries read */
 };
 
@@ -117,6 +124,7 @@ struct compacting {
     enum compacting_state state; /* RESTS, but in a round of compacting */
     long keep, length;           /* a stream of more entries than keep is compacted; length: of the stream, as last heard */
     struct entry_id at;          /* in WRITES: the entry up to which the snapshot goes that is being written */
+    struct entry_id written;     /* and of the one that was written last; 0-0: none was */
     uint64_t due_at;             /* no sooner than this */
 };
 
@@ -137,6 +145,8 @@ struct comparing {
     struct peers peers;
 };
 
+/* The entries for which the next look will look; 0-0 where there are fewer. */
+void comparing_witnesses(const struct ds_fleet *fleet, struct entry_id ids[WITNESSES]);
 /* Another entry is about to be read. While entries come, all bridges take a digest where the second of the ids changes,
  * so that they take it at the same entry. */
 void comparing_next(struct ds_fleet *fleet, struct entry_id next);

@@ -3,29 +3,38 @@
  *   state           | event                                  | becomes, and does
  *   ----------------+----------------------------------------+---------------------------------------------------------
  *   RESTS           | it is due                              | WATCHES: watches the snapshot, and asks for it
- *   WATCHES         | good answers                           | WRITES: one transaction writes it, and trims the stream
- *   WATCHES         | another bridge's snapshot goes further | WRITES: ends the watch alone
- *   WATCHES         | what was read since is overfull        | WRITES: ends the watch alone
+ *   WATCHES         | good answers                           | WRITES: one transaction, below
+ *   WATCHES         | a snapshot that isn't known here       | WRITES: ends the watch alone
+ *   WATCHES         | not all is read, or it can't be kept   | WRITES: ends the watch alone
  *   WATCHES         | another scope                          | RESTS: badscope
  *   WATCHES         | an error, or out of memory             | WRITES: ends the watch alone; denied, or noroom
- *   WRITES          | it is written                          | RESTS
+ *   WRITES          | it is written                          | RESTS: the untold counts as told
  *   WRITES          | the watch is ended                     | RESTS: nothing was written
  *   WRITES          | another bridge wrote meanwhile         | RESTS: nothing was written
+ *   WRITES          | the stream isn't the one that was read | RESTS: nothing was written
  *   WRITES          | an error                               | RESTS: denied
- *   WATCHES, WRITES | the connection ends                    | RESTS */
+ *   WATCHES, WRITES | the connection ends                    | RESTS
+ *
+ * A snapshot has everything held. So the transaction adds what is untold to the stream, too: bridges that have read past
+ * the snapshot's entry never fetch it. It also trims what the server may have no second time, so it does nothing unless
+ * the server and its stream are those of the last look, and the last entry read is still there. */
 #include "bridge.h"
 #include "clock.h"
+#include <stdio.h>
 
 /* The questions of a watching, and of the transaction; the fields of the snapshot that are asked for. */
-enum { WATCHING_WATCH, WATCHING_SNAPSHOT, WATCHING_STREAM };
-enum { WRITING_MULTI, WRITING_SNAPSHOT, WRITING_TRIM, WRITING_EXEC, WRITING_QUESTIONS };
+enum { WATCHING_WATCH, WATCHING_SNAPSHOT };
+enum { WRITING_MULTI, WRITING_SNAPSHOT, WRITING_EXEC, WRITING_QUESTIONS };
 enum { WATCHED_AT, WATCHED_SCOPE, WATCHED_TRIMMED, WATCHED_FIELDS };
-enum { REST = 250 /* milliseconds between two compactings */ };
+enum {
+    REST = 250,     /* milliseconds between two compactings */
+    COUNT_TEXT = 24 /* bytes of a number, with its zero */
+};
 
 static bool is_compacting_due(const struct ds_fleet *fleet) {
     const struct compacting *compacting = &fleet->compacting;
-    bool is_long = compacting->length > compacting->keep && !fleet->items.lost;
-    return is_long && bridge_is_at_end(fleet) && clock_now() >= compacting->due_at;
+    bool is_long = compacting->length > compacting->keep && !fleet->items.lost && clock_now() >= compacting->due_at;
+    return is_long && bridge_is_at_end(fleet) && telling_may_add_all(fleet);
 }
 
 static enum ds_fleet_word ask_to_watch(struct ds_fleet *fleet) {
@@ -34,58 +43,128 @@ static enum ds_fleet_word ask_to_watch(struct ds_fleet *fleet) {
     fleet->compacting.due_at = clock_now() + REST;
     link_ask(teller, "WATCH %s:snapshot", fleet->stream);
     link_ask(teller, "HMGET %s:snapshot at scope trimmed", fleet->stream);
-    link_ask(teller, "XINFO STREAM %s:items", fleet->stream);
     return DS_FLEET_INSTEP;
 }
 
-/* Trims the stream, and counts what went into the snapshot. */
-static const char trim[] = "return redis.call('HINCRBY', KEYS[2], 'trimmed', redis.call('XTRIM', KEYS[1], 'MINID', ARGV[1]))";
+/* ---- the transaction ---- */
 
-/* The snapshot becomes all that the stream said up to the last entry read, and the stream is trimmed up to there: both
- * or neither. A count that isn't one begins anew, since no more could be added to it. */
-static void ask_to_write(struct ds_fleet *fleet, const struct text *held, bool counts_anew) {
+/* Looks once more, as the last look did, and for the last entry read. Then adds what is untold, writes the snapshot, and
+ * trims the stream. Returns the ids of the entries that it added, or a word for the first difference. */
+static const char compaction[] =
+    "local stream, snapshot, has, ids = KEYS[1], KEYS[2], {}, {} "
+    "local run, history, added, gone, last, said, past, at_scope, held, anew, me, witnesses = unpack(ARGV, 1, 12) "
+    "local info = redis.call('INFO', 'server') .. redis.call('INFO', 'replication') "
+    "if not string.find(info, 'run_id:' .. run, 1, true) or not string.find(info, 'master_replid:' .. history, 1, true) then "
+    "return 'server' end "
+    "local entry = redis.call('XRANGE', stream, last, last)[1] "
+    "if not entry or table.concat(entry[2], '\\n') ~= said then return 'entry' end "
+    "for i = 13, 12 + witnesses do if #redis.call('XRANGE', stream, ARGV[i], ARGV[i]) == 0 then return 'witness' end end "
+    "local fields = redis.call('XINFO', 'STREAM', stream) "
+    "for i = 1, #fields, 2 do has[fields[i]] = fields[i + 1] end "
+    "local ever = has['entries-added'] "
+    "if ever < tonumber(added) or ever - has['length'] > tonumber(gone) then return 'count' end "
+    "for i = 13 + witnesses, #ARGV do ids[#ids + 1] = redis.call('XADD', stream, '*', 'from', me, 'items', ARGV[i]) end "
+    "redis.call('HSET', snapshot, 'at', last, 'scope', at_scope, 'items', held) "
+    "if anew == '1' then redis.call('HSET', snapshot, 'trimmed', 0) end "
+    "redis.call('HINCRBY', snapshot, 'trimmed', redis.call('XTRIM', stream, 'MINID', past)) "
+    "return ids";
+
+/* What the snapshot's key has when it is watched. */
+struct watched {
+    struct entry_id at;
+    long long trimmed;
+    bool counts_anew; /* its count isn't one: it begins anew, since no more could be added to it */
+};
+
+/* Puts the entries for which the last look looked, and that aren't in the snapshot. */
+static void put_witnesses(const struct ds_fleet *fleet, struct entry_id at, struct question *question, char count[COUNT_TEXT],
+                          char text[WITNESSES][DS_FLEET_ID]) {
+    struct entry_id ids[WITNESSES];
+    int found = 0;
+    comparing_witnesses(fleet, ids);
+    question_put_text(question, count);
+    for (int i = 0; i < WITNESSES; i++) {
+        if (!is_above(ids[i], at)) continue;
+        write_entry_id(text[found], ids[i]);
+        question_put_text(question, text[found++]);
+    }
+    snprintf(count, COUNT_TEXT, "%d", found);
+}
+
+static void ask_to_write(struct ds_fleet *fleet, const struct text *held, const struct watched *watched) {
     struct link *teller = &fleet->server.teller;
+    const struct stock *stock = &fleet->comparing.stock;
     struct entry_id last = fleet->reading.last;
-    char at[DS_FLEET_ID], past[DS_FLEET_ID];
+    struct entry_id next = last.second + 1 ? (struct entry_id){last.first, last.second + 1} : (struct entry_id){last.first + 1, 0};
+    char stream[DS_FLEET_SAID], snapshot[DS_FLEET_SAID], added[COUNT_TEXT], gone[COUNT_TEXT], at[DS_FLEET_ID], past[DS_FLEET_ID];
+    char count[COUNT_TEXT], witnesses[WITNESSES][DS_FLEET_ID];
+    struct question question = {.count = 0};
+    snprintf(stream, sizeof stream, "%s:items", fleet->stream);
+    snprintf(snapshot, sizeof snapshot, "%s:snapshot", fleet->stream);
+    snprintf(added, sizeof added, "%lld", stock->added);
+    snprintf(gone, sizeof gone, "%lld", stock->gone + watched->trimmed);
     write_entry_id(at, last);
-    write_entry_id(past, last.second + 1 ? (struct entry_id){last.first, last.second + 1} : (struct entry_id){last.first + 1, 0});
+    write_entry_id(past, next);
+    const char *const front[] = {"EVAL", compaction, "2", stream, snapshot, fleet->server.run, fleet->server.history, added, gone, at};
+    for (size_t i = 0; i < sizeof front / sizeof *front; i++) question_put_text(&question, front[i]);
+    question_put(&question, fleet->reading.said.bytes, fleet->reading.said.length);
+    question_put_text(&question, past);
+    question_put_text(&question, fleet->scope);
+    question_put(&question, held->bytes, held->length);
+    question_put_text(&question, watched->counts_anew ? "1" : "0");
+    question_put_text(&question, fleet->me);
+    put_witnesses(fleet, watched->at, &question, count, witnesses);
+    telling_put_all(fleet, &question);
     fleet->compacting.at = last;
-    static const char set[] = "HSET %s:snapshot at %s scope %s items %b";
-    static const char set_anew[] = "HSET %s:snapshot at %s scope %s items %b trimmed 0";
     link_ask(teller, "MULTI");
-    link_ask(teller, counts_anew ? set_anew : set, fleet->stream, at, fleet->scope, held->bytes, held->length);
-    link_ask(teller, "EVAL %s 2 %s:items %s:snapshot %s", trim, fleet->stream, fleet->stream, past);
+    link_ask_question(teller, &question);
     link_ask(teller, "EXEC");
 }
 
+/* ---- a watching ---- */
+
+/* Whether all that the snapshot says is held here: this bridge merged it, or it was there at the last look, or is its
+ * own, and goes less far than what was read. */
+static bool is_known(const struct ds_fleet *fleet, struct entry_id at) {
+    const struct reading *reading = &fleet->reading;
+    bool is_merged = is_same_entry(at, reading->merged) && !is_same_entry(at, NO_ENTRY);
+    bool is_there = is_same_entry(at, fleet->comparing.stock.snapshot) || is_same_entry(at, fleet->compacting.written);
+    return is_merged || (is_there && is_above(reading->last, at));
+}
+
+/* Whether what is held here is all that the stream says up to the last entry read, and may be written as that. Since it was
+ * due, the bridge may have read what no store here can hold. */
+static bool may_write(const struct ds_fleet *fleet, struct entry_id at) {
+    bool has_all = bridge_is_at_end(fleet) && fleet->reading.said.length && !fleet->items.lost;
+    return has_all && telling_may_add_all(fleet) && is_known(fleet, at);
+}
+
 /* Puts the text of the snapshot into `held`, or nothing if none is to be written. */
-static enum ds_fleet_word prepare_snapshot(struct ds_fleet *fleet, struct text *held, bool *counts_anew) {
+static enum ds_fleet_word prepare_snapshot(struct ds_fleet *fleet, struct text *held, struct watched *watched) {
     struct redisReply **answers = fleet->server.teller.answers, *snapshot = answers[WATCHING_SNAPSHOT];
-    const redisReply *error = error_of(answers, WATCHING_STREAM);
-    long long trimmed;
+    const redisReply *error = error_of(answers, WATCHING_SNAPSHOT + 1);
     if (error) return server_denied(fleet, error);
     if (!is_list_of(snapshot, WATCHED_FIELDS)) return server_puzzles(fleet, "no snapshot");
     const redisReply *scope = snapshot->element[WATCHED_SCOPE], *count = snapshot->element[WATCHED_TRIMMED];
     if (server_has_other_scope(fleet, scope)) return server_refuse_scope(fleet, scope);
-    *counts_anew = !read_count(count, &trimmed) && count->type != REDIS_REPLY_NIL;
-    struct entry_id at = id_of(snapshot->element[WATCHED_AT]);
-    struct entry_id generated = id_of(field_of(answers[WATCHING_STREAM], "last-generated-id"));
-    bool has_read_more = is_above(at, fleet->reading.last) && !is_above(at, generated); /* another one, which compacts */
-    bool has_all = !fleet->items.lost; /* since it was due, it may have read what no store here can hold */
-    return has_all && !has_read_more ? items_all(&fleet->items, held) : DS_FLEET_INSTEP;
+    watched->counts_anew = !read_count(count, &watched->trimmed) && count->type != REDIS_REPLY_NIL;
+    watched->at = id_of(snapshot->element[WATCHED_AT]);
+    enum ds_fleet_word word = items_gather(&fleet->items);
+    if (word != DS_FLEET_INSTEP) return word;
+    return may_write(fleet, watched->at) ? items_all(&fleet->items, held) : DS_FLEET_INSTEP;
 }
 
 /* A transaction undoes nothing: if the snapshot couldn't be set, the stream would be trimmed all the same. So a key
  * that denies anything ends it here. */
 static enum ds_fleet_word snapshot_watched(struct ds_fleet *fleet) {
     struct text held = {0};
-    bool counts_anew = false;
-    enum ds_fleet_word word = prepare_snapshot(fleet, &held, &counts_anew);
+    struct watched watched = {.trimmed = 0};
+    enum ds_fleet_word word = prepare_snapshot(fleet, &held, &watched);
     if (server_is_connected(&fleet->server)) {
         link_done(&fleet->server.teller);
         fleet->compacting.state = COMPACTING_WRITES;
         if (word == DS_FLEET_INSTEP && held.length) {
-            ask_to_write(fleet, &held, counts_anew);
+            ask_to_write(fleet, &held, &watched);
         } else {
             link_ask(&fleet->server.teller, "UNWATCH");
         }
@@ -94,21 +173,29 @@ static enum ds_fleet_word snapshot_watched(struct ds_fleet *fleet) {
     return word;
 }
 
-static enum ds_fleet_word snapshot_written(struct ds_fleet *fleet) {
-    const struct link *teller = &fleet->server.teller;
-    const redisReply *error = error_of((redisReply **)teller->answers, teller->came), *done = teller->answers[WRITING_EXEC];
+/* ---- what was written ---- */
+
+static enum ds_fleet_word note_written(struct ds_fleet *fleet, const redisReply *ids) {
     char at[DS_FLEET_ID];
-    fleet->compacting.state = COMPACTING_RESTS;
-    fleet->compacting.length = 0;
-    if (error) return server_denied(fleet, error);
-    bool is_written = teller->came == WRITING_QUESTIONS && done->type == REDIS_REPLY_ARRAY;
-    if (!is_written) return DS_FLEET_INSTEP; /* another one was faster */
-    error = error_of(done->element, done->elements);
-    if (error) return server_denied(fleet, error);
     write_entry_id(at, fleet->compacting.at);
+    fleet->compacting.written = fleet->compacting.at;
     fleet->state.compactions++;
     items_say(&fleet->items, "compacted: up to entry %s", at);
+    telling_added_all(fleet, ids);
     return DS_FLEET_INSTEP;
+}
+
+static enum ds_fleet_word snapshot_written(struct ds_fleet *fleet) {
+    const struct link *teller = &fleet->server.teller;
+    const redisReply *error = error_of((redisReply **)teller->answers, teller->came);
+    fleet->compacting.state = COMPACTING_RESTS;
+    fleet->compacting.length = 0;
+    if (teller->came < WRITING_QUESTIONS) return error ? server_denied(fleet, error) : DS_FLEET_INSTEP;
+    const redisReply *done = teller->answers[WRITING_EXEC], *ids = is_list_of(done, 1) ? done->element[0] : NULL;
+    if (is_list_of(ids, fleet->telling.parts)) return note_written(fleet, ids);
+    telling_cut(&fleet->telling); /* what is untold is added by a round of telling */
+    if (is_error(ids)) error = ids;
+    return error ? server_denied(fleet, error) : DS_FLEET_INSTEP;
 }
 
 /* After a watch the next round begins at once. */

@@ -62,16 +62,21 @@ void comparing_next(struct ds_fleet *fleet, struct entry_id next) {
 static const char presence[] =
     "local there = {} for i, id in ipairs(ARGV) do there[i] = #redis.call('XRANGE', KEYS[1], id, id) end return there";
 
+void comparing_witnesses(const struct ds_fleet *fleet, struct entry_id ids[WITNESSES]) {
+    const struct trail *told = &fleet->telling.trail, *read = &fleet->reading.trail;
+    const struct entry_id witnesses[WITNESSES] = {told->sure, told->first, read->sure, read->first};
+    memcpy(ids, witnesses, sizeof witnesses);
+}
+
 static void ask_for_witnesses(struct ds_fleet *fleet) {
     char text[WITNESSES][DS_FLEET_ID];
-    struct trail *told = &fleet->telling.trail, *read = &fleet->reading.trail;
-    const struct entry_id ids[WITNESSES] = {told->sure, told->first, read->sure, read->first};
-    memcpy(fleet->comparing.witnesses, ids, sizeof ids);
+    struct entry_id *ids = fleet->comparing.witnesses;
+    comparing_witnesses(fleet, ids);
     for (int i = 0; i < WITNESSES; i++) write_entry_id(text[i], ids[i]);
     link_ask(&fleet->server.teller, "EVAL %s 1 %s:items %s %s %s %s", presence, fleet->stream, text[0], text[1], text[2],
              text[3]);
-    trail_ask(told);
-    trail_ask(read);
+    trail_ask(&fleet->telling.trail);
+    trail_ask(&fleet->reading.trail);
 }
 
 static bool is_comparing_due(const struct ds_fleet *fleet) {

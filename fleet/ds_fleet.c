@@ -27,9 +27,9 @@ enum {
 bool bridge_is_at_end(const struct ds_fleet *fleet) { return fleet->reading.state == READING_END; }
 
 void bridge_read_from_start(struct ds_fleet *fleet) {
-    fleet->reading.last = NO_ENTRY;
+    fleet->reading.last = fleet->reading.passed = fleet->reading.merged = NO_ENTRY;
     fleet->reading.state = READING_BEHIND;
-    fleet->reading.passed = NO_ENTRY;
+    text_drop(&fleet->reading.said, fleet->reading.said.length);
     items_begin_anew(&fleet->items, fleet->telling.owes_all);
 }
 
@@ -46,7 +46,7 @@ enum ds_fleet_word bridge_look(struct ds_fleet *fleet, struct redisReply **looke
 void bridge_begin_anew(struct ds_fleet *fleet, const struct stock *stock) {
     telling_cut(&fleet->telling); /* what was added may be gone, too */
     bridge_read_from_start(fleet);
-    fleet->reading.read_up_to = NO_ENTRY;
+    fleet->reading.read_up_to = fleet->compacting.written = NO_ENTRY;
     fleet->telling.trail = fleet->reading.trail = (struct trail){.sure = NO_ENTRY};
     comparing_begin_anew(&fleet->comparing, stock);
 }
@@ -72,7 +72,8 @@ static enum ds_fleet_word gather_owed(struct ds_fleet *fleet) {
 
 /* Keeps what is untold from growing without end, if no round is telling it. What was added without enough replicas is sent again. */
 static enum ds_fleet_word limit_untold(struct ds_fleet *fleet) {
-    if (!items_should_fold(&fleet->items) || fleet->server.round == &telling_round) return DS_FLEET_INSTEP;
+    bool is_asked = fleet->server.round == &telling_round || fleet->compacting.state == COMPACTING_WRITES;
+    if (is_asked || !items_should_fold(&fleet->items)) return DS_FLEET_INSTEP;
     telling_cut(&fleet->telling);
     return items_fold(&fleet->items);
 }
@@ -358,6 +359,7 @@ void ds_fleet_close(struct ds_fleet *fleet) {
     if (fleet->bell >= 0) close(fleet->bell);
     if (fleet->timer >= 0) close(fleet->timer);
     items_close(&fleet->items);
+    text_free(&fleet->reading.said);
     free(fleet->stream);
     free(fleet->scope);
     free(fleet);

@@ -126,21 +126,42 @@ bool link_waits_to_write(const struct link *link) {
 
 /* ---- questions and answers ---- */
 
-void link_ask(struct link *link, const char *format, ...) {
-    va_list given;
-    char *question = NULL;
-    va_start(given, format);
-    int length = link->reader && link->asked < LINK_MOST ? redisvFormatCommand(&question, format, given) : -1;
-    va_end(given);
-    if (length > 0 && text_put(&link->out, question, (size_t)length)) {
+/* Takes a question of this length, as hiredis wrote it; -1: it couldn't. */
+static void take_question(struct link *link, char *question, int length) {
+    if (length > 0 && link->asked < LINK_MOST && text_put(&link->out, question, (size_t)length)) {
         link->asked++;
         link->writes = true;
-    } else if (link->reader) {
+    } else {
         link_failed(link, "a question couldn't be asked");
         link_close(link);
     }
-    if (question) redisFreeCommand(question);
+    if (length > 0) redisFreeCommand(question);
 }
+
+void link_ask(struct link *link, const char *format, ...) {
+    va_list given;
+    char *question = NULL;
+    if (!link->reader) return;
+    va_start(given, format);
+    int length = redisvFormatCommand(&question, format, given);
+    va_end(given);
+    take_question(link, question, length);
+}
+
+void link_ask_question(struct link *link, const struct question *question) {
+    char *made = NULL;
+    const char **arguments = (const char **)question->argument;
+    if (!link->reader) return;
+    int length = redisFormatCommandArgv(&made, question->count, arguments, question->length);
+    take_question(link, made, length);
+}
+
+void question_put(struct question *question, const char *bytes, size_t length) {
+    question->argument[question->count] = bytes;
+    question->length[question->count++] = length;
+}
+
+void question_put_text(struct question *question, const char *text) { question_put(question, text, strlen(text)); }
 
 /* Keeps an answer of the round. An error of a greeting ends the connection, except that of the name. */
 static bool keep_answer(struct link *link, redisReply *answer) {

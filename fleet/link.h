@@ -14,6 +14,7 @@ struct redisReply;
 enum {
     LINK_MOST = 40,        /* questions of one round */
     LINK_WORDS = TLS_SAID, /* bytes of what a server said, with its zero */
+    LINK_ARGUMENTS = 64,   /* of one question */
     LINK_SILENCE = 5000    /* milliseconds in which something of an answer has to come */
 };
 
@@ -53,10 +54,21 @@ enum link_state {
     LINK_LOST      /* the connection is gone, or there was none; link->said says why */
 };
 
+/* A question as its arguments, which the caller keeps. It begins with zeros. */
+struct question {
+    const char *argument[LINK_ARGUMENTS];
+    size_t length[LINK_ARGUMENTS];
+    int count;
+};
+
+void question_put(struct question *question, const char *bytes, size_t length);
+void question_put_text(struct question *question, const char *text);
+
 /* Begins to connect, and sends the greetings: AUTH, SELECT, CLIENT SETNAME. Doesn't wait. */
 bool link_open(struct link *link, const struct link_call *call, uint64_t now);
 /* Asks one question of a round, in the format of redisAppendCommand. Arguments are copied. */
 void link_ask(struct link *link, const char *format, ...);
+void link_ask_question(struct link *link, const struct question *question);
 /* Writes and reads as much as it can without waiting. */
 enum link_state link_turn(struct link *link, uint64_t now);
 /* Ends a round: its answers are freed. */

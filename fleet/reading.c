@@ -58,8 +58,21 @@ static enum ds_fleet_word take_entry(struct ds_fleet *fleet, const redisReply *e
     }
     if (word != DS_FLEET_INSTEP || !is_above(id, reading->last)) return word;
     reading->last = id;
+    text_drop(&reading->said, reading->said.length);
     trail_add(&reading->trail, id);
     return word;
+}
+
+/* Keeps the fields of the entry read last, by which the server is to find it again. If memory runs out, nothing is kept. */
+static void keep_said(struct reading *reading, const redisReply *entry) {
+    const redisReply *fields = entry->element[ENTRY_FIELDS];
+    bool is_kept = is_same_entry(id_of(entry->element[ENTRY_ID]), reading->last) && fields->type == REDIS_REPLY_ARRAY;
+    text_drop(&reading->said, reading->said.length);
+    for (size_t i = 0; is_kept && i < fields->elements; i++) {
+        const redisReply *field = fields->element[i];
+        is_kept = is_text(field) && (!i || text_put(&reading->said, "\n", 1)) && text_put(&reading->said, field->str, field->len);
+    }
+    if (!is_kept) text_drop(&reading->said, reading->said.length);
 }
 
 enum ds_fleet_word reading_answered(struct ds_fleet *fleet) {
@@ -79,6 +92,7 @@ enum ds_fleet_word reading_answered(struct ds_fleet *fleet) {
         enum ds_fleet_word word = take_entry(fleet, entries->element[i]);
         if (word != DS_FLEET_INSTEP) return word;
     }
+    if (count) keep_said(reading, entries->element[count - 1]);
     if (!has_gap && count < ENTRIES) reading->state = READING_END;
     return DS_FLEET_INSTEP;
 }
@@ -108,10 +122,12 @@ static enum ds_fleet_word snapshot_fetched(struct ds_fleet *fleet) {
     reading->state = READING_BEHIND;
     if (!is_text(at)) return DS_FLEET_INSTEP;
     struct entry_id id = id_of(at);
+    if (is_text(lines)) reading->merged = id;
     if (!is_text(lines) || is_above(id, generated)) {
         reading->passed = id;
     } else if (is_above(id, reading->last)) {
         reading->last = id;
+        text_drop(&reading->said, reading->said.length);
     }
     return DS_FLEET_INSTEP;
 }

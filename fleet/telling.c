@@ -14,7 +14,8 @@
  *   NEWS, ADDED | the connection ends             | NEWS: tells the next server again
  *
  * If much is untold, and no round tells it, all that is held takes its place, and the state is NEWS: limit_untold of ds_fleet.c. If the
- * server lost what it had, the state is NEWS, too: bridge_begin_anew. A round for marks alone writes nothing but a counter, in the
+ * server lost what it had, the state is NEWS, too: bridge_begin_anew. A compaction adds all that is untold, which counts as told
+ * then; with replicas the state is ADDED: telling_added_all. A round for marks alone writes nothing but a counter, in the
  * key of the digests, so that it has a write whose replicas it can wait for. */
 #include "bridge.h"
 #include <stdio.h>
@@ -36,20 +37,69 @@ static size_t part_of(const char *lines, size_t length) {
     return part;
 }
 
-static void ask_to_add(struct ds_fleet *fleet) {
+/* Takes the next part of what is untold into the round. Returns its length, and where it begins; 0: there is none. */
+static size_t take_part(struct ds_fleet *fleet, const char **lines) {
     struct telling *telling = &fleet->telling;
     const struct text *untold = &fleet->items.untold;
-    for (telling->sent = 0; telling->parts < PARTS && telling->sent < untold->length; telling->parts++) {
-        const char *lines = untold->bytes + telling->sent;
-        size_t length = part_of(lines, untold->length - telling->sent);
-        link_ask(&fleet->server.teller, "XADD %s:items * from %s items %b", fleet->stream, fleet->me, lines, length);
-        telling->sent += length;
-    }
-    link_ask(&fleet->server.teller, "XLEN %s:items", fleet->stream);
-    if (!telling->parts) link_ask(&fleet->server.teller, "HINCRBY %s:digests waits 1", fleet->stream);
+    if (telling->parts == PARTS || telling->sent == untold->length) return 0;
+    *lines = untold->bytes + telling->sent;
+    size_t length = part_of(*lines, untold->length - telling->sent);
+    telling->sent += length;
+    telling->parts++;
+    return length;
+}
+
+static void take_marks(struct telling *telling) {
     telling->sent_marks += telling->marks;
     telling->marks = 0;
 }
+
+static void ask_to_add(struct ds_fleet *fleet) {
+    const char *lines;
+    fleet->telling.sent = 0;
+    for (size_t length; (length = take_part(fleet, &lines)) > 0;) {
+        link_ask(&fleet->server.teller, "XADD %s:items * from %s items %b", fleet->stream, fleet->me, lines, length);
+    }
+    link_ask(&fleet->server.teller, "XLEN %s:items", fleet->stream);
+    if (!fleet->telling.parts) link_ask(&fleet->server.teller, "HINCRBY %s:digests waits 1", fleet->stream);
+    take_marks(&fleet->telling);
+}
+
+/* ---- for a compaction ---- */
+
+bool telling_may_add_all(const struct ds_fleet *fleet) {
+    const struct text *untold = &fleet->items.untold;
+    size_t parts = 0, sent = 0;
+    if (fleet->telling.state != TELLING_NEWS || fleet->telling.owes_all) return false;
+    for (; parts < PARTS && sent < untold->length; parts++) sent += part_of(untold->bytes + sent, untold->length - sent);
+    return sent == untold->length;
+}
+
+void telling_put_all(struct ds_fleet *fleet, struct question *question) {
+    const char *lines;
+    fleet->telling.sent = 0;
+    fleet->telling.parts = 0;
+    for (size_t length; (length = take_part(fleet, &lines)) > 0;) question_put(question, lines, length);
+    take_marks(&fleet->telling);
+}
+
+static void count_as_told(struct ds_fleet *fleet) {
+    struct telling *telling = &fleet->telling;
+    telling->told += items_drop_told(&fleet->items, telling->sent, telling->sent_marks);
+    telling->sent_marks = 0;
+    telling_cut(telling);
+}
+
+/* The next round waits for the replicas. */
+void telling_added_all(struct ds_fleet *fleet, const struct redisReply *ids) {
+    struct telling *telling = &fleet->telling;
+    for (size_t i = 0; i < ids->elements; i++) trail_add(&telling->trail, id_of(ids->element[i]));
+    fleet->state.entries_told += ids->elements;
+    if (telling->replicas && (telling->sent || telling->sent_marks)) telling->state = TELLING_ADDED;
+    else count_as_told(fleet);
+}
+
+/* ---- a round of telling ---- */
 
 static bool has_untold(const struct ds_fleet *fleet) {
     return fleet->items.untold.length || fleet->telling.marks || fleet->telling.sent_marks;
@@ -112,9 +162,7 @@ static enum ds_fleet_word telling_answered(struct ds_fleet *fleet) {
     if (word != DS_FLEET_INSTEP) return word;
     const redisReply *have = teller->answers[teller->came - 1];
     if (telling->replicas && count_of(have) < telling->replicas) return lacks_replicas(fleet, have);
-    telling->told += items_drop_told(&fleet->items, telling->sent, telling->sent_marks);
-    telling->sent_marks = 0;
-    telling_cut(telling);
+    count_as_told(fleet);
     fleet->server.pause = 0;
     return DS_FLEET_INSTEP;
 }

@@ -69,9 +69,9 @@ def free_port():
 class Fleet:
     """A server, the bridges that share it, and what a scene puts between them. All of them end with the `with`."""
 
-    def __init__(self, words, keep=None, syncs="everysec", host="127.0.0.1", port=None, settings=()):
+    def __init__(self, words, keep=None, syncs="everysec", host="127.0.0.1", port=None, settings=(), named=()):
         self.words, self.keep, self.syncs = words, keep, syncs  # the command that starts a bridge; when the server syncs its file
-        self.host, self.settings = host, settings  # the server's address, and more of its options
+        self.host, self.settings, self.named = host, settings, dict(named)  # the server's address, more of its options, and of its environment
         self.home = tempfile.mkdtemp(prefix="fleet", dir=MEMORY if os.access(MEMORY, os.W_OK) else None)
         self.bridges, self.server, self.port = [], None, port or free_port()
         self.adopted = contextlib.ExitStack()
@@ -108,7 +108,7 @@ class Fleet:
         for _ in range(20):
             words = ["redis-server", "--port", str(self.port), "--bind", self.host, "--dir", self.home, "--appendonly", "yes", "--save", ""]
             words += ["--appendfsync", self.syncs, "--unixsocket", f"{self.home}/redis", *self.settings]
-            self.server = subprocess.Popen(words, stdout=subprocess.DEVNULL, stderr=subprocess.DEVNULL)
+            self.server = subprocess.Popen(words, stdout=subprocess.DEVNULL, stderr=subprocess.DEVNULL, env=os.environ | self.named)
             if self.answers():
                 return
             self.kill_server()  # another process has the port by now
@@ -450,14 +450,37 @@ class Sentinel:
         shutil.rmtree(self.home)
 
 
+class Clock:
+    """A clock for a server that is started with `named`."""
+
+    def __init__(self):
+        self.room = tempfile.mkdtemp(prefix="clock")  # a library can't be loaded from MEMORY
+        self.file, library = f"{self.room}/added", f"{self.room}/clock.so"
+        compile_library(library, "clock.c")
+        self.named = {"LD_PRELOAD": library, "CLOCK": self.file}
+        self.add(0)
+
+    def add(self, seconds):
+        """Sets how far it is ahead of the time."""
+        with open(self.file, "r+b" if os.path.exists(self.file) else "w+b") as file:
+            file.write(seconds.to_bytes(8, "little", signed=True))
+
+    def close(self):
+        shutil.rmtree(self.room)
+
+
+def compile_library(library, source):
+    words = [os.environ.get("CC", "cc"), "-D_GNU_SOURCE", "-Wall", "-Wextra", "-Werror", "-shared", "-fPIC"]
+    subprocess.run([*words, "-o", library, ROOT / "tests" / "bridges" / source], check=True)
+
+
 class Names:
     """A name server for bridges that are started with `named`. Its answer for `fleet.test` is in a file."""
 
     def __init__(self):
         self.room = tempfile.mkdtemp(prefix="names")  # a library can't be loaded from MEMORY
         self.file, library = f"{self.room}/names", f"{self.room}/names.so"
-        words = [os.environ.get("CC", "cc"), "-D_GNU_SOURCE", "-Wall", "-Wextra", "-Werror", "-shared", "-fPIC"]
-        subprocess.run([*words, "-o", library, ROOT / "tests" / "bridges" / "names.c"], check=True)
+        compile_library(library, "names.c")
         self.named = {"LD_PRELOAD": library, "NAMES": self.file, "ASAN_OPTIONS": "verify_asan_link_order=0"}
 
     def answer(self, address):

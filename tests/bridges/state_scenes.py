@@ -13,6 +13,7 @@ from scripted import CUT, SWALLOW, Scripted
 
 ERROR, TYPE, DEMOTED = b"-ERR scripted\r\n", b"*1\r\n:1\r\n", b"-READONLY scripted\r\n"
 NOTHING = b"*-1\r\n"
+WRITING = "EVAL local stream, snapshot"  # the transaction of a compaction
 REST = 1.2  # seconds in which a bridge compares
 ROW = re.compile(r"^ \*   ([A-Z, ]+|any) +\| (.+?) *\|", re.MULTILINE)
 
@@ -369,21 +370,17 @@ def states_of_compacting(fleet, draw):
             compacts()
             walk(row)
 
-        def goes_further(raw):
-            """Returns the snapshot of another bridge, which has read an entry that this one hasn't."""
-            script.script("XINFO STREAM", b"*2\r\n$17\r\nlast-generated-id\r\n$16\r\n99999999999999-5\r\n")
-            return b"*3\r\n$16\r\n99999999999999-0\r\n$10\r\neverything\r\n$-1\r\n"
-
-        unwatched = script.asked["UNWATCH"]
-        script.script("HMGET ds:snapshot at scope", goes_further)
-        compacts()
-        assert script.asked["UNWATCH"] > unwatched
-        walk("WATCHES | another bridge's snapshot goes further")
+        for made in (b"99999999999999-0", b"0000000000001-0"):  # it goes further; it was written since the last look
+            unwatched = script.asked["UNWATCH"]
+            script.script("HMGET ds:snapshot at scope", b"*3\r\n$%d\r\n%s\r\n$10\r\neverything\r\n$-1\r\n" % (len(made), made))
+            compacts()
+            assert script.asked["UNWATCH"] > unwatched
+        walk("WATCHES | a snapshot that isn't known here")
         walk("WRITES | the watch is ended")
         script.script("HMGET ds:snapshot at scope", CUT)
         reconnects(bridge, compacts)
         walk("WATCHES | the connection ends")
-        script.script("EVAL return redis.call('HINCRBY'", CUT)
+        script.script(WRITING, CUT)
         reconnects(bridge, grow)
         compacts()
         walk("WRITES | the connection ends")
@@ -396,7 +393,20 @@ def states_of_compacting(fleet, draw):
         script.script("WATCH", written_by_another)
         compacts()
         walk("WRITES | another bridge wrote meanwhile")
-        script.script("EVAL return redis.call('HINCRBY'", ERROR)
+
+        def loses_the_last(raw):
+            """Deletes the last entry that was read, once the snapshot is watched."""
+            fleet.ask("XDEL", "ds:items", fleet.ask("XREVRANGE", "ds:items", "+", "-", "COUNT", 1)[0][0])
+            return raw
+
+        before, losses = len(bridge.said()), bridge.said().count("event=lost")
+        script.script("WATCH", loses_the_last)
+        grow()
+        says(bridge, "event=lost", losses + 1)
+        assert "event=compacted" not in bridge.said()[before:].partition("event=lost")[0]
+        told(fleet, *lines)
+        walk("WRITES | the stream isn't the one that was read")
+        script.script("WATCH", lambda raw: script.script_first("EXEC", b"*1\r\n" + ERROR) or raw)
         denied = bridge.said().count("event=denied")
         grow()
         says(bridge, "event=denied", denied + 1)
@@ -422,7 +432,7 @@ def states_of_compacting(fleet, draw):
         time.sleep(REST)
         told(fleet, *lines, *many)
         assert script.asked["UNWATCH"] > unwatched
-        walk("WATCHES | what was read since is overfull")
+        walk("WATCHES | not all is read, or it can't be kept")
 
 
 def states_of_comparing(fleet, draw):
