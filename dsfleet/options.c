@@ -28,7 +28,7 @@ static const char help[] =
     "  --scope 'P K'     shares what the pattern P matches whole, of the kinds K, 1 to 15; else everything\n"
     "  --keep N          compacts a stream of more than N entries: 1000\n"
     "  --replicas N      a change is answered once N replicas have it: 0\n"
-    "  --within MS       how long one round waits for them: 1000\n"
+    "  --within MS       how long they may take before state is denied: 1000\n"
     "  --mode OCTAL      the socket's mode; else by the umask\n"
     "  --group GROUP     the socket's group\n"
     "  --readers GROUP   members of GROUP may read and follow; only the socket's group may change something\n"

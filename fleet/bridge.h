@@ -77,7 +77,8 @@ struct telling {
     unsigned sent_marks; /* and those of them that a round is about, or was about */
     unsigned parts;     /* in a round of telling, or of writing a snapshot: the entries that it adds */
     int replicas;       /* that have to have each entry; 0: none */
-    int within;         /* milliseconds in which they are to have it */
+    int within;         /* milliseconds in which they are to have it, */
+    uint64_t wait_end;  /* and when these are over */
     uint64_t told;      /* bytes that count as told */
     struct trail trail; /* the entries told */
 };

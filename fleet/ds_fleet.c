@@ -63,10 +63,8 @@ static enum ds_fleet_word end_round(struct ds_fleet *fleet) {
 /* Puts everything held to what is untold, if that is owed and the stream is read to its end. */
 static enum ds_fleet_word gather_owed(struct ds_fleet *fleet) {
     if (!fleet->telling.owes_all || !bridge_is_at_end(fleet)) return DS_FLEET_INSTEP;
-    enum ds_fleet_word word = items_gather_all(&fleet->items);
-    if (word != DS_FLEET_INSTEP) return word;
-    fleet->telling.owes_all = false;
-    items_forget_noted(&fleet->items);
+    enum ds_fleet_word word = items_gather_owed(&fleet->items);
+    if (word == DS_FLEET_INSTEP) fleet->telling.owes_all = false;
     return word;
 }
 

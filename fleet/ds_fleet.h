@@ -64,7 +64,7 @@ struct ds_fleet_options {
     void *context;        /* the first argument of tell */
     const char *password; /* instead of the URL's; NULL: the URL's. Less than 256 bytes */
     int replicas;         /* how many replicas have to have a change before it counts as told; 0: none */
-    int within;           /* milliseconds that one round waits for them; 0: DS_FLEET_WITHIN */
+    int within;           /* milliseconds that they may take before a step returns DENIED; 0: DS_FLEET_WITHIN */
     const char *ca;       /* with TLS, PEM files, which are read at each connection: of the CAs that certify servers; NULL: the system's CAs */
     const char *certificate, *key; /* those that are shown to the server; NULL: none */
 };

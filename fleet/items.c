@@ -214,7 +214,7 @@ static uint64_t refused_now(const struct items *items) {
 static void lose_item(struct items *items) {
     if (items->lost++) return;
     items->lost_beside = refused_now(items);
-    items_say(items, "overfull: what was refused is too much to be kept, so nothing is compacted from here");
+    items_say(items, "overfull: an item is refused by both stores here, so nothing is compacted from here");
 }
 
 bool items_may_regain(const struct items *items) {
@@ -237,8 +237,8 @@ static enum ds_fleet_word set_aside(struct items *items, const char *entry, cons
     if (ds_call(&items->aside[items->here], &request, line, length, &answer)) return DS_FLEET_CLOSED;
     if (answer.refusal == DS_NOROOM) return DS_FLEET_NOROOM;
     log_refusal(items, entry, line, length, refusal);
-    /* Any other refusal says that it holds another item of this version. */
-    if (answer.word == DS_STOPPED && answer.refusal == DS_FULL) lose_item(items);
+    /* Whatever refused it, as a third owner of its key does, no store here has it. */
+    if (answer.word == DS_STOPPED) lose_item(items);
     if (answer.word == DS_STOPPED || answer.taken) {
         items->refused[refusal <= DS_NOROOM ? refusal : 0]++;
         items->news = true;
@@ -350,9 +350,25 @@ static enum ds_fleet_word put_all(struct items *items, struct ds_handle *store, 
     return word == DS_FLEET_INSTEP ? fetch_items(store, &answer, to) : word;
 }
 
+static enum ds_fleet_word put_aside(struct items *items, struct text *to) {
+    return items->has_aside ? put_all(items, &items->aside[items->here], to) : DS_FLEET_INSTEP;
+}
+
 enum ds_fleet_word items_all(struct items *items, struct text *to) {
     enum ds_fleet_word word = put_all(items, items->store, to);
-    return word == DS_FLEET_INSTEP && items->has_aside ? put_all(items, &items->aside[items->here], to) : word;
+    return word == DS_FLEET_INSTEP ? put_aside(items, to) : word;
+}
+
+/* If the second store's can't be put, the next call puts all of it again. */
+enum ds_fleet_word items_gather_owed(struct items *items) {
+    enum ds_fleet_word word = items_gather_all(items);
+    size_t before = items->untold.length;
+    if (word == DS_FLEET_INSTEP) word = put_aside(items, &items->untold);
+    if (word != DS_FLEET_INSTEP) return word;
+    drop_noted(items, before);
+    items->gathered += items->untold.length - before;
+    items_forget_noted(items);
+    return word;
 }
 
 enum ds_fleet_word items_digest(struct items *items, const char *entry, unsigned long long *digest) {

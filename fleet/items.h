@@ -48,6 +48,9 @@ struct items {
 enum ds_fleet_word items_gather(struct items *items);
 /* Puts all that is held to what is untold, but for what is noted, and continues from the store's end. */
 enum ds_fleet_word items_gather_all(struct items *items);
+/* Puts all that is held, and all that is refused, to what is untold, but for what is noted, which is forgotten then: the
+ * server may lack any of it. */
+enum ds_fleet_word items_gather_owed(struct items *items);
 /* Whether so much is untold that it should be folded, as after hours without a server. */
 bool items_should_fold(const struct items *items);
 /* Puts all that is held in place of what is untold: of the changes of one key, only the last is left. */

@@ -99,6 +99,7 @@ bool link_open(struct link *link, const struct link_call *call, uint64_t now) {
     }
     link->heard = now;
     link->watched = 0;
+    link->frames = (struct frames){.length = 0};
     greet(link, call);
     return true;
 }
@@ -228,6 +229,8 @@ static bool read_bytes(struct link *link, uint64_t now) {
         if (word == IO_WRITES_FIRST) return true;
         if (!done) continue;
         link->heard = now;
+        link->received += done;
+        if (!frames_take(&link->frames, bytes, done)) return link_failed(link, "the server answers more than was asked for");
         if (redisReaderFeed(link->reader, bytes, done) != REDIS_OK) return link_failed(link, link->reader->errstr);
     }
     return true;
@@ -245,8 +248,10 @@ static bool read_some(struct link *link, uint64_t now) {
 
 /* Whether answers have been missing for longer than the server may take. */
 static bool is_silent(struct link *link, uint64_t now) {
-    if (now <= link->heard + link->blocks + LINK_SILENCE) return false;
-    link_failed(link, "the server answers nothing");
+    uint64_t limit = link->blocks + LINK_SILENCE;
+    bool is_late = link->begun && now > link->begun + limit + link->received / LINK_SLOWEST;
+    if (now <= link->heard + limit && !is_late) return false;
+    link_failed(link, is_late && link->received ? "the server answers too slowly" : "the server answers nothing");
     return true;
 }
 
@@ -260,6 +265,7 @@ enum link_state link_turn(struct link *link, uint64_t now) {
         link->heard = now;
         return LINK_IDLE;
     }
+    if (!link->begun && !link->writes) link->begun = now;
     if (link->came == link->asked && !link->greetings) return LINK_ANSWERED;
     if (!is_silent(link, now)) return LINK_WAITS;
     link_close(link);
@@ -269,4 +275,5 @@ enum link_state link_turn(struct link *link, uint64_t now) {
 void link_done(struct link *link) {
     for (unsigned i = 0; i < link->came; i++) freeReplyObject(link->answers[i]);
     link->asked = link->came = link->blocks = 0;
+    link->begun = link->received = 0;
 }

@@ -4,6 +4,7 @@
 #ifndef DS_FLEET_LINK_H
 #define DS_FLEET_LINK_H
 
+#include "frames.h"
 #include "text.h"
 #include "tls.h"
 #include <stdint.h>
@@ -15,7 +16,8 @@ enum {
     LINK_MOST = 40,        /* questions of one round */
     LINK_WORDS = TLS_SAID, /* bytes of what a server said, with its zero */
     LINK_ARGUMENTS = 64,   /* of one question */
-    LINK_SILENCE = 5000    /* milliseconds in which something of an answer has to come */
+    LINK_SILENCE = 5000,   /* milliseconds in which something of an answer has to come, */
+    LINK_SLOWEST = 16      /* and all of a round, with as many more as it has times these bytes */
 };
 
 /* How a server is called. */
@@ -41,6 +43,9 @@ struct link {
     bool writes;                           /* not all that was asked could be sent yet */
     bool reads_first;                      /* while TLS begins: nothing can be sent before more arrives */
     bool quiet;                            /* everything that arrived is read; the bell clears it when more arrives */
+    struct frames frames;                  /* of what arrived */
+    uint64_t begun;                        /* when all of this round had been sent, in milliseconds; 0: it isn't yet */
+    size_t received;                       /* bytes of this round */
     uint64_t heard;                        /* when bytes were last sent or received, or nothing was asked, in milliseconds */
     uint32_t watched;                      /* the events that the bell watches it for; 0: none yet */
     unsigned blocks;                       /* milliseconds for which the server may hold this round back before it answers */

@@ -5,11 +5,11 @@
  *   NEWS        | asked                           | NEWS: asks to add `sent` bytes of the untold, in parts
  *   NEWS        | a part wasn't added             | NEWS: denied, and nothing counts as told
  *   NEWS        | each was added, replicas enough | NEWS: these bytes count as told
- *   NEWS        | .. too few replicas             | ADDED: denied
+ *   NEWS        | .. too few replicas             | ADDED: denied, but not before they had their time
  *   NEWS        | .. an error instead of replicas | ADDED: denied
  *   ADDED       | asked                           | ADDED: asks for the replicas alone
  *   ADDED       | replicas enough                 | NEWS: these bytes count as told
- *   ADDED       | too few replicas                | ADDED: denied
+ *   ADDED       | too few replicas                | ADDED: denied, but not before they had their time
  *   ADDED       | an error instead of replicas    | ADDED: denied
  *   NEWS, ADDED | the connection ends             | NEWS: tells the next server again
  *
@@ -18,12 +18,14 @@
  * then; with replicas the state is ADDED: telling_added_all. A round for marks alone writes nothing but a counter, in the
  * key of the digests, so that it has a write whose replicas it can wait for. */
 #include "bridge.h"
+#include "clock.h"
 #include <stdio.h>
 #include <string.h>
 
 enum {
-    PARTS = 32,    /* entries told at a time, */
-    PART = 1 << 16 /* and bytes of lines in one of them, unless one line has more */
+    PARTS = 32,     /* entries told at a time, */
+    PART = 1 << 16, /* and bytes of lines in one of them, unless one line has more */
+    WAITS = 1000    /* milliseconds of one wait for replicas: then other rounds have their turn */
 };
 
 /* How many bytes of the lines one entry tells. */
@@ -124,10 +126,14 @@ void telling_mark(struct ds_fleet *fleet) {
 static enum ds_fleet_word ask_to_tell(struct ds_fleet *fleet) {
     struct telling *telling = &fleet->telling;
     telling->parts = 0;
-    if (telling->state == TELLING_NEWS) ask_to_add(fleet);
+    if (telling->state == TELLING_NEWS) {
+        ask_to_add(fleet);
+        telling->wait_end = clock_now() + (uint64_t)telling->within;
+    }
     if (!telling->replicas) return DS_FLEET_INSTEP;
-    link_ask(&fleet->server.teller, "WAIT %d %d", telling->replicas, telling->within);
-    fleet->server.teller.blocks = (unsigned)telling->within;
+    int wait = telling->within < WAITS ? telling->within : WAITS;
+    link_ask(&fleet->server.teller, "WAIT %d %d", telling->replicas, wait);
+    fleet->server.teller.blocks = (unsigned)wait;
     return DS_FLEET_INSTEP;
 }
 
@@ -151,6 +157,7 @@ static enum ds_fleet_word lacks_replicas(struct ds_fleet *fleet, const redisRepl
     char why[DS_FLEET_SAID];
     fleet->telling.state = TELLING_ADDED;
     if (is_error(have)) return server_denied(fleet, have);
+    if (clock_now() < fleet->telling.wait_end) return DS_FLEET_INSTEP;
     snprintf(why, sizeof why, "%lld of %d replicas have the last change", count_of(have), fleet->telling.replicas);
     return server_puzzles(fleet, why);
 }

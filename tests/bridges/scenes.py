@@ -1127,6 +1127,7 @@ def meddled_types(fleet, draw):
 
 
 from client_scenes import *  # scenes of clients, which use the functions above
+from answer_scenes import *
 from compaction_scenes import *
 from history_scenes import *
 from master_scenes import *
@@ -1138,5 +1139,5 @@ SCENES = [it for it in dict(globals()).values() if callable(it) and getattr(it, 
 COMPACTED = (  # with few entries kept
     "a_start_after_a_compaction", "a_snapshot_that_is_lost", "paused_and_trimmed_under", "a_clash", "meddled_types", "counts_that_are_forged",
     "more_than_two_stores_hold", "a_snapshot_lost_while_it_is_read", "a_stream_of_another_scope", "a_scope_that_changes", "states_of_compacting",
-    "compacted_under_load",
+    "compacted_under_load", "three_owners_of_a_key", "others_come_while_replicas_are_missing",
 )

@@ -31,7 +31,8 @@ class Scripted(Proxy):
         super().__init__(port)
 
     def script(self, question, made, times=1, whole=False):
-        """Scripts answers to questions that begin with `question`. `made` is bytes, CUT, SWALLOW, or a function of the server's answer."""
+        """Scripts answers to questions that begin with `question`. `made` is bytes, CUT, SWALLOW, or a function of the server's answer, which
+        may return an iterator of pieces."""
         rule = Rule(question, made, times, whole)
         with self.lock:
             self.rules.append(rule)
@@ -79,7 +80,8 @@ class Scripted(Proxy):
                     if answer is CUT:
                         break
                     if answer is not SWALLOW:
-                        near.sendall(answer)
+                        for piece in [answer] if isinstance(answer, bytes) else answer:
+                            near.sendall(piece)
         except (OSError, ValueError):
             pass
         for it in (near, far):

@@ -1,0 +1,89 @@
+"""Scenes of what a bridge owes when a server loses, refuses or answers too much. scenes.py lists these."""
+import itertools
+import time
+
+from fleets import until
+from scenes import number, numbers, offer, shows
+from scripted import Scripted
+
+SLOWLY = 0.5  # seconds between two bytes of a server that trickles
+
+
+def what_was_refused_is_lost(fleet, draw):
+    """A server loses everything: what a store refused, and is kept beside it, is sent again, too."""
+    bridge, theirs = fleet.start(), number("k", 1, 2)
+    offer(bridge, number("k", 1, 1))
+    fleet.ask("XADD", "ds:items", "*", "from", "x", "items", theirs + "\n")
+    until(lambda: bridge.state().get("refused clash") == "1", "it is refused", 5)
+    time.sleep(1.2)  # so that it has looked
+    fleet.ask("FLUSHALL")
+    until(lambda: {number("k", 1, 1).encode(), theirs.encode()} <= set(fleet.told()), "both are sent again", 5)
+
+
+def three_owners_of_a_key(fleet, draw):
+    """An item that neither a store nor the one beside it can hold isn't compacted away, whatever refused it."""
+    bridge = fleet.start()
+    lines = [number("k", 1, at, owner) for at, owner in enumerate("abc")]
+    offer(bridge, lines[0])
+    for line in lines[1:]:
+        fleet.ask("XADD", "ds:items", "*", "from", "x", "items", line + "\n")
+    until(lambda: bridge.state().get("refused notowner") == "2", "both are refused", 5)
+    for line in numbers("n", 40):
+        offer(bridge, line)
+    time.sleep(1.2)
+    assert {it.encode() for it in lines} <= set(fleet.told()), "an item is compacted away"
+    offer(bridge, "! a 1")
+    until(lambda: fleet.entries() <= 20, "it is compacted once one of them is gone", 10)
+    assert {it.encode() for it in lines[1:]} <= set(fleet.told()), "an item is compacted away"
+
+
+def answers_that_are_too_long(fleet, draw):
+    """A length that no question asked for ends the connection at once, and no client waits for it."""
+    script = fleet.adopt(Scripted(fleet.port))
+    bridge = fleet.start(url=script.url())
+    for at, made in enumerate((b"*2147483647\r\n", b"$999999999999\r\n", b"$2147483648\r\n", b"*-2\r\n", b"$1x\r\n", b"what\r\n", b"*65537\r\n")):
+        before, begun = bridge.said().count("more than was asked for"), time.monotonic()
+        script.script("XLEN", made)
+        offer(bridge, number("a", at + 1, 1))
+        assert time.monotonic() - begun < 3, f"{made}: its change is answered after {time.monotonic() - begun:.1f} s"
+        if at == 0:
+            assert bridge.said().count("more than was asked for") == before + 1, bridge.said()
+    with open(f"/proc/{bridge.process.pid}/status", encoding="ascii") as status:
+        peak = next(int(it.split()[1]) for it in status if it.startswith("VmPeak"))
+    assert peak < 1 << 20, f"it took {peak >> 10} MB"
+
+
+def an_answer_that_trickles(fleet, draw):
+    """A server that sends a byte now and then is given up like one that sends nothing."""
+    script = fleet.adopt(Scripted(fleet.port))
+    bridge = fleet.start(url=script.url())
+
+    def trickles(raw):
+        yield b"$1000\r\n"
+        for _ in itertools.count():
+            time.sleep(SLOWLY)
+            yield b"x"
+
+    script.script("XLEN", trickles)
+    begun = time.monotonic()
+    offer(bridge, number("a", 1, 1))
+    assert time.monotonic() - begun < 9, f"its change is answered after {time.monotonic() - begun:.1f} s"
+    assert "answers too slowly" in bridge.said(), bridge.said()
+
+
+def others_come_while_replicas_are_missing(fleet, draw):
+    """While a bridge waits a minute for a replica, what others compacted reaches it, and it looks for losses."""
+    waits, other = fleet.start("--replicas", "1", "--within", "60000"), fleet.start()
+    with waits.client() as client:
+        client.send(f"offer {number('own', 1, 1)}")
+        shows(other, [number("own", 1, 1)])
+        waits.pause()
+        lines = numbers("a", 70)
+        for line in lines:
+            offer(other, line)
+        until(lambda: fleet.entries() <= 20, "the stream is compacted")
+        waits.resume()
+        shows(waits, [number("own", 1, 1), *lines], 15)  # a reading may wait for ten
+        fleet.ask("DEL", "ds:items")
+        until(lambda: "event=lost" in waits.said(), "it notices a loss", 8)
+        assert not client.has_answer(0.2)
