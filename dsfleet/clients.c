@@ -123,11 +123,17 @@ static bool is_turn_over(const struct clients *clients, const struct client *cli
     return clock_now() >= clients->turn_end || (holds && backlog(client) >= CLIENT_FEW);
 }
 
+/* Marks what the stream has to have before the held answers are released. */
+static void mark_held(struct clients *clients, struct client *client) {
+    client->mark = client->was_held ? ds_fleet_mark_held(clients->fleet) : ds_fleet_mark(clients->fleet);
+}
+
 /* Answers the lines that a client has sent. If one says that a change is held, all these answers wait for the stream.
  * So a line whose answer may be long is answered alone. */
 static bool answer_lines(struct clients *clients, struct client *client) {
     size_t done = 0, length, used;
     bool fine = true, holds = false, alone = false;
+    client->was_held = false;
     while (fine && !alone && (used = wire_line(&client->wire, done, &length)) > 0) {
         const char *line = client->wire.in.bytes + done;
         bool may = may_answer(clients, client, line, length);
@@ -143,7 +149,7 @@ static bool answer_lines(struct clients *clients, struct client *client) {
         done += used;
     }
     wire_drop_lines(&client->wire, done);
-    if (holds) client->mark = ds_fleet_mark(clients->fleet);
+    if (holds) mark_held(clients, client);
     else fine &= text_move(&client->wire.out, &client->held);
     return fine;
 }
@@ -175,7 +181,7 @@ void clients_owe(struct clients *clients, const uint8_t owed[16]) {
 
 static void release_held(struct clients *clients, struct client *client) {
     if (!client->held.length) return;
-    if (!client->mark) client->mark = ds_fleet_mark(clients->fleet); /* memory ran out */
+    if (!client->mark) mark_held(clients, client); /* memory ran out */
     if (!ds_fleet_is_told(clients->fleet, client->mark)) return;
     text_move(&client->wire.out, &client->held);
 }

@@ -42,6 +42,7 @@ struct client {
     uint64_t moved;        /* when it last had no answer to read, or read some of one, in milliseconds */
     struct wire wire;      /* it owns the subscriptions that it made: their numbers are free once it is gone */
     struct text held;      /* answers to what isn't in the stream yet */
+    bool was_held;         /* one of them says that a change was held before */
     uint64_t mark;         /* held may be written once everything before this mark is in the stream */
 };
 

@@ -47,6 +47,7 @@ static bool answer_line(struct turn *turn, const char *line, size_t length) {
     bool fits = lines_put(turn->clients->store, &client->wire, line, length, &client->held, &said);
     clients_owe(turn->clients, said.owed);
     turn->holds |= said.holds;
+    client->was_held |= said.was_held;
     return fits;
 }
 

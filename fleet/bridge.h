@@ -19,7 +19,7 @@ struct round {
     enum ds_fleet_word (*answered)(struct ds_fleet *fleet);
 };
 
-extern const struct round meeting_round, fetching_round, comparing_round, compacting_round, telling_round;
+extern const struct round meeting_round, fetching_round, comparing_round, looking_round, compacting_round, telling_round;
 
 /* ---- server ---- */
 
@@ -129,6 +129,23 @@ struct compacting {
     uint64_t due_at;             /* no sooner than this */
 };
 
+/* ---- looking ---- */
+
+/* Marks that wait for a look at the stream, since they are of changes that the store held already. Looks are counted from 1. */
+struct looking {
+    uint64_t asked;    /* the last look that was asked, */
+    uint64_t gathered; /* and bytes that had been gathered then */
+    uint64_t wanted;   /* the last look for which a mark waits */
+    uint64_t good;     /* a look that found no loss, and that counts once these bytes are told: 0: none */
+    uint64_t good_at;
+    uint64_t seen;     /* the last look that counts */
+};
+
+/* Returns the number of a look that isn't asked yet. */
+uint64_t looking_mark(struct looking *looking);
+/* Whether this look, or a later one, found no loss, and what was gathered before it is told. */
+bool looking_has_seen(const struct looking *looking, uint64_t look, uint64_t told);
+
 /* ---- comparing ---- */
 
 enum { WITNESSES = 4 /* entries that have to be there: a stream that took the place of another one lacks one of them */ };
@@ -136,7 +153,9 @@ enum { WITNESSES = 4 /* entries that have to be there: a stream that took the pl
 struct comparing {
     uint64_t due_at;
     struct stock stock;
-    struct entry_id asked;                /* the last entry read at the comparing before */
+    struct entry_id asked;                /* the last entry read at the look before, */
+    struct entry_id compared;             /* and at the comparing before, */
+    struct entry_id newest;               /* at which the stream had this one */
     struct entry_id witnesses[WITNESSES]; /* in a round of comparing: those that are looked for */
     struct digest digest;                 /* the last one, */
     uint64_t digested;                    /* and the store's position then; not_digested: there is none */
@@ -164,6 +183,7 @@ struct ds_fleet {
     struct telling telling;
     struct reading reading;
     struct compacting compacting;
+    struct looking looking;
     struct comparing comparing;
     char *stream, *scope;        /* scope: as the stream's field has it */
     char me[PEER_ID];            /* the name of this run */

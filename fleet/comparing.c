@@ -9,7 +9,9 @@
  *   any   | .. with another scope                    | badscope, and the connections end
  *   any   | an entry of a second ago hasn't come     | away, both connections are made anew
  *   any   | others differ, and this is the first of its kind | tells everything again, less and less often
- *   any   | an error                                 | denied */
+ *   any   | an error                                 | denied
+ *
+ * A look by itself, without digests, comes between for marks of changes that the store held already. */
 #include "bridge.h"
 #include "clock.h"
 #include <string.h>
@@ -18,8 +20,8 @@ enum { LONGEST_REST = 32 /* comparings between two tellings of all to others tha
 
 static const uint64_t not_digested = UINT64_MAX;
 
-/* The questions of a comparing, in their order; up to two more come after them. One transaction looks at the stream
- * before anything is written, so that a replica is looked at, too. */
+/* The questions of a look, in their order, and of a comparing; up to two more come after them. One transaction looks at
+ * the stream before anything is written, so that a replica is looked at, too. */
 enum {
     ASKED_REPLICATION, ASKED_MULTI, ASKED_LOOK,
     ASKED_ENTRIES = ASKED_LOOK + LOOK_QUESTIONS, ASKED_EXEC, ASKED_DIGESTS, ASKED_CLAIM
@@ -79,6 +81,18 @@ static void ask_for_witnesses(struct ds_fleet *fleet) {
     trail_ask(&fleet->reading.trail);
 }
 
+static void ask_for_look(struct ds_fleet *fleet) {
+    struct link *teller = &fleet->server.teller;
+    fleet->comparing.asked = fleet->reading.last;
+    fleet->looking.asked++;
+    fleet->looking.gathered = fleet->items.gathered;
+    link_ask(teller, "INFO replication");
+    link_ask(teller, "MULTI");
+    look_ask(teller, fleet->stream);
+    ask_for_witnesses(fleet);
+    link_ask(teller, "EXEC");
+}
+
 static bool is_comparing_due(const struct ds_fleet *fleet) {
     return bridge_is_at_end(fleet) && clock_now() >= fleet->comparing.due_at;
 }
@@ -88,17 +102,13 @@ static enum ds_fleet_word ask_to_compare(struct ds_fleet *fleet) {
     struct link *teller = &fleet->server.teller;
     char digest[DIGEST_TEXT];
     /* Whether no entry came since the comparing before. */
-    bool is_at_rest = is_same_entry(comparing->asked, fleet->reading.last);
+    bool is_at_rest = is_same_entry(comparing->compared, fleet->reading.last);
     comparing->due_at = clock_now() + PERIOD;
     enum ds_fleet_word word = items_retry(&fleet->items);
     if (word == DS_FLEET_INSTEP && is_at_rest) word = keep_digest(fleet);
     if (word != DS_FLEET_INSTEP) return word;
-    comparing->asked = fleet->reading.last;
-    link_ask(teller, "INFO replication");
-    link_ask(teller, "MULTI");
-    look_ask(teller, fleet->stream);
-    ask_for_witnesses(fleet);
-    link_ask(teller, "EXEC");
+    comparing->compared = fleet->reading.last;
+    ask_for_look(fleet);
     link_ask(teller, "HGETALL %s:digests", fleet->stream);
     link_ask(teller, "HSETNX %s:snapshot scope %s", fleet->stream, fleet->scope); /* somebody may have deleted it */
     const char *gone = peers_gone(&comparing->peers);
@@ -144,7 +154,7 @@ static void look_for_loss(struct ds_fleet *fleet, const struct stock *stock, boo
  * error. */
 static bool is_deaf(const struct ds_fleet *fleet) {
     if (fleet->reading.state != READING_END) return false;
-    return is_above(fleet->comparing.stock.newest, fleet->reading.last) && clock_now() > fleet->server.listener.heard + PERIOD;
+    return is_above(fleet->comparing.newest, fleet->reading.last) && clock_now() > fleet->server.listener.heard + PERIOD;
 }
 
 /* Looks at the answers to what was asked in one transaction. */
@@ -153,13 +163,49 @@ static enum ds_fleet_word look_at_stream(struct ds_fleet *fleet, struct redisRep
     enum ds_fleet_word word = bridge_look(fleet, looked, &stock);
     if (word != DS_FLEET_INSTEP) return word;
     if (is_error(looked[LOOKED_ENTRIES])) return server_denied(fleet, looked[LOOKED_ENTRIES]);
-    if (is_deaf(fleet)) return server_went(fleet, "what was there a second ago didn't come");
     bool has_less = server_changed_history(&fleet->server, replication);
     has_less |= lacks_witness(&fleet->comparing, looked[LOOKED_ENTRIES], &stock);
     look_for_loss(fleet, &stock, has_less);
     const redisReply *scope = looked[LOOK_SNAPSHOT]->element[LOOK_SCOPE];
     return server_has_other_scope(fleet, scope) ? server_refuse_scope(fleet, scope) : DS_FLEET_INSTEP;
 }
+
+/* Looks at the answers to a look. One that finds no loss while nothing is owed counts, unless an earlier one still waits
+ * for what was gathered before it. */
+static enum ds_fleet_word look_answered_well(struct ds_fleet *fleet) {
+    struct looking *looking = &fleet->looking;
+    struct redisReply **answers = fleet->server.teller.answers, *looked = answers[ASKED_EXEC];
+    const redisReply *error = error_of(answers, ASKED_DIGESTS);
+    if (error) return server_denied(fleet, error);
+    if (!is_list_of(looked, LOOKED_AT)) return server_puzzles(fleet, "no transaction");
+    enum ds_fleet_word word = look_at_stream(fleet, looked->element, answers[ASKED_REPLICATION]);
+    if (word != DS_FLEET_INSTEP || fleet->telling.owes_all) return word;
+    if (looking->good && fleet->telling.told >= looking->good_at) looking->seen = looking->good;
+    if (looking->good > looking->seen) return word;
+    looking->good = looking->asked;
+    looking->good_at = looking->gathered;
+    return word;
+}
+
+uint64_t looking_mark(struct looking *looking) { return looking->wanted = looking->asked + 1; }
+
+bool looking_has_seen(const struct looking *looking, uint64_t look, uint64_t told) {
+    return looking->seen >= look || (looking->good >= look && told >= looking->good_at);
+}
+
+static bool is_look_due(const struct ds_fleet *fleet) {
+    const struct looking *looking = &fleet->looking;
+    if (looking->wanted <= looking->seen || looking->wanted <= looking->good) return false;
+    bool waits = looking->good > looking->seen && fleet->telling.told < looking->good_at;
+    return !waits && !fleet->telling.owes_all && bridge_is_at_end(fleet);
+}
+
+static enum ds_fleet_word ask_to_look(struct ds_fleet *fleet) {
+    ask_for_look(fleet);
+    return DS_FLEET_INSTEP;
+}
+
+const struct round looking_round = {is_look_due, ask_to_look, look_answered_well};
 
 /* ---- what others hold ---- */
 
@@ -185,13 +231,12 @@ static void judge_peers(struct ds_fleet *fleet, const redisReply *digests) {
 
 static enum ds_fleet_word comparing_answered(struct ds_fleet *fleet) {
     struct link *teller = &fleet->server.teller;
-    struct redisReply **answers = teller->answers, *looked = answers[ASKED_EXEC], *digests = answers[ASKED_DIGESTS];
-    const redisReply *error = error_of(answers, ASKED_DIGESTS);
-    if (error) return server_denied(fleet, error);
-    if (!is_list_of(looked, LOOKED_AT)) return server_puzzles(fleet, "no transaction");
-    enum ds_fleet_word word = look_at_stream(fleet, looked->element, answers[ASKED_REPLICATION]);
+    struct redisReply **answers = teller->answers, *digests = answers[ASKED_DIGESTS];
+    if (is_deaf(fleet)) return server_went(fleet, "what was there a second ago didn't come");
+    enum ds_fleet_word word = look_answered_well(fleet);
     if (word != DS_FLEET_INSTEP) return word;
-    error = error_of(answers + ASKED_DIGESTS, teller->came - ASKED_DIGESTS);
+    fleet->comparing.newest = fleet->comparing.stock.newest;
+    const redisReply *error = error_of(answers + ASKED_DIGESTS, teller->came - ASKED_DIGESTS);
     if (error) return server_denied(fleet, error);
     if (digests->type == REDIS_REPLY_ARRAY) judge_peers(fleet, digests);
     fleet->server.pause = 0;
@@ -204,7 +249,8 @@ static enum ds_fleet_word comparing_answered(struct ds_fleet *fleet) {
 const struct round comparing_round = {is_comparing_due, ask_to_compare, comparing_answered};
 
 void comparing_begin_anew(struct comparing *comparing, const struct stock *stock) {
-    comparing->asked = NO_ENTRY;
+    comparing->asked = comparing->compared = NO_ENTRY;
+    comparing->newest = stock->newest;
     comparing->stock = *stock;
     comparing->digested = not_digested;
     peers_forget_own(&comparing->peers);

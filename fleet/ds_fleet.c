@@ -22,6 +22,9 @@ enum {
     NANOSECONDS = 1000000 /* of one millisecond */
 };
 
+/* The marks that wait for a look have this bit, and its number. */
+static const uint64_t of_look = 1ULL << 63;
+
 /* ---- the teller and the listener ---- */
 
 bool bridge_is_at_end(const struct ds_fleet *fleet) { return fleet->reading.state == READING_END; }
@@ -49,6 +52,7 @@ void bridge_begin_anew(struct ds_fleet *fleet, const struct stock *stock) {
     fleet->reading.read_up_to = fleet->compacting.written = NO_ENTRY;
     fleet->telling.trail = fleet->reading.trail = (struct trail){.sure = NO_ENTRY};
     comparing_begin_anew(&fleet->comparing, stock);
+    fleet->looking.good = 0;
 }
 
 /* Ends the teller's round. Compacting may have asked the next one already, and a connection that went has none. */
@@ -83,8 +87,8 @@ static enum ds_fleet_word gather(struct ds_fleet *fleet) {
 
 /* Asks the first of the teller's rounds that is due. LATE: there is one. */
 static enum ds_fleet_word ask_next(struct ds_fleet *fleet) {
-    static const struct round *const rounds[] = {&meeting_round, &fetching_round, &comparing_round, &compacting_round,
-                                                 &telling_round};
+    static const struct round *const rounds[] = {&meeting_round,    &fetching_round, &comparing_round,
+                                                 &compacting_round, &looking_round,  &telling_round};
     if (clock_now() < fleet->server.ask_at) return DS_FLEET_DENIED;
     enum ds_fleet_word word = limit_untold(fleet);
     if (word == DS_FLEET_INSTEP) word = gather_owed(fleet);
@@ -254,7 +258,12 @@ uint64_t ds_fleet_mark(struct ds_fleet *fleet) {
     return fleet->items.gathered + 1;
 }
 
-bool ds_fleet_is_told(const struct ds_fleet *fleet, uint64_t mark) { return mark && fleet->telling.told + 1 >= mark; }
+uint64_t ds_fleet_mark_held(struct ds_fleet *fleet) { return ds_fleet_mark(fleet) ? of_look | looking_mark(&fleet->looking) : 0; }
+
+bool ds_fleet_is_told(const struct ds_fleet *fleet, uint64_t mark) {
+    if (mark & of_look) return looking_has_seen(&fleet->looking, mark & ~of_look, fleet->telling.told);
+    return mark && fleet->telling.told + 1 >= mark;
+}
 
 void ds_fleet_owed(struct ds_fleet *fleet, uint8_t owed[16]) {
     for (size_t i = 0; i < sizeof fleet->items.owed; i++) owed[i] |= fleet->items.owed[i];

@@ -88,6 +88,9 @@ int ds_fleet_bell(const struct ds_fleet *fleet);
 
 /* Returns a mark past everything that has taken effect in the store so far; 0 if memory runs out, or no store is open. */
 uint64_t ds_fleet_mark(struct ds_fleet *fleet);
+/* Returns such a mark for an answer by which the store held a change already, such as `known`. It also waits for a look at the stream
+ * that begins after this call: the server may have lost that change. 0 as above. */
+uint64_t ds_fleet_mark_held(struct ds_fleet *fleet);
 /* Returns whether the server has acknowledged everything before the mark, so that it is in the stream and, with
  * `replicas`, that many have it. So one client may get its answer while others still change the store. */
 bool ds_fleet_is_told(const struct ds_fleet *fleet, uint64_t mark);

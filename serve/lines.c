@@ -84,6 +84,7 @@ enum lines_word lines_answer(struct ds_handle *store, const char *line, size_t l
     if (answer.word == DS_BADLINE) return LINES_BAD;
     if (answer.word == DS_NOREQUEST) return LINES_NOREQUEST;
     said->holds = answer.word == DS_CHANGED || answer.word == DS_KNOWN || answer.word == DS_SWEPT || answer.word == DS_MERGED;
+    said->was_held = answer.word == DS_KNOWN || (answer.word == DS_SWEPT && !answer.count) || (answer.word == DS_MERGED && !answer.taken);
     memcpy(said->owed, answer.owed, sizeof said->owed);
     return text ? lines_fetch(store, text) : LINES_ANSWERED;
 }

@@ -28,8 +28,8 @@ bool read_endpoint(const char *bytes, size_t length, uint32_t *generation, uint1
 enum lines_word { LINES_ANSWERED, LINES_BAD, LINES_NOREQUEST, LINES_NOROOM };
 
 /* More on a line that was answered. place: the byte at which a bad line can't be read. holds: the answer says that a
- * change is held, so the stream has to have it first. owed: the bits of subscriptions that are owed a notice. */
-struct lines_said { uint64_t place; bool holds; uint8_t owed[16]; };
+ * change is held, so the stream has to have it first. was_held: it was held before this line. owed: the bits of subscriptions that are owed a notice. */
+struct lines_said { uint64_t place; bool holds, was_held; uint8_t owed[16]; };
 
 /* Carries out the command of a line, given without its newline, and puts the lines of its answer after the text,
  * which is unchanged where it isn't LINES_ANSWERED. Where text is NULL, the answer is left out. */

@@ -4,6 +4,7 @@ import time
 
 from fleets import until
 from scenes import number, numbers, offer, shows
+from state_scenes import in_step
 from scripted import Scripted
 
 SLOWLY = 0.5  # seconds between two bytes of a server that trickles
@@ -18,6 +19,36 @@ def what_was_refused_is_lost(fleet, draw):
     time.sleep(1.2)  # so that it has looked
     fleet.ask("FLUSHALL")
     until(lambda: {number("k", 1, 1).encode(), theirs.encode()} <= set(fleet.told()), "both are sent again", 5)
+
+
+def known_after_a_look(fleet, draw):
+    """A change that the store held already is answered once a look that began later shows that the server has it."""
+    script, line = fleet.adopt(Scripted(fleet.port)), number("a", 1, 1)
+    bridge = fleet.start(url=script.url())
+    offer(bridge, line, "! e 3")
+    repeated = {f"offer {line}": (["known"], line), "sweep 0/2 e 3": (["swept 0"], "! e 3")}
+    with bridge.client() as client:
+        for at in range(6):
+            said, (wanted, kept) = draw.choice(list(repeated.items()))
+            fleet.ask("FLUSHALL")
+            assert client.ask(said) == wanted
+            assert kept.encode() in fleet.told(), f"after {at} losses: {wanted} is answered, and the server lacks it"
+
+        def loses_after_the_look(raw):
+            fleet.ask("FLUSHALL")
+            client.send(f"offer {line}")
+            time.sleep(0.2)
+            return raw
+
+        in_step(bridge)
+        script.script("EXEC", loses_after_the_look)
+        assert client.answer() == ["known"]
+        assert line.encode() in fleet.told(), "a look that began before it counts"
+        fleet.kill_server()
+        client.send(f"offer {line}")
+        assert not client.has_answer(1.5), "it is answered without a server"
+        fleet.start_server()
+        assert client.answer() == ["known"]
 
 
 def three_owners_of_a_key(fleet, draw):
