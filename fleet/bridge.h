@@ -136,14 +136,14 @@ struct looking {
     uint64_t asked;    /* the last look that was asked, */
     uint64_t gathered; /* and bytes that had been gathered then */
     uint64_t wanted;   /* the last look for which a mark waits */
-    uint64_t good;     /* a look that found no loss, and that counts once these bytes are told: 0: none */
-    uint64_t good_at;
+    uint64_t good;     /* a look that found no loss, 0: none; it counts once the server acknowledged, */
+    uint64_t good_at;  /* this many of all bytes gathered */
     uint64_t seen;     /* the last look that counts */
 };
 
 /* Returns the number of a look that isn't asked yet. */
 uint64_t looking_mark(struct looking *looking);
-/* Whether this look, or a later one, found no loss, and what was gathered before it is told. */
+/* Whether this look, or a later one, found no loss, and the server acknowledged what was gathered before it. */
 bool looking_has_seen(const struct looking *looking, uint64_t look, uint64_t told);
 
 /* ---- comparing ---- */
