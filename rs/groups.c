@@ -1,9 +1,12 @@
 /* The groups of instances whose first process has ended. See groups.h. */
 #include "groups.h"
+#include "clock.h"
 #include "proc.h"
 #include <signal.h>
 #include <sys/wait.h>
 #include <unistd.h>
+
+enum { DYING = 2 * SECOND /* that a killed process may take to die */ };
 
 /* Notes that every first process that has ended is alone, or that none is. Returns whether one has ended. */
 static bool note_alone(struct instances *all, bool is_alone) {
@@ -45,40 +48,51 @@ static bool is_first(const struct instances *all, pid_t child) {
     return false;
 }
 
-/* Kills what left the groups that are empty now. A child that is dying may be of any of them. */
-static void kill_left(struct instances *all, const struct text *numbers) {
+/* A child that is dying has no environment any more. It may be one that was killed here a moment ago. Returns whether it may. */
+static bool note_dying(struct instances *all) {
+    bool found = false;
+    for (struct instance *it = all->first; it; it = it->next) {
+        bool may_be = it->is_over && it->stray_at && clock_now() < it->stray_at + DYING;
+        it->is_alone &= !may_be;
+        found |= may_be;
+    }
+    return found;
+}
+
+/* Kills what left the groups that are empty now. Returns whether some of that may be dying. */
+static bool kill_left(struct instances *all, const struct text *numbers) {
     struct proc_seen seen;
     size_t at = 0;
+    bool is_dying = false;
     for (pid_t child; proc_next(numbers, &at, &child);) {
         if (is_first(all, child) || !proc_look(child, &seen) || seen.state == 'Z') continue;
-        if (!seen.has_memory) {
-            note_alone(all, false);
-            return;
-        }
-        struct instance *it = left_alone(all, child);
+        struct instance *it = seen.has_memory ? left_alone(all, child) : NULL;
+        if (!seen.has_memory) is_dying |= note_dying(all);
         if (!it || kill(child, SIGKILL)) continue;
         events_tell(all->events, LOG_WARN, "stray: pid %d is killed", child);
         it->is_alone = false;
+        it->stray_at = clock_now();
     }
+    return is_dying;
 }
 
 /* Children of what is reaped here became children of dsrs when it ended, maybe after the listing: then the groups are looked at once more. */
 bool groups_look(struct instances *all) {
-    bool is_listed = true, again = note_alone(all, true);
+    bool is_done = true, again = note_alone(all, true);
     while (again) {
         struct text numbers = {0};
         size_t at = 0;
         again = false;
-        is_listed = proc_children(&numbers);
-        note_alone(all, is_listed);
+        is_done = proc_children(&numbers);
+        note_alone(all, is_done);
         for (pid_t child; proc_next(&numbers, &at, &child);) {
             struct instance *it = left_beside(all, child);
             if (!it) continue;
             it->is_alone = false;
-            again |= is_listed && reap(child);
+            again |= is_done && reap(child);
         }
-        if (!again) kill_left(all, &numbers);
+        if (!again && kill_left(all, &numbers)) is_done = false;
         text_free(&numbers);
     }
-    return is_listed;
+    return is_done;
 }

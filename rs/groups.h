@@ -6,8 +6,8 @@
 #include "instances.h"
 
 /* Reaps what has ended in these groups, but for the first processes, and notes which of them are alone. Once nothing else is in the group,
- * what left it, and is a child of dsrs by now, is killed, and the first process isn't alone before its end. Returns false if the
- * children of dsrs can't be listed now. */
+ * what left it, and is a child of dsrs by now, is killed, and the first process isn't alone before its end. Returns false if the groups are
+ * to be looked at again soon, since the children of dsrs can't be listed now, or one is dying. */
 bool groups_look(struct instances *all);
 
 #endif

@@ -241,7 +241,7 @@ static void sweep(struct instances *all) {
     all->sweep_at = strays_kill(all) ? all->swept_at + SWEEP_EACH : 0;
 }
 
-/* Of a start that waits for an older instance's end, the beginning isn't due by the clock. */
+/* Whether a start that waits has what it waits for, or may look for it again. */
 static bool may_begin(const struct instances *all, const struct instance *it) {
     return it->state == INSTANCE_WAITS && clock_now() >= it->again_at && !is_something_left(all, it->service);
 }

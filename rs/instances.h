@@ -34,6 +34,7 @@ struct instance {
     pid_t pid;            /* of its first process, and of its group; 0 before it begins. Nobody else has the number while it isn't reaped */
     bool is_over;         /* its first process has ended. It is reaped once nothing else is in its group */
     bool is_alone;        /* the last look found nothing else there */
+    uint64_t stray_at;    /* when a process that had left the group was killed last, by clock_now; or 0 */
     int socket, theirs;   /* dsrs' end of the pair of sockets, until a peer has it; the end of the process, until that begins */
     int cgroup;           /* its own, or -1 */
     int listener;         /* where others connect to the instance */
