@@ -1,12 +1,12 @@
 /* The instances of services. See instances.h. */
 #include "instances.h"
 #include "clock.h"
+#include "descriptors.h"
 #include "endpoints.h"
 #include "groups.h"
 #include "process.h"
 #include "strays.h"
 #include <errno.h>
-#include <fcntl.h>
 #include <signal.h>
 #include <stdio.h>
 #include <stdlib.h>
@@ -17,22 +17,12 @@
 #include <unistd.h>
 
 enum {
-    DESCRIPTORS = 5 + 8,                /* that a start may take, and that are left for clients */
+    DESCRIPTORS = 5,                    /* that a start may take */
     SWEEP_EACH = 500, AGAIN = 10,       /* milliseconds */
     PAUSE_FIRST = 100, PAUSE_MOST = 800 /* milliseconds until a start for which something was short is tried again */
 };
 
 /* ---- its beginning ---- */
-
-/* Whether there are descriptors for a start, and some more. Returns false, with errno. */
-static bool has_descriptors(void) {
-    int spare[DESCRIPTORS], count = 0;
-    while (count < DESCRIPTORS && (spare[count] = fcntl(STDIN_FILENO, F_DUPFD_CLOEXEC, 0)) >= 0) count++;
-    int error = errno;
-    for (int i = 0; i < count; i++) close(spare[i]);
-    errno = error;
-    return count == DESCRIPTORS;
-}
 
 static void name_cgroup(const struct instance *it, char name[ENDPOINT]) { snprintf(name, ENDPOINT, "%u.%u", it->generation, it->slot); }
 
@@ -48,7 +38,7 @@ static bool open_cgroup(const struct instances *all, struct instance *it) {
 /* Returns false, with errno, and then no process began. */
 static bool begin_process(struct instances *all, struct instance *it) {
     int pidfd;
-    if (!has_descriptors()) return false;
+    if (!descriptors_are_there(DESCRIPTORS)) return false;
     if (it->listener < 0 && !endpoints_open(all, it)) return false;
     if (it->cgroup < 0 && !open_cgroup(all, it)) return false;
     uint64_t silence = 2 * (uint64_t)it->service->settings.period * all->tick * 1000; /* RS takes it for dead after two periods */

@@ -1,6 +1,7 @@
 /* What services print. See output.h. */
 #include "output.h"
 #include "clock.h"
+#include "descriptors.h"
 #include <fcntl.h>
 #include <poll.h>
 #include <string.h>
@@ -11,7 +12,7 @@
 void output_open(struct output *output, int epoll, bool has_logger) {
     int ends[2];
     *output = (struct output){.from.file = -1, .to = -1};
-    if (pipe2(ends, O_CLOEXEC)) return;
+    if (!descriptors_are_there(2) || pipe2(ends, O_CLOEXEC)) return;
     *output = (struct output){.from.file = ends[0], .to = ends[1], .is_read = !has_logger};
     if (has_logger || (!fcntl(ends[0], F_SETFL, O_NONBLOCK) && watch_open(&output->from, epoll, ends[0], EPOLLIN))) return;
     close(ends[0]);

@@ -157,6 +157,21 @@ def few_descriptors(host):
     host.end()
 
 
+@scene
+def descriptors_for_lines_are_looked_for_again(host):
+    """A service for whose pipe there were no descriptors gets one when it is started again."""
+    host.words = ["prlimit", "--nofile=28:200", *host.words]
+    host.start({f"s{i:02}": ({}, "#!/bin/sh\necho prints\nexec sleep 1000\n") for i in range(12)})
+    host.logged("short s11")
+    equal({it[0] for it in host.status().values()}, {"wants"})
+    resource.prlimit(host.process.pid, resource.RLIMIT_NOFILE, (200, 200))
+    host.logged("began s11")
+    until(lambda: "\nprints\n" in host.log(), "it prints to the standard error of the supervisor")
+    host.ask("service refresh s11")
+    until(lambda: "\ns11: prints\n" in host.log(), "it prints to a pipe")
+    host.end()
+
+
 # ---- a number that comes again ----
 
 # In a namespace of its own: gives each number that is freed at once to the next process, and prints how long the supervisor takes to end.
