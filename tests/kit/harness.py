@@ -20,7 +20,6 @@ BAD_TRACE = re.compile(rb"(?:illegal|badline) (\d+)\n")  # the whole output for 
 TOLD = b"dsctl: "  # the beginning of each sentence on standard error
 WRONG_LINE = rb"dsctl: line %s(?:, byte \d+)?: "  # the beginning of the sentence about a trace; it names a byte if part of the line is bad
 WORD = re.compile(rb"badline (\d+) (\d+)\n")  # the first line of standard error if commands to record can't be read
-FAILED = re.compile(rb"(?:noroom|readfault|writefault)\n")  # likewise, with status 3
 SECONDS = 120  # the longest that one run may take, even on a busy machine
 
 
@@ -167,15 +166,12 @@ def fault(case, ran):
 
 def untold(error, wanted):
     """Returns how standard error differs from what is wanted, or None. A wanted word with a line and a byte must be followed by a sentence
-    about that place. A wanted word of status 3 may be followed by one about the reason."""
+    about that place. A wanted word of status 3 comes alone."""
     word = WORD.fullmatch(wanted)
     if word:
         place = b"dsctl: line %s, byte %s: " % (word[1], word[2])
         is_right = error.startswith(wanted) and re.fullmatch(place + rb".*\n", error[len(wanted) :])
         return None if is_right else f"standard error is {error[:200]!r}, wanted {wanted!r} and a sentence"
-    if FAILED.fullmatch(wanted):
-        is_right = error.startswith(wanted) and re.fullmatch(rb"(dsctl: .*\n)?", error[len(wanted) :])
-        return None if is_right else f"standard error is {error[:200]!r}, wanted {wanted!r}"
     wrong = difference(error, wanted)
     return wrong and f"standard error: {wrong}"
 
@@ -195,8 +191,8 @@ def unexplained(output, error, has_notes=False):
 
 
 def named(ran, word, has_notes=False):
-    """Returns whether a run ended with status 3 and the word, after the sentences about bad lines. One about the reason may follow."""
-    found = re.fullmatch(rb"(.*?)" + re.escape(word) + rb"(?:dsctl: the [^:]*: .*\n)?", ran.error, re.DOTALL)
+    """Returns whether a run ended with status 3 and the word, after the sentences about bad lines."""
+    found = re.fullmatch(rb"(.*)" + re.escape(word), ran.error, re.DOTALL)
     if ran.status != 3 or not found:
         return False
     is_before_any = BAD_SETTINGS.fullmatch(ran.output) and not found[1]  # memory ran out before the settings were explained

@@ -3,7 +3,7 @@
 //! The program is thin: `dsctl_cli` parses the command line and has the prompt; `ds_script`, `rs_settings`,
 //! `trace_check`, `trace_record` and `ds_live` do the work; `ds_explain` explains bad lines. This crate prints
 //! settings, verdicts and reports and chooses the exit status. 0: done. 1: refused input. 2: usage. 3: memory, reading,
-//! writing or a run of threads failed, and standard error says which. 141: the reader of the answers went away.
+//! writing or a run of threads failed, and standard error says which.
 #![tactic(auto)]
 
 mod live;
@@ -29,7 +29,7 @@ fn main(rt: HostRuntime) -> ExitCode {
     match run(&rt, terminals) {
         Ok(status) => status,
         Err(failure) => {
-            failure.tell(&rt);
+            failure.tell(&rt, terminals);
             failure.status()
         }
     }

@@ -86,10 +86,10 @@ Exit status:
      is printed, and standard error says what was expected there. `dsctl record`
      and `dsctl upgrade`, which print a trace, report it on standard error only
   2  the command line is wrong, or the file can't be opened
-  3  memory, reading or writing failed: standard error has `noroom`, `readfault`
-     or `writefault`, and the system's reason; or `dsctl live` failed, with a
-     word that its help lists
-  141  the reader of the answers went away";
+  3  memory, reading or writing failed, also where the reader of the answers
+     went away: standard error has `noroom`, `readfault` or `writefault`, and
+     at a terminal the system's reason; or `dsctl live` failed, with a word
+     that its help lists";
 
 pub(crate) const KEEP_GOING_ABOUT: &str = "Continue after a bad line; status 1 at the end";
 

@@ -249,20 +249,22 @@ def greets_who_types_commands(program):
 
 
 def says_why(program):
-    """The system's reason follows `readfault` and `writefault`, at a terminal and elsewhere; nothing is printed for a reader that went away."""
+    """At a terminal the system's reason follows `readfault` and `writefault`; elsewhere the word comes alone."""
     unread = b"readfault\ndsctl: the input can't be read: Is a directory (os error 21)\n"
-    unwritten = b"writefault\ndsctl: the answers can't be written: No space left on device (os error 28)\n"
-    for word in ("", "settings", "verify", "upgrade", "record"):
-        seen = told_at_a_terminal(program, ["sh", "-c", f'"$0" {word} < /'])
-        assert seen == unread, seen
-        ran = harness.run(["sh", "-c", f'"$0" {word} < /', program], b"")
-        assert (ran.status, ran.error) == (3, unread), f"{ran}"
-    seen = told_at_a_terminal(program, ["sh", "-c", 'echo show | "$0" > /dev/full'])
-    assert seen == unwritten, seen
-    ran = harness.run(["sh", "-c", 'echo show | "$0" > /dev/full', program], b"")
-    assert (ran.status, ran.error) == (3, unwritten), f"{ran}"
-    seen = told_at_a_terminal(program, ["sh", "-c", '(sleep 0.3; echo show; echo show) | "$0" | true'])
-    assert seen == b"", seen
+    full = b"writefault\ndsctl: the answers can't be written: No space left on device (os error 28)\n"
+    gone = b"writefault\ndsctl: the answers can't be written: Broken pipe (os error 32)\n"
+    failing = [(f'"$0" {word} < /', unread) for word in ("", "settings", "verify", "upgrade", "record")]
+    failing += [('echo show | "$0" > /dev/full', full), ('"$0" --help > /dev/full', full)]
+    for line, wanted in failing:
+        seen = told_at_a_terminal(program, ["sh", "-c", line])
+        assert seen == wanted, f"{line}: {seen}"
+        ran = harness.run(["sh", "-c", line, program], b"")
+        assert (ran.status, ran.error) == (3, wanted.split(b"dsctl")[0]), f"{line}: {ran}"
+    line = '(sleep 0.3; echo show; echo show) | "$0" | true'
+    seen = told_at_a_terminal(program, ["sh", "-c", line])
+    assert seen == gone, f"{line}: {seen}"
+    ran = harness.run(["sh", "-c", line, program], b"")
+    assert ran.error == b"writefault\n", f"{line}: {ran}"
 
 
 def told_at_a_terminal(program, words):

@@ -156,13 +156,13 @@ def a_writer_that_is_full(program):
 
 
 def a_writer_that_is_gone(program):
-    """A pipe whose reader has gone ends the program, with the status that a shell gives the signal, but without a signal or a message."""
+    """A pipe whose reader has gone is a write that failed: `writefault` alone, and no signal ends the program."""
     for script in (PUT + b"\n", PUT + b"\nbad\n", b"show\n" * 100000):
         reading, writing = os.pipe()
         os.close(reading)
         started = begin(program, stdout=writing)
         os.close(writing)
-        expect(end(started, script), None, 141, b"")
+        expect(end(started, script), None, 3, b"writefault\n")
 
 
 def a_writer_that_goes(program):
@@ -173,7 +173,7 @@ def a_writer_that_goes(program):
     started.stdout.close()
     started.stdout = None
     started.stdin.write(PUT + b"\n")
-    expect(end(started), None, 141, b"")
+    expect(end(started), None, 3, b"writefault\n")
 
 
 def a_writer_that_is_closed(program):
