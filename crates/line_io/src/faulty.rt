@@ -1,6 +1,6 @@
 //! A reader and a writer for tests. Each works in memory and can fail at one call.
 
-ghost use Rattle.std.specs.Prelude.{◌≡◌, ◌≢◌, ◌+◌, ◌%◌, ◌^◌, [], Some};
+ghost use Rattle.std.specs.Prelude.{◌≡◌, ◌≢◌, ◌<◌, ◌+◌, ◌%◌, ◌^◌, [], Some, length};
 
 use crate::missed::Missed;
 use crate::streams::{Sink, Source};
@@ -97,7 +97,10 @@ impl FailWrite {
 impl Sink for FailWrite {
     ghost contents = { λ w. Some w.written.items };
 
-    ghost writes = { λ s t. (t.calls ≡ (s.calls + 1) % 2 ^ 32) × (t.fail_at ≡ s.fail_at) × (t.calls ≢ s.fail_at) };
+    ghost writes = { λ s t. (t.calls ≡ (s.calls + 1) % 2 ^ 32) × (t.fail_at ≡ s.fail_at) × (t.calls ≢ s.fail_at)
+        × (length s.written.items < length t.written.items) };
+
+    ghost fails = { λ s t. (t.calls ≡ (s.calls + 1) % 2 ^ 32) × (t.fail_at ≡ s.fail_at) × (t.written.items ≡ s.written.items) };
 
     fn write(&mut self, buf: &[u8]) -> Result<usize, Missed> {
         self.calls = self.calls.wrapping_add(1);

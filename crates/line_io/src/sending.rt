@@ -2,7 +2,7 @@
 
 ghost use Rattle.std.specs.Prelude.{◌≡◌, [], OnOk, OnErr};
 ghost use Rattle.std.specs.Io.KnownBytes.{Appends};
-ghost use Rattle.line_io.specs.Streams.{HasFailedWrite};
+ghost use Rattle.line_io.specs.Streams.{HasFailedWrite, OnlyCalls};
 ghost use Rattle.line_io.specs.Transfer.{WritesPart, SendsFront};
 
 use crate::streams::Sink;
@@ -15,7 +15,8 @@ const FULL: usize = 65536;
 pub fn send_full<W: Sink>(writer: &mut W, output: &mut Vec<u8>) -> Result<(), WriteFailed>
     ensures ok { OnOk result (SendsFront (W.contents writer.old) (W.contents writer.new) output.old.items output.new.items) }
     ensures err { OnErr result (WritesPart (W.contents writer.old) (W.contents writer.new) output.old.items) }
-    ensures cause { OnErr result (HasFailedWrite W.writes W.fails writer.new) }
+    ensures led { OnOk result (OnlyCalls W.writes writer.old writer.new) }
+    ensures cause { OnErr result (HasFailedWrite W.writes W.fails writer.old writer.new) }
 {
     if output.len() < FULL {
         return Ok(());
@@ -30,7 +31,8 @@ pub fn send_full<W: Sink>(writer: &mut W, output: &mut Vec<u8>) -> Result<(), Wr
 pub fn send<W: Sink>(writer: &mut W, output: &mut Vec<u8>) -> Result<(), WriteFailed>
     ensures ok { OnOk result (Appends (W.contents writer.old) (W.contents writer.new) output.old.items × (output.new.items ≡ [])) }
     ensures err { OnErr result (WritesPart (W.contents writer.old) (W.contents writer.new) output.old.items) }
-    ensures cause { OnErr result (HasFailedWrite W.writes W.fails writer.new) }
+    ensures led { OnOk result (OnlyCalls W.writes writer.old writer.new) }
+    ensures cause { OnErr result (HasFailedWrite W.writes W.fails writer.old writer.new) }
 {
     match write_out(writer, output.as_slice()) {
         Ok(()) => {

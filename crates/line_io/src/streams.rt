@@ -1,9 +1,9 @@
 //! Sources of lines, and sinks of texts.
 
-ghost use Rattle.std.specs.Prelude.{ℕ, List, Option, None};
+ghost use Rattle.std.specs.Prelude.{◌≡◌, ℕ, List, Option, None};
 ghost use Rattle.std.specs.Io.{ReadsAtMost, WritesAtMost};
 ghost use Rattle.std.specs.Io.KnownBytes.{ReadConsumes, WriteAppends};
-ghost use Rattle.line_io.specs.Streams.{TellsRead, TellsWrite};
+ghost use Rattle.line_io.specs.Streams.{TellsRead, TellsWrite, IsUnharmed, IsHarmed, MeansMissed};
 
 use crate::missed::Missed;
 use std::io::{self, ErrorKind, Read, Write};
@@ -44,34 +44,75 @@ pub trait Sink {
         ensures told { TellsWrite writes fails result self.old self.new };
 }
 
-/// A reader or a writer of `std`. It states its bytes if the inner one does, and nothing about failures.
+/// A reader or a writer of `std`, with the error of its last call. It states its bytes if the inner one does. A call
+/// fails if its error is any but an interruption by a signal; a write also if it takes no bytes.
 #[derive(Drop)]
-pub struct Plain<T>(pub T);
+pub struct Plain<T> {
+    pub inner: T,
+    /// The error of the last call, or `None` if it had none. A write that took no bytes has the error WriteZero.
+    pub fault: Option<io::Error>,
+}
+
+impl<T> Plain<T> {
+    /// Returns the reader or writer before any call.
+    pub fn new(inner: T) -> Plain<T>
+        ensures inner { result.inner ≡ inner }
+        ensures fault { result.fault ≡ None }
+    {
+        Plain { inner, fault: None }
+    }
+}
 
 impl<R: Read> Source for Plain<R> {
-    ghost remaining = { λ p. R.remaining p.0 };
+    ghost remaining = { λ p. R.remaining p.inner };
+
+    ghost reads = { λ old new. IsUnharmed new.fault };
+
+    ghost fails = { λ old new. IsHarmed new.fault };
 
     fn read(&mut self, buf: &mut [u8]) -> Result<usize, Missed> {
-        match self.0.read(buf) {
-            Ok(count) => Ok(count),
-            Err(fault) => Err(missed(&fault)),
+        match self.inner.read(buf) {
+            Ok(count) => {
+                self.fault = None;
+                Ok(count)
+            }
+            Err(fault) => {
+                self.fault = Some(fault);
+                Err(missed(&fault))
+            }
         }
     }
 }
 
 impl<W: Write> Sink for Plain<W> {
-    ghost contents = { λ p. W.contents p.0 };
+    ghost contents = { λ p. W.contents p.inner };
+
+    ghost writes = { λ old new. IsUnharmed new.fault };
+
+    ghost fails = { λ old new. IsHarmed new.fault };
 
     fn write(&mut self, buf: &[u8]) -> Result<usize, Missed> {
-        match self.0.write(buf) {
-            Ok(count) => Ok(count),
-            Err(fault) => Err(missed(&fault)),
+        match self.inner.write(buf) {
+            Ok(0) => {
+                self.fault = Some(io::Error::from(ErrorKind::WriteZero));
+                Ok(0)
+            }
+            Ok(count) => {
+                self.fault = None;
+                Ok(count)
+            }
+            Err(fault) => {
+                self.fault = Some(fault);
+                Err(missed(&fault))
+            }
         }
     }
 }
 
 // Returns Interrupted if a signal interrupted the call, else Failed.
-fn missed(fault: &io::Error) -> Missed {
+fn missed(fault: &io::Error) -> Missed
+    ensures { MeansMissed fault.now result }
+{
     if fault.kind() == ErrorKind::Interrupted {
         Missed::Interrupted
     } else {

@@ -2,7 +2,7 @@
 
 ghost use Rattle.std.specs.Prelude.{◌≡◌, ◌≤◌, ◌<◌, ◌+◌, [], IfOk, OnOk, OnErr, length, drop, vec_len};
 ghost use Rattle.std.specs.Io.KnownBytes.{Appends};
-ghost use Rattle.line_io.specs.Streams.{HasFailedWrite};
+ghost use Rattle.line_io.specs.Streams.{HasFailedWrite, OnlyCalls};
 ghost use Rattle.line_io.specs.Transfer.{Fills, FillsBy, WritesFront, WritesPart};
 
 use crate::missed::Missed;
@@ -50,7 +50,8 @@ pub struct WriteFailed;
 pub fn write_out<W: Sink>(writer: &mut W, text: &[u8]) -> Result<(), WriteFailed>
     ensures ok { OnOk result (Appends (W.contents writer.old) (W.contents writer.new) text.now) }
     ensures err { OnErr result (WritesPart (W.contents writer.old) (W.contents writer.new) text.now) }
-    ensures cause { OnErr result (HasFailedWrite W.writes W.fails writer.new) }
+    ensures led { OnOk result (OnlyCalls W.writes writer.old writer.new) }
+    ensures cause { OnErr result (HasFailedWrite W.writes W.fails writer.old writer.new) }
 {
     let mut rest = text;
     for _turn in 0..u64::MAX {

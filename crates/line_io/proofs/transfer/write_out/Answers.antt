@@ -22,7 +22,7 @@ loop-turn-preserved g c =
     )
 
 pub returns-in-Err-clause-cause : goal.returns-in-Err-clause-cause
-returns-in-Err-clause-cause g c = inl (c.loop-turn.writer, (c.in-Err.ensures).fails)
+returns-in-Err-clause-cause g c = (c.loop-turn._turn, inl (c.loop-turn.writer, c.loop-turn.invariant.3, (c.in-Err.ensures).fails))
 
 pub returns-clause-cause : goal.returns-clause-cause
-returns-clause-cause g c = inr (c.args.writer.now, c.loop-turn._turn, omega arith, c.loop-turn.invariant.3)
+returns-clause-cause g c = (c.loop-turn._turn, inr (omega arith, c.loop-turn.invariant.3))
