@@ -8,19 +8,10 @@ use Rattle.ds_script.specs.Causes.{HasCause}
 use Rattle.line_io.specs.declared.missed.Missed.{Missed}
 use Rattle.line_io.specs.declared.missed.Missed.TheVariants.{Interrupted, Failed}
 use Rattle.line_io.specs.Streams.{CallsLead, HasFailedRead, TellsRead}
+use Rattle.line_io.proofs.CallLemmas.{calls_on}
 use Rattle.line_io.specs.declared.streams.Source.{Ghosts as Reader}
 use Rattle.line_io.specs.declared.streams.Sink.{Ghosts as Writer}
 use Rattle.ds_script.specs.NoteCauses.{EndsReading, IsCausedBy, SomeReadsLead}
-
--- ---- reads in order
-
-calls_on : {R : Type 0} (reads : R → R → Type 0) (m n : ℕ) (old mid new : R) → CallsLead reads m old mid → CallsLead reads n mid new → CallsLead reads (n + m) old new
-calls_on {R} reads m zero old mid new led more =
-    let same : m ≡ 0 + m = omega arith in
-    subst (λ (k : ℕ). CallsLead reads k old new) same (subst (λ (x : R). CallsLead reads m old x) (sym more) led)
-calls_on reads m (suc n) old mid new led more =
-    let same : suc (n + m) ≡ suc n + m = omega arith in
-    subst (λ (k : ℕ). CallsLead reads k old new) same (more.0, calls_on reads m n old mid more.0 led more.1, more.2)
 
 -- ---- reads of what is left, over the reader `inner` of a source, whose reference has this name
 
@@ -69,13 +60,13 @@ module _ {S R N : Type 0} (inner : S → R) (name : S → N) (reads fails : R �
       ]
 
 -- The cause of a fault of the replay of what is left.
-pub inner_cause : {S R W N : Type 0} (inner : S → R) (name : S → N) (left : Reader S) (r : Reader R) (w : Writer W) (fault : ReplayFault) (old new : S) (last : R) (writer : W) →
+pub inner_cause : {S R W N : Type 0} (inner : S → R) (name : S → N) (left : Reader S) (r : Reader R) (w : Writer W) (fault : ReplayFault) (old new : S) (last : R) (from to : W) →
     left.reads ≡ LeftReads inner name r.reads r.fails → left.fails ≡ LeftFails inner name r.reads r.fails → (name new ≡ name old → inner new ≡ last) →
-    HasCause left w fault old new writer → IsCausedBy r w fault (inner old) last writer
-inner_cause inner name left r w (BadLine line place expected) old new last writer e f back c = tt
-inner_cause {S} {R} inner name left r w ReadFault old new last writer e f back c =
+    HasCause left w fault old new from to → IsCausedBy r w fault (inner old) last from to
+inner_cause inner name left r w (BadLine line place expected) old new last from to e f back c = c
+inner_cause {S} {R} inner name left r w ReadFault old new last from to e f back c =
     let failed = inner_failed inner name r.reads r.fails old new
-    (subst (λ (x : S → S → Type 0). HasFailedRead (LeftReads inner name r.reads r.fails) x old new) f (subst (λ (x : S → S → Type 0). HasFailedRead x left.fails old new) e c)) in
-    subst (λ (x : R). EndsReading (2 ^ 32) r.reads r.fails (inner old) x) (back failed.0) failed.1
-inner_cause inner name left r w WriteFault old new last writer e f back c = c
-inner_cause inner name left r w NoRoom old new last writer e f back c = tt
+    (subst (λ (x : S → S → Type 0). HasFailedRead (LeftReads inner name r.reads r.fails) x old new) f (subst (λ (x : S → S → Type 0). HasFailedRead x left.fails old new) e c.0)) in
+    (subst (λ (x : R). EndsReading (2 ^ 32) r.reads r.fails (inner old) x) (back failed.0) failed.1, c.1)
+inner_cause inner name left r w WriteFault old new last from to e f back c = c
+inner_cause inner name left r w NoRoom old new last from to e f back c = c

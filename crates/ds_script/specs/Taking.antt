@@ -5,6 +5,7 @@ use Rattle.line_io.specs.Lines.{IsUnbroken, unended, with_newline}
 use Rattle.ds_script.specs.declared.fault.ReplayFault.{ReplayFault}
 use Rattle.line_io.specs.declared.streams.Source.{Ghosts as Reader}
 use Rattle.line_io.specs.declared.streams.Sink.{Ghosts as Writer}
+use Rattle.line_io.specs.Streams.{OnlyCalls}
 use Rattle.ds_script.specs.declared.report.BadLines.{BadLines}
 use Rattle.ds_script.specs.declared.report.BadLines.TheVariants.{End, GoOn}
 use Rattle.ds_script.specs.declared.taking.Replay.{Replay}
@@ -55,35 +56,39 @@ StopsAtLast w old new pending fault =
     (to : Option (List ℕ)) → IsAtEnd to → LastStops fault to (written w old) (written w new) (reached old) pending new.output.items
 
 -- The cause of a fault where nothing is read.
-abbrev pub IsCaused : {W B : Type 0} → Writer W → Replay W B → ReplayFault → Type 0
-IsCaused w new fault = HasWriteCause w fault new.writer.now
+abbrev pub IsCaused : {W B : Type 0} → Writer W → (old new : Replay W B) → ReplayFault → Type 0
+IsCaused w old new fault = HasWriteCause w fault old.writer.now new.writer.now
+
+-- Whether no write failed on the way.
+abbrev pub OnlyWrites : {W B : Type 0} → Writer W → (old new : Replay W B) → Type 0
+OnlyWrites w old new = OnlyCalls w.writes old.writer.now new.writer.now
 
 -- ---- lines
 
 -- Whether a line, with its newline, is answered; or why it isn't.
 abbrev pub TakesLine : {W B T : Type 0} → Writer W → Replay W B → Replay W B → List ℕ → Result T ReplayFault → Type 0
 TakesLine w old new line result =
-    MatchResult result (λ _. (text : List ℕ) → line ≡ with_newline text → Takes w old (text ∷ []) new)
-    (λ fault. IsCaused w new fault × ((text : List ℕ) → line ≡ with_newline text → StopsAtLine w old new text fault))
+    MatchResult result (λ _. OnlyWrites w old new × ((text : List ℕ) → line ≡ with_newline text → Takes w old (text ∷ []) new))
+    (λ fault. IsCaused w old new fault × ((text : List ℕ) → line ≡ with_newline text → StopsAtLine w old new text fault))
 
 -- Whether a line that is bad at the place is passed over; or why it isn't.
 abbrev pub TakesBad : {W B T : Type 0} → Writer W → Replay W B → Replay W B → ℕ → Result T ReplayFault → Type 0
 TakesBad w old new place result =
     let before = old.tally.lines in
-    MatchResult result (λ _. (text : List ℕ) → IsBadAfter before text place → Takes w old (text ∷ []) new)
-    (λ fault. IsCaused w new fault × ((text : List ℕ) → IsBadAfter before text place → StopsAtLine w old new text fault))
+    MatchResult result (λ _. OnlyWrites w old new × ((text : List ℕ) → IsBadAfter before text place → Takes w old (text ∷ []) new))
+    (λ fault. IsCaused w old new fault × ((text : List ℕ) → IsBadAfter before text place → StopsAtLine w old new text fault))
 
 -- Whether the whole lines of a text are answered, and the rest is the front of a line; or why not.
 abbrev pub TakesWhole : {W B T : Type 0} → Writer W → Replay W B → Replay W B → (text rest : List ℕ) → Result T ReplayFault → Type 0
 TakesWhole w old new text rest result =
-    MatchResult result (λ _. TakesText (written w old) (written w new) (reached old) text (reached new) rest × IsUnbroken rest)
-    (λ fault. IsCaused w new fault × StopsInText w old new text fault)
+    MatchResult result (λ _. OnlyWrites w old new × TakesText (written w old) (written w new) (reached old) text (reached new) rest × IsUnbroken rest)
+    (λ fault. IsCaused w old new fault × StopsInText w old new text fault)
 
 -- Whether the front of a line may still become a line, and nothing is done; or why it is bad already.
 abbrev pub TakesFront : {W B T : Type 0} → Writer W → Replay W B → Replay W B → List ℕ → Result T ReplayFault → Type 0
 TakesFront w old new front result =
     MatchResult result (λ _. (reached new ≡ reached old) × (new.writer.now ≡ old.writer.now))
-    (λ fault. IsCaused w new fault × StopsInText w old new front fault)
+    (λ fault. IsCaused w old new fault × StopsInText w old new front fault)
 
 -- Whether at most this many bytes are kept of a line whose end wasn't read. Where a bad line ends the replay, that is
 -- the length of the longest line.
@@ -94,13 +99,14 @@ IsShortFront GoOn n = n ≤ 16777216
 -- Whether the pending bytes, if any, are answered as the last line; or why they aren't.
 abbrev pub TakesUnended : {W B T : Type 0} → Writer W → Replay W B → Replay W B → List ℕ → Result T ReplayFault → Type 0
 TakesUnended w old new pending result =
-    MatchResult result (λ _. Takes w old (unended pending) new) (λ fault. IsCaused w new fault × StopsAtLast w old new pending fault)
+    MatchResult result (λ _. OnlyWrites w old new × Takes w old (unended pending) new)
+    (λ fault. IsCaused w old new fault × StopsAtLast w old new pending fault)
 
 -- Like `TakesUnended`, and no answer waits afterwards.
 abbrev pub TakesLast : {W B T : Type 0} → Writer W → Replay W B → Replay W B → List ℕ → Result T ReplayFault → Type 0
 TakesLast w old new pending result =
-    MatchResult result (λ _. Takes w old (unended pending) new × (new.output.items ≡ []))
-    (λ fault. IsCaused w new fault × StopsAtLast w old new pending fault)
+    MatchResult result (λ _. OnlyWrites w old new × Takes w old (unended pending) new × (new.output.items ≡ []))
+    (λ fault. IsCaused w old new fault × StopsAtLast w old new pending fault)
 
 -- ---- turns
 
@@ -108,13 +114,13 @@ TakesLast w old new pending result =
 abbrev pub TurnsBy : {R W B : Type 0} → Reader R → Writer W → (from to : R) → Replay W B → Replay W B → (pending rest : List ℕ)
     → Bool → Type 0
 TurnsBy r w from to old new pending rest more =
-    r.reads from to
+    r.reads from to × OnlyWrites w old new
     × Turns more (r.remaining from) (r.remaining to) (written w old) (written w new) (reached old) pending (reached new) rest
 
 -- Whether the replay stopped in a turn, with this fault.
 abbrev pub StopsInTurn : {R W B : Type 0} → Reader R → Writer W → (from to : R) → Replay W B → Replay W B → List ℕ → ReplayFault → Type 0
 StopsInTurn r w from to old new pending fault =
-    HasTurnCause r w fault from to new.writer.now
+    HasTurnCause r w fault from to old.writer.now new.writer.now
     × TurnStops fault (r.remaining from) (r.remaining to) (written w old) (written w new) (reached old) pending new.output.items
 
 -- The result of one turn: whether there may be more to read, or why it stopped.

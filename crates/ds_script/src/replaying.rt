@@ -30,7 +30,7 @@ pub fn replay_without_notes<R: Source, W: Sink, B: Report>(
         × IsReplayed bad_lines (text_left Begins text) done.lines done.bad output)) }
     ensures stopped { IfErr result (λ fault. IfSome (R.remaining reader.old) (λ text.
         StopsWhatIsLeft bad_lines fault (W.contents writer.old) (W.contents writer.new) text)) }
-    ensures cause { IfErr result (λ fault. IsCausedBy R.Source W.Sink fault reader.old reader.new writer.new) }
+    ensures cause { IfErr result (λ fault. IsCausedBy R.Source W.Sink fault reader.old reader.new writer.old writer.new) }
 {
     let mut left = WithoutNotes {
         reader,

@@ -54,7 +54,7 @@ pub fn replay<R: Source, W: Sink>(
         × Consumes (R.remaining reader.old) (R.remaining reader.new) input
         × Appends (W.contents writer.old) (W.contents writer.new) output
         × StopsWith End fault (R.remaining reader.new) input output) }
-    ensures cause { IfErr result (λ fault. HasCause R.Source W.Sink fault reader.old reader.new writer.new) }
+    ensures cause { IfErr result (λ fault. HasCause R.Source W.Sink fault reader.old reader.new writer.old writer.new) }
 {
     let done = replay_reporting(alloc, reader, writer, &mut Nobody, BadLines::End)?;
     Ok(done.lines)
@@ -81,7 +81,7 @@ pub fn replay_reporting<R: Source, W: Sink, B: Report>(
         × Consumes (R.remaining reader.old) (R.remaining reader.new) input
         × Appends (W.contents writer.old) (W.contents writer.new) output
         × StopsWith bad_lines fault (R.remaining reader.new) input output) }
-    ensures cause { IfErr result (λ fault. HasCause R.Source W.Sink fault reader.old reader.new writer.new) }
+    ensures cause { IfErr result (λ fault. HasCause R.Source W.Sink fault reader.old reader.new writer.old writer.new) }
 {
     let Ok(mut lines) = Lines::new(alloc) else {
         return Err(ReplayFault::NoRoom);
@@ -120,7 +120,7 @@ fn replay_over<R: Source, W: Sink, B: Report>(
         × Consumes (R.remaining reader.old) (R.remaining reader.new) input
         × Appends (W.contents writer.old) (W.contents writer.new) output
         × StopsWith policy fault (R.remaining reader.new) input output) }
-    ensures cause { IfErr result (λ fault. HasCause R.Source W.Sink fault reader.old reader.new writer.new) }
+    ensures cause { IfErr result (λ fault. HasCause R.Source W.Sink fault reader.old reader.new writer.old writer.new) }
 {
     let mut replay = Replay {
         alloc,
@@ -160,7 +160,7 @@ impl<W: Sink, B: Report> Replay<'_, W, B> {
             × Consumes (R.remaining reader.old) (R.remaining reader.new) input
             × Appends (W.contents self.old.writer.now) (W.contents self.new.writer.now) output
             × Stops self.old.bad_lines fault (R.remaining reader.new) input output self.new.output.items) }
-        ensures cause { IfErr result (λ fault. HasCause R.Source W.Sink fault reader.old reader.new self.new.writer.now) }
+        ensures cause { IfErr result (λ fault. HasCause R.Source W.Sink fault reader.old reader.new self.old.writer.now self.new.writer.now) }
     {
         while lines.may_read() {
             let more = self.take_turn(reader, lines)?;

@@ -2,7 +2,7 @@
 use Rattle.std.specs.Prelude.{◌≡◌, ℕ, List, [], ◌++◌, length, Option}
 use Rattle.std.specs.Io.KnownBytes.{Appends}
 use Rattle.line_io.specs.Lines.{HasLines, joined}
-use Rattle.line_io.specs.Streams.{CallsLead, HasFailedRead, HasFailedWrite}
+use Rattle.line_io.specs.Streams.{CallsLead, OnlyCalls, HasFailedRead, HasFailedWrite}
 use Rattle.line_io.specs.declared.streams.Source.{Ghosts as Reader}
 use Rattle.line_io.specs.declared.streams.Sink.{Ghosts as Writer}
 use Rattle.trace_walk.specs.declared.header.Format.TheVariants.{One, Two}
@@ -57,17 +57,17 @@ Refuses NoRoom bytes output = IsUpgradedSoFar bytes output
 abbrev pub UpgradesInPart : List ℕ → (had has : Option (List ℕ)) → UpgradeFault → Type 0
 UpgradesInPart bytes had has fault = (output : List ℕ) × Appends had has output × Refuses fault bytes output
 
--- The cause of a fault. ReadFault comes only if the last read failed, or 2^32 reads were made; WriteFault only if a
--- write failed, or 2^64 - 1 were made.
-abbrev pub BlamesUpgrade : {R W : Type 0} → Reader R → Writer W → UpgradeFault → (old new : R) → W → Type 0
-BlamesUpgrade r w ReadFault old new writer = HasFailedRead r.reads r.fails old new
-BlamesUpgrade r w WriteFault old new writer = HasFailedWrite w.writes w.fails writer
-BlamesUpgrade r w _ old new writer = Unit {0}
+-- The cause of a fault, and what was written before it. ReadFault comes only if the last read failed, or 2^32 reads were
+-- made; WriteFault only if the last write failed, or 2^64 - 1 were made. Before any other fault no write failed.
+abbrev pub BlamesUpgrade : {R W : Type 0} → Reader R → Writer W → UpgradeFault → (old new : R) → (from to : W) → Type 0
+BlamesUpgrade r w ReadFault old new from to = HasFailedRead r.reads r.fails old new × OnlyCalls w.writes from to
+BlamesUpgrade r w WriteFault old new from to = HasFailedWrite w.writes w.fails from to
+BlamesUpgrade r w _ old new from to = OnlyCalls w.writes from to
 
 -- Like `BlamesUpgrade`, whichever reader the reads began with.
-abbrev pub BlamesUpgradeOn : {R W : Type 0} → Reader R → Writer W → ℕ → (old new : R) → W → UpgradeFault → Type 0
-BlamesUpgradeOn {R} r w made old new writer fault =
-    (first : R) → CallsLead r.reads made first old → BlamesUpgrade r w fault first new writer
+abbrev pub BlamesUpgradeOn : {R W : Type 0} → Reader R → Writer W → ℕ → (old new : R) → (from to : W) → UpgradeFault → Type 0
+BlamesUpgradeOn {R} r w made old new from to fault =
+    (first : R) → CallsLead r.reads made first old → BlamesUpgrade r w fault first new from to
 
 -- ---- on the way
 

@@ -78,8 +78,8 @@ impl From<NoRoom> for UpgradeFault {
 ///
 /// After IllegalAt and BadLineAt, all entries before the wrong line's are written; after ReadFault and NoRoom, those of
 /// some first lines, in whole entries; after AlreadyTwo, nothing; after WriteFault, a front of such a trace. ReadFault
-/// comes only if the last read failed, or 2^32 reads were made; WriteFault only if a write failed or took no bytes, or
-/// after 2^64 - 1 writes.
+/// comes only if the last read failed, or 2^32 reads were made; WriteFault only if the last write failed or took no
+/// bytes, or after 2^64 - 1 writes.
 pub fn upgrade<R: Source, W: Sink>(
     alloc: Global,
     reader: &mut R,
@@ -89,7 +89,7 @@ pub fn upgrade<R: Source, W: Sink>(
         (λ bytes. UpgradesAll bytes (W.contents writer.old) (W.contents writer.new) count)) }
     ensures stopped { IfErr result (λ fault. IfSome (R.remaining reader.old)
         (λ bytes. UpgradesInPart bytes (W.contents writer.old) (W.contents writer.new) fault)) }
-    ensures cause { IfErr result (λ fault. BlamesUpgrade R.Source W.Sink fault reader.old reader.new writer.new) }
+    ensures cause { IfErr result (λ fault. BlamesUpgrade R.Source W.Sink fault reader.old reader.new writer.old writer.new) }
 {
     let mut walk = Walk::begin(alloc, reader)?;
     upgrade_after_header(alloc, &mut walk, reader, writer)
@@ -104,7 +104,7 @@ fn upgrade_after_header<R: Source, W: Sink>(
 ) -> Result<u64, UpgradeFault>
     ensures upgraded { IfOk result (EndsAfterHeader walk.old (R.remaining reader.old) (W.contents writer.old) (W.contents writer.new)) }
     ensures stopped { IfErr result (StopsAfterHeader walk.old (R.remaining reader.old) (W.contents writer.old) (W.contents writer.new)) }
-    ensures cause { IfErr result (BlamesUpgradeOn R.Source W.Sink walk.old.entry.lines.reads reader.old reader.new writer.new) }
+    ensures cause { IfErr result (BlamesUpgradeOn R.Source W.Sink walk.old.entry.lines.reads reader.old reader.new writer.old writer.new) }
 {
     let header = walk.header();
     match header.format {
@@ -139,7 +139,7 @@ fn upgrade_entries<R: Source, W: Sink>(
 ) -> Result<u64, UpgradeFault>
     ensures all { IfOk result (EndsUpgraded walk.old (R.remaining reader.old) (W.contents writer.old) (W.contents writer.new)) }
     ensures part { IfErr result (StopsUpgrading walk.old (R.remaining reader.old) (W.contents writer.old) (W.contents writer.new)) }
-    ensures cause { IfErr result (BlamesUpgradeOn R.Source W.Sink walk.old.entry.lines.reads reader.old reader.new writer.new) }
+    ensures cause { IfErr result (BlamesUpgradeOn R.Source W.Sink walk.old.entry.lines.reads reader.old reader.new writer.old writer.new) }
 {
     let mut text = Vec::new(alloc);
     let mut written: u64 = 0;

@@ -1,6 +1,7 @@
 -- Why a recording ends by its reader or its writer.
 use Rattle.std.proofs.Common.{◌≡◌, ℕ, inl, inr, ◌⊎◌, sym, subst}
-use Rattle.line_io.specs.Streams.{HasFailedWrite}
+use Rattle.line_io.specs.Streams.{OnlyCalls, HasFailedWrite}
+use Rattle.line_io.proofs.CallLemmas.{no_calls, only_calls_on, failed_on}
 use Rattle.line_io.specs.declared.streams.Source.{Ghosts as Reader}
 use Rattle.line_io.specs.declared.streams.Sink.{Ghosts as Writer}
 use Rattle.trace_walk.specs.Reads.{BlamesLines}
@@ -31,22 +32,26 @@ lines_cause r entries.ReadFault place old new c = c
 lines_cause r entries.NoRoom place old new c = tt
 
 -- a fault of the input is the reader's
-pub input_cause : {R W : Type 0} (r : Reader R) (w : Writer W) (fault : RecordFault) (old new : R) (writer : W) → IsOfInput fault → IsReadCause r fault old new → IsToBlame r w fault old new writer
-input_cause r w (BadLine number place) old new writer is c = tt
-input_cause r w ReadFault old new writer is c = c
-input_cause r w WriteFault old new writer is c = absurd is
-input_cause r w NoRoom old new writer is c = tt
+pub input_cause : {R W : Type 0} (r : Reader R) (w : Writer W) (fault : RecordFault) (old new : R) (from to : W) → OnlyCalls w.writes from to → IsOfInput fault → IsReadCause r fault old new → IsToBlame r w fault old new from to
+input_cause r w (BadLine number place) old new from to wrote is c = wrote
+input_cause r w ReadFault old new from to wrote is c = (c, wrote)
+input_cause r w WriteFault old new from to wrote is c = absurd is
+input_cause r w NoRoom old new from to wrote is c = wrote
+
+-- out of memory before anything is written
+pub nothing_blamed : {R W : Type 0} (r : Reader R) (w : Writer W) (fault : RecordFault) (old new : R) (now : W) → fault ≡ NoRoom → IsToBlame r w fault old new now now
+nothing_blamed r w fault old new now is = subst (λ (f : RecordFault). IsToBlame r w f old new now now) (sym is) (no_calls w.writes now)
 
 -- after the waiting entries are written, it is still the fault, or a write failed there
-either : {R W : Type 0} (r : Reader R) (w : Writer W) (fault result : RecordFault) (old new : R) (last : W)
-    → IsToBlame r w fault old new last → (result ≡ fault) ⊎ ((result ≡ WriteFault) × HasFailedWrite w.writes w.fails last)
-    → IsToBlame r w result old new last
-either r w fault result old new last c (inl same) = subst (λ (f : RecordFault). IsToBlame r w f old new last) (sym same) c
-either r w fault result old new last c (inr failed) = subst (λ (f : RecordFault). IsToBlame r w f old new last) (sym failed.0) failed.1
+either : {R W : Type 0} (r : Reader R) (w : Writer W) (fault result : RecordFault) (old new : R) (from mid to : W) → (OnlyCalls w.writes from to → IsToBlame r w fault old new from to) → OnlyCalls w.writes from mid
+    → ((result ≡ fault) × OnlyCalls w.writes mid to) ⊎ ((result ≡ WriteFault) × HasFailedWrite w.writes w.fails mid to)
+    → IsToBlame r w result old new from to
+either r w fault result old new from mid to still wrote (inl same) = subst (λ (f : RecordFault). IsToBlame r w f old new from to) (sym same.0) (still (only_calls_on w.writes from mid to wrote same.1))
+either r w fault result old new from mid to still wrote (inr failed) = subst (λ (f : RecordFault). IsToBlame r w f old new from to) (sym failed.0) (failed_on w.writes w.fails from mid to wrote failed.1)
 
-pub settled_caused : {R W : Type 0} (r : Reader R) (w : Writer W) (fault result : RecordFault) (old new : R) (mid last : W) → IsToBlame r w fault old new mid → SettlesBy w fault mid last result → IsToBlame r w result old new last
-settled_caused r w (BadLine number place) result old new mid last c s = either r w (BadLine number place) result old new last tt s
-settled_caused r w ReadFault result old new mid last c s = either r w ReadFault result old new last c s
-settled_caused r w NoRoom result old new mid last c s = either r w NoRoom result old new last tt s
-settled_caused {R} {W} r w WriteFault result old new mid last c s =
-    subst (λ (f : RecordFault). IsToBlame r w f old new last) (sym s.0) (subst (λ (x : W). HasFailedWrite w.writes w.fails x) (sym s.1) c)
+pub settled_caused : {R W : Type 0} (r : Reader R) (w : Writer W) (fault result : RecordFault) (old new : R) (from mid to : W) → IsToBlame r w fault old new from mid → SettlesBy w fault mid to result → IsToBlame r w result old new from to
+settled_caused r w (BadLine number place) result old new from mid to c s = either r w (BadLine number place) result old new from mid to (λ all. all) c s
+settled_caused r w ReadFault result old new from mid to c s = either r w ReadFault result old new from mid to (λ all. (c.0, all)) c.1 s
+settled_caused r w NoRoom result old new from mid to c s = either r w NoRoom result old new from mid to (λ all. all) c s
+settled_caused {R} {W} r w WriteFault result old new from mid to c s =
+    subst (λ (f : RecordFault). IsToBlame r w f old new from to) (sym s.0) (subst (λ (x : W). HasFailedWrite w.writes w.fails from x) (sym s.1) c)

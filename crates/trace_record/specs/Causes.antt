@@ -1,17 +1,17 @@
 -- Why a fault of a recording blames the reader or the writer.
 use Rattle.std.specs.Prelude.{◌≡◌, ℕ, ◌⊎◌, Result, Ok, Err}
-use Rattle.line_io.specs.Streams.{CallsLead, HasFailedRead, HasFailedWrite}
+use Rattle.line_io.specs.Streams.{CallsLead, OnlyCalls, HasFailedRead, HasFailedWrite}
 use Rattle.line_io.specs.declared.streams.Source.{Ghosts as Reader}
 use Rattle.line_io.specs.declared.streams.Sink.{Ghosts as Writer}
 use Rattle.trace_record.specs.declared.fault.RecordFault.{RecordFault}
 use Rattle.trace_record.specs.declared.fault.RecordFault.TheVariants.{ReadFault, WriteFault}
 
--- The cause of a fault. ReadFault comes only if a read of this call failed or 2^32 reads were made; WriteFault only if
--- a write failed.
-abbrev pub IsToBlame : {R W : Type 0} → Reader R → Writer W → RecordFault → (old new : R) → W → Type 0
-IsToBlame r w ReadFault old new writer = HasFailedRead r.reads r.fails old new
-IsToBlame r w WriteFault old new writer = HasFailedWrite w.writes w.fails writer
-IsToBlame r w _ old new writer = Unit {0}
+-- The cause of a fault, and what was written before it. ReadFault comes only if a read of this call failed or 2^32 reads
+-- were made; WriteFault only if a write of this call failed. Before any other fault no write failed.
+abbrev pub IsToBlame : {R W : Type 0} → Reader R → Writer W → RecordFault → (old new : R) → (from to : W) → Type 0
+IsToBlame r w ReadFault old new from to = HasFailedRead r.reads r.fails old new × OnlyCalls w.writes from to
+IsToBlame r w WriteFault old new from to = HasFailedWrite w.writes w.fails from to
+IsToBlame r w _ old new from to = OnlyCalls w.writes from to
 
 -- Like `IsToBlame` where nothing is written.
 abbrev pub IsReadCause : {R : Type 0} → Reader R → RecordFault → (old new : R) → Type 0
@@ -37,11 +37,12 @@ abbrev pub LeadsFrom : {R T : Type 0} → Reader R →
 LeadsFrom {R} r before old made after new reads = (first : R) → ReadsLead r before first old made → ReadsLead r after first new reads
 
 -- The cause of a fault of a run, however many reads were made before.
-abbrev pub RunIsCaused : {R W T : Type 0} → Reader R → Writer W → Result T RecordFault → (old new : R) → ℕ → W → RecordFault → Type 0
-RunIsCaused {R} r w next old new made writer fault = (first : R) → ReadsLead r next first old made → IsToBlame r w fault first new writer
+abbrev pub RunIsCaused : {R W T : Type 0} → Reader R → Writer W → Result T RecordFault → (old new : R) → ℕ → (from to : W) → RecordFault → Type 0
+RunIsCaused {R} r w next old new made from to fault = (first : R) → ReadsLead r next first old made → IsToBlame r w fault first new from to
 
 -- The fault after the waiting entries are written: the one before, or a write that failed then. A writer that failed
 -- isn't called again.
 abbrev pub SettlesBy : {W : Type 0} → Writer W → RecordFault → (old new : W) → RecordFault → Type 0
 SettlesBy w WriteFault old new result = (result ≡ WriteFault) × (new ≡ old)
-SettlesBy w fault old new result = (result ≡ fault) ⊎ ((result ≡ WriteFault) × HasFailedWrite w.writes w.fails new)
+SettlesBy w fault old new result =
+    ((result ≡ fault) × OnlyCalls w.writes old new) ⊎ ((result ≡ WriteFault) × HasFailedWrite w.writes w.fails old new)

@@ -1,6 +1,7 @@
 //! Records a run of one store.
 
-ghost use Rattle.std.specs.Prelude.{IfOk, IfErr};
+ghost use Rattle.std.specs.Prelude.{OnOk, IfOk, IfErr};
+ghost use Rattle.line_io.specs.Streams.{OnlyCalls};
 ghost use Rattle.trace_record.specs.Record.{Records, StopsRecording};
 ghost use Rattle.trace_record.specs.Causes.{IsToBlame, RunIsCaused, SettlesBy};
 ghost use Rattle.trace_record.specs.Reading.{IsReady};
@@ -37,7 +38,7 @@ pub fn record<R: Source, W: Sink>(
 ) -> Result<u64, RecordFault>
     ensures written { IfOk result (Records form (R.remaining reader.old) (W.contents writer.old) (W.contents writer.new)) }
     ensures stopped { IfErr result (StopsRecording form (R.remaining reader.old) (W.contents writer.old) (W.contents writer.new)) }
-    ensures cause { IfErr result (λ fault. IsToBlame R.Source W.Sink fault reader.old reader.new writer.new) }
+    ensures cause { IfErr result (λ fault. IsToBlame R.Source W.Sink fault reader.old reader.new writer.old writer.new) }
 {
     let mut lines = Lines::new(alloc)?;
     let beginning = begin(alloc, &mut lines, reader)?;
@@ -55,7 +56,7 @@ fn record_all<R: Source, W: Sink>(
     requires { IsReady recorder.old.entry.lines first }
     ensures whole { IfOk result (RecordsAll recorder.old (R.remaining reader.old) (W.contents writer.old) first (W.contents writer.new)) }
     ensures stops { IfErr result (StopsBefore recorder.old (R.remaining reader.old) (W.contents writer.old) first (W.contents writer.new)) }
-    ensures cause { IfErr result (RunIsCaused R.Source W.Sink first reader.old reader.new recorder.old.entry.lines.reads writer.new) }
+    ensures cause { IfErr result (RunIsCaused R.Source W.Sink first reader.old reader.new recorder.old.entry.lines.reads writer.old writer.new) }
 {
     match run(recorder, reader, writer, first) {
         Ok(count) => {
@@ -74,8 +75,9 @@ fn run<R: Source, W: Sink>(
     first: Result<bool, RecordFault>,
 ) -> Result<u64, RecordFault>
     requires { IsReady recorder.old.entry.lines first }
+    ensures led { OnOk result (OnlyCalls W.writes writer.old writer.new) }
     ensures runs { RunsOn recorder.old (R.remaining reader.old) (W.contents writer.old) first recorder.new (W.contents writer.new) result }
-    ensures cause { IfErr result (RunIsCaused R.Source W.Sink first reader.old reader.new recorder.old.entry.lines.reads writer.new) }
+    ensures cause { IfErr result (RunIsCaused R.Source W.Sink first reader.old reader.new recorder.old.entry.lines.reads writer.old writer.new) }
 {
     let mut next = first;
     for count in 0..u64::MAX {

@@ -1,7 +1,7 @@
 //! Writes the waiting entries.
 
 ghost use Rattle.std.specs.Prelude.{◌≡◌, OnOk, OnErr, IfErr};
-ghost use Rattle.line_io.specs.Streams.{HasFailedWrite};
+ghost use Rattle.line_io.specs.Streams.{HasFailedWrite, OnlyCalls};
 ghost use Rattle.line_io.specs.Transfer.{SendsFront, WritesPart};
 ghost use Rattle.trace_record.specs.declared.fault.RecordFault.TheVariants as faults;
 
@@ -20,7 +20,8 @@ pub(crate) fn send_waiting<W: Sink>(
     ensures ok { OnOk result (SendsFront (W.contents writer.old) (W.contents writer.new) output.old.items output.new.items) }
     ensures err { OnErr result (WritesPart (W.contents writer.old) (W.contents writer.new) output.old.items) }
     ensures fault { IfErr result (λ fault. fault ≡ faults.WriteFault) }
-    ensures cause { OnErr result (HasFailedWrite W.writes W.fails writer.new) }
+    ensures led { OnOk result (OnlyCalls W.writes writer.old writer.new) }
+    ensures cause { OnErr result (HasFailedWrite W.writes W.fails writer.old writer.new) }
 {
     if output.len() < FULL && newline_place(read).is_some() {
         return Ok(());

@@ -25,5 +25,5 @@ pub returns-in-Err-clause-cause : goal.returns-in-Err-clause-cause
 returns-in-Err-clause-cause g c =
     inner_cause (λ s. s.reader.now) (λ s. s.reader.ghost_name)
     (record { remaining = λ s. option_map (λ text. text_left s.place text) (g.R.Source.remaining s.reader.now); reads = _; fails = _ })
-    g.R.Source g.W.Sink c.in-Err.fault _ c.replay_reporting.new.reader _ c.replay_reporting.new.writer refl refl
+    g.R.Source g.W.Sink c.in-Err.fault _ c.replay_reporting.new.reader _ c.args.writer.now c.replay_reporting.new.writer refl refl
     (λ same. sym (c.reader-1.given.1 (sym same))) c.in-Err.ensures.cause

@@ -32,8 +32,9 @@ pub returns-clause-cause : goal.returns-clause-cause
 returns-clause-cause g c =
     let mid = c.run-ran.new.self.writer.now in
     let last = c.settled.new.writer in
+    let first = c.args.writer.now in
     let old = c.args.reader.now in
     let new = c.run-ran.new.reader in
     let back : c.settled.new.writer ≡ c.writer-in-Err-1.given.0 = sym (c.writer-in-Err-1.given.1 (sym c.run-ran.ensures.same)) in
-    subst (λ (w : g.row.W.Denot). HasCause g.R.Source g.W.Sink c.settled.result old new w) back
-    (settled_cause g.R.Source g.W.Sink c.settled.result c.in-Err.fault old new mid last (c.in-Err.ensures).cause c.settled.ensures.cause)
+    subst (λ (w : g.row.W.Denot). HasCause g.R.Source g.W.Sink c.settled.result old new first w) back
+    (settled_cause g.R.Source g.W.Sink c.settled.result c.in-Err.fault old new first mid last (c.in-Err.ensures).cause c.settled.ensures.cause)

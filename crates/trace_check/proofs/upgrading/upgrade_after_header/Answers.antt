@@ -2,11 +2,13 @@ use Rattle.std.proofs.Common.{◌++◌, ◌∙◌, [], List, ℕ, refl, sym, sub
 use Rattle.std.specs.Io.KnownBytes.{Appends}
 use Rattle.std.proofs.KnownBytes.{Appends-nil, Appends-trans}
 use Rattle.std.proofs.lemmas.Result.{IfOk-weaker, IfErr-weaker}
+use Rattle.line_io.proofs.CallLemmas.{no_calls}
 use Rattle.trace_walk.specs.declared.header.Header.{Header}
 use Rattle.trace_walk.specs.Text.{header_text}
 use Rattle.trace_walk.specs.Upgrade.{upgraded}
 use Rattle.trace_walk.specs.Steps.{first_spot}
 use Rattle.trace_walk.proofs.FaultLemmas.{carried}
+use Rattle.trace_check.proofs.CauseLemmas.{blames_on}
 use Rattle.trace_check.proofs.UpgradingLemmas.{begins_two, header_upgrades, nothing_yet, stops_in_header}
 use Rattle.trace_check.proofs.upgrading.upgrade_after_header.Goals as goal
 
@@ -66,8 +68,18 @@ returns-clause-stopped g c =
     c.upgrade_entries.ensures.part
 
 pub returns-in_err-append_header-clause-cause : goal.returns-in_err-append_header-clause-cause
-returns-in_err-append_header-clause-cause g c = carried c.from_residual.result _ _ c.from_residual.ensures.1 (λ first led. tt)
+returns-in_err-append_header-clause-cause g c = carried c.from_residual.result _ _ c.from_residual.ensures.1 (λ first led. no_calls g.W.Sink.writes c.args.writer.now)
 
 pub returns-in_err-write_out-clause-cause : goal.returns-in_err-write_out-clause-cause
 returns-in_err-write_out-clause-cause g c =
     carried c.from_residual-in_err-write_out.result _ _ c.from_residual-in_err-write_out.ensures.1 (λ first led. c.in_err-write_out.ensures.cause)
+
+pub returns-in-Two-clause-cause : goal.returns-in-Two-clause-cause
+returns-in-Two-clause-cause g c first led = no_calls g.W.Sink.writes c.args.writer.now
+
+pub returns-clause-cause : goal.returns-clause-cause
+returns-clause-cause g c =
+    IfErr-weaker c.upgrade_entries.result _ _
+    (λ fault caused first led.
+    blames_on g.R.Source g.W.Sink fault first c.upgrade_entries.new.reader c.args.writer.now c.write_out.new.writer c.upgrade_entries.new.writer c.in_ok-write_out.ensures.led (caused first led))
+    c.upgrade_entries.ensures.cause

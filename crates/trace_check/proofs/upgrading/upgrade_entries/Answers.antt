@@ -1,5 +1,6 @@
 use Rattle.std.proofs.Common.{◌+◌, ◌∙◌, List, ℕ, Option, IfNone, arith, refl, sym, subst}
 use Rattle.std.specs.Io.KnownBytes.{Appends}
+use Rattle.line_io.proofs.CallLemmas.{no_calls, only_calls_on, failed_on}
 use Rattle.trace_walk.specs.declared.passed.Passed.{Passed}
 use Rattle.trace_walk.specs.Passing.{IsWrittenAs}
 use Rattle.trace_walk.specs.Steps.{EndsThere, GoesPast}
@@ -17,6 +18,7 @@ loop-entry-init g c = record {
   counted = omega arith;
   few = omega arith;
   written = omega arith;
+  wrote = no_calls g.W.Sink.writes c.args.writer.now;
 }
 
 pub loop-entry-preserved : goal.loop-entry-preserved
@@ -39,6 +41,7 @@ loop-entry-preserved g c =
       counted = omega (arith, l.invariant.counted, more.1);
       few = omega (arith, l.invariant.counted, more.0);
       written = omega (arith, l.invariant.written, c.in_ok-count.ensures.few);
+      wrote = only_calls_on g.W.Sink.writes c.args.writer.now l.writer c.write_out.new.writer l.invariant.wrote c.in_ok-write_out.ensures.led;
     }
 
 pub returns-in_default-clause-all : goal.returns-in_default-clause-all
@@ -87,15 +90,15 @@ returns-clause-part g c b before w x =
 pub returns-in_err-passed-clause-cause : goal.returns-in_err-passed-clause-cause
 returns-in_err-passed-clause-cause g c =
     carried c.from_residual.result _ _ c.from_residual.ensures.1
-    (λ first led. cause_upgraded g.R.Source g.W.Sink c.in_err-passed.field-0.0 first c.next.new.reader c.loop-entry.writer (c.in_err-passed.ensures.reads first (c.loop-entry.invariant.reads.0 first led)))
+    (λ first led. cause_upgraded g.R.Source g.W.Sink c.in_err-passed.field-0.0 first c.next.new.reader c.args.writer.now c.loop-entry.writer c.loop-entry.invariant.wrote (c.in_err-passed.ensures.reads first (c.loop-entry.invariant.reads.0 first led)))
 
 pub returns-in_err-count-clause-cause : goal.returns-in_err-count-clause-cause
 returns-in_err-count-clause-cause g c =
-    carried c.from_residual-in_err-count.result _ _ c.from_residual-in_err-count.ensures.1 (λ first led. tt)
+    carried c.from_residual-in_err-count.result _ _ c.from_residual-in_err-count.ensures.1 (λ first led. c.loop-entry.invariant.wrote)
 
 pub returns-in_err-write_out-clause-cause : goal.returns-in_err-write_out-clause-cause
 returns-in_err-write_out-clause-cause g c =
-    carried c.from_residual-in_err-write_out.result _ _ c.from_residual-in_err-write_out.ensures.1 (λ first led. c.in_err-write_out.ensures.cause)
+    carried c.from_residual-in_err-write_out.result _ _ c.from_residual-in_err-write_out.ensures.1 (λ first led. failed_on g.W.Sink.writes g.W.Sink.fails c.args.writer.now c.loop-entry.writer c.write_out.new.writer c.loop-entry.invariant.wrote c.in_err-write_out.ensures.cause)
 
 -- an input has fewer entries
 pub returns-clause-cause : goal.returns-clause-cause

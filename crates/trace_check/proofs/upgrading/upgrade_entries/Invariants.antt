@@ -1,4 +1,5 @@
 use Rattle.std.proofs.Common.{◌≤◌, ◌+◌, ◌*◌, ◌^◌, List, ℕ}
+use Rattle.line_io.specs.Streams.{OnlyCalls}
 use Rattle.trace_walk.specs.Reads.{ReadsFurther}
 use Rattle.trace_walk.specs.Steps.{WalksAt}
 use Rattle.trace_check.specs.Upgrading.{Upgrades}
@@ -15,4 +16,5 @@ invariant-loop-entry g l = record {
   counted : l._entry ≤ l.walk.entry.lines.count;
   few : l._entry ≤ 2 ^ 49 + 1;
   written : l.written ≤ 255 * l._entry;
+  wrote : OnlyCalls g.W.Sink.writes l.fn.writer l.writer;
 }

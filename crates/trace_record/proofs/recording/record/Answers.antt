@@ -7,6 +7,7 @@ use Rattle.trace_record.specs.Reading.{IsReady}
 use Rattle.trace_record.specs.declared.fault.RecordFault.TheVariants.{NoRoom}
 use Rattle.trace_record.specs.Causes.{ReadsLead}
 use Rattle.trace_walk.proofs.FaultLemmas.{carried}
+use Rattle.trace_record.proofs.CauseLemmas.{nothing_blamed}
 use Rattle.trace_record.proofs.RunLemmas.{nothing_recorded, runs_first}
 use Rattle.trace_record.proofs.recording.record.Goals as goal
 
@@ -58,3 +59,16 @@ returns-clause-cause g c =
     let none = subst (λ (l : LinesContent). CallsLead g.R.Source.reads l.reads reader reader) (sym c.in_ok-lines.ensures) refl in
     let led = subst (λ (l : LinesContent). ReadsLead g.R.Source c.in_ok-beginning.beginning.next reader c.begin.new.reader l.reads) (sym c.in_ok-recorder.ensures.opens.lines_are) (c.in_ok-beginning.ensures.reads reader none) in
     IfErr-weaker c.record_all.result _ _ (λ fault caused. caused reader led) c.record_all.ensures.cause
+
+pub returns-in_err-lines-clause-cause : goal.returns-in_err-lines-clause-cause
+returns-in_err-lines-clause-cause g c =
+    carried c.from_residual.result NoRoom _ c.from_residual.ensures.1 (nothing_blamed g.R.Source g.W.Sink NoRoom c.args.reader.now c.args.reader.now c.args.writer.now refl)
+
+pub returns-in_err-beginning-clause-cause : goal.returns-in_err-beginning-clause-cause
+returns-in_err-beginning-clause-cause g c =
+    carried c.from_residual-in_err-beginning.result NoRoom _ c.from_residual-in_err-beginning.ensures.1 (nothing_blamed g.R.Source g.W.Sink NoRoom c.args.reader.now c.begin.new.reader c.args.writer.now refl)
+
+pub returns-in_err-recorder-clause-cause : goal.returns-in_err-recorder-clause-cause
+returns-in_err-recorder-clause-cause g c =
+    carried c.from_residual-in_err-recorder.result c.in_err-recorder.field-0.0 _ c.from_residual-in_err-recorder.ensures.1
+    (nothing_blamed g.R.Source g.W.Sink c.in_err-recorder.field-0.0 c.args.reader.now c.begin.new.reader c.args.writer.now c.in_err-recorder.ensures.fault)

@@ -5,6 +5,7 @@ use Rattle.trace_record.specs.declared.recorder.Recorder.{Recorder}
 use Rattle.trace_record.specs.Causes.{IsToBlame, ReadsLead}
 use Rattle.trace_record.specs.Reading.{IsReady}
 use Rattle.trace_record.specs.Running.{Runs, RunsTo}
+use Rattle.line_io.proofs.CallLemmas.{no_calls, only_calls_on, failed_on}
 use Rattle.trace_record.proofs.CauseLemmas.{input_cause}
 use Rattle.trace_walk.proofs.FaultLemmas.{carried}
 use Rattle.trace_walk.proofs.ReadLemmas.{carried_as}
@@ -12,7 +13,7 @@ use Rattle.trace_record.proofs.RunLemmas.{entry_added, entry_fails, entry_unwrit
 use Rattle.trace_record.proofs.recording.run.Goals as goal
 
 pub loop-count-init : goal.loop-count-init
-loop-count-init g c = (c.requires, λ known first had h r. r, λ first led. led)
+loop-count-init g c = (c.requires, λ known first had h r. r, λ first led. led, no_calls g.W.Sink.writes c.args.writer.now)
 
 pub returns-in-Ok-false-clause-runs : goal.returns-in-Ok-false-clause-runs
 returns-in-Ok-false-clause-runs g c known first had h r =
@@ -89,6 +90,7 @@ loop-count-preserved g c = (
       (subst
       (λ (r : Result Bool RecordFault). ReadsLead g.R.Source r first l.reader l.recorder.entry.lines.reads)
       (c.in-Ok-true.is ∙ ap (λ (b : Bool). Ok b) c.in-Ok-true.field-0-test) (l.invariant.2 first led))),
+  only_calls_on g.W.Sink.writes c.args.writer.now c.loop-count.writer c.send_waiting.new.writer c.loop-count.invariant.3 c.in_ok-send_waiting.ensures.led,
 )
 
 pub returns-clause-runs : goal.returns-clause-runs
@@ -99,7 +101,7 @@ returns-clause-runs g c known first had h r =
 pub returns-in-Err-clause-cause : goal.returns-in-Err-clause-cause
 returns-in-Err-clause-cause g c first led =
     let l = c.loop-count in
-    input_cause g.R.Source g.W.Sink c.in-Err.fault first l.reader l.writer (subst (IsReady l.recorder.entry.lines) c.in-Err.is l.invariant.0)
+    input_cause g.R.Source g.W.Sink c.in-Err.fault first l.reader c.args.writer.now l.writer l.invariant.3 (subst (IsReady l.recorder.entry.lines) c.in-Err.is l.invariant.0)
     (subst
     (λ (r : Result Bool RecordFault). ReadsLead g.R.Source r first l.reader l.recorder.entry.lines.reads) c.in-Err.is
     (l.invariant.2 first led))
@@ -109,7 +111,7 @@ returns-in_err-entry-clause-cause g c =
     carried c.from_residual.result c.in_err-entry.field-0.0 _ c.from_residual.ensures.1
     (λ first led.
     let l = c.loop-count in
-    input_cause g.R.Source g.W.Sink c.in_err-entry.field-0.0 first c.entry.new.reader l.writer c.in_err-entry.ensures.fails.0
+    input_cause g.R.Source g.W.Sink c.in_err-entry.field-0.0 first c.entry.new.reader c.args.writer.now l.writer l.invariant.3 c.in_err-entry.ensures.fails.0
     (c.in_err-entry.ensures.cause first
     (subst
     (λ (r : Result Bool RecordFault). ReadsLead g.R.Source r first l.reader l.recorder.entry.lines.reads)
@@ -118,4 +120,13 @@ returns-in_err-entry-clause-cause g c =
 pub returns-in_err-send_waiting-clause-cause : goal.returns-in_err-send_waiting-clause-cause
 returns-in_err-send_waiting-clause-cause g c =
     carried c.from_residual-in_err-send_waiting.result c.in_err-send_waiting.field-0.0 _ c.from_residual-in_err-send_waiting.ensures.1
-    (λ first led. subst (λ (f : RecordFault). IsToBlame g.R.Source g.W.Sink f first c.entry.new.reader c.send_waiting.new.writer) (sym c.in_err-send_waiting.ensures.fault) c.in_err-send_waiting.ensures.cause)
+    (λ first led.
+    let l = c.loop-count in
+    subst (λ (f : RecordFault). IsToBlame g.R.Source g.W.Sink f first c.entry.new.reader c.args.writer.now c.send_waiting.new.writer) (sym c.in_err-send_waiting.ensures.fault)
+    (failed_on g.W.Sink.writes g.W.Sink.fails c.args.writer.now l.writer c.send_waiting.new.writer l.invariant.3 c.in_err-send_waiting.ensures.cause))
+
+pub returns-in-Ok-false-clause-led : goal.returns-in-Ok-false-clause-led
+returns-in-Ok-false-clause-led g c = c.loop-count.invariant.3
+
+pub returns-clause-cause : goal.returns-clause-cause
+returns-clause-cause g c first led = c.loop-count.invariant.3

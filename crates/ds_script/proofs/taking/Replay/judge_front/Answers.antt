@@ -2,6 +2,7 @@ use Rattle.std.proofs.Common.{◌+◌, refl, arith}
 use Rattle.ds_script.specs.Taking.{reached}
 use Rattle.ds_script.proofs.ProgressLemmas.{takes_none}
 use Rattle.ds_script.proofs.RunLemmas.{text_none, overlong}
+use Rattle.line_io.proofs.CallLemmas.{no_calls}
 use Rattle.ds_script.proofs.taking.Replay.judge_front.Goals as goal
 
 pub returns-in-End-clause-takes : goal.returns-in-End-clause-takes
@@ -19,4 +20,4 @@ pub returns-in-GoOn-clause-takes : goal.returns-in-GoOn-clause-takes
 returns-in-GoOn-clause-takes g c =
     let had = g.W.Sink.contents c.args.self.now.writer.now in
     let old = reached c.args.self.now in
-    (tt, λ to. (old, c.args.front.now, text_none had had old old c.args.front.now (takes_none had old), refl))
+    (no_calls g.W.Sink.writes c.args.self.now.writer.now, λ to. (old, c.args.front.now, text_none had had old old c.args.front.now (takes_none had old), refl))

@@ -8,6 +8,7 @@ use Rattle.ds_script.specs.declared.fault.ReplayFault.{ReplayFault}
 use Rattle.ds_script.proofs.ProgressLemmas.{where_known}
 use Rattle.ds_script.proofs.CauseLemmas.{run_cause}
 use Rattle.ds_script.proofs.EndLemmas.{Stopped, come_none, come_turn, come_end, come_stop, come_over}
+use Rattle.line_io.proofs.CallLemmas.{no_calls, only_calls_on}
 use Rattle.ds_script.proofs.taking.Replay.run.Goals as goal
 
 pub loop-self-init : goal.loop-self-init
@@ -22,6 +23,7 @@ loop-self-init g c =
       count = s.lines ∙ sym (ap (λ l. l.count) s.nothing);
       led = subst (λ (n : ℕ). CallsLead g.R.Source.reads n c.args.reader.now c.args.reader.now) (sym (ap (λ l. l.reads) s.nothing)) refl;
       same = refl;
+      wrote = no_calls g.W.Sink.writes c.args.self.now.writer.now;
     }
 
 pub returns-in_err-more-clause-err : goal.returns-in_err-more-clause-err
@@ -44,7 +46,7 @@ pub returns-in_err-more-clause-cause : goal.returns-in_err-more-clause-cause
 returns-in_err-more-clause-cause g c =
     let exit = err_from_is_err_and c.from_residual.result c.from_residual.ensures.1 in
     let i = c.loop-self.invariant in
-    rw (exit.1, exit.2) (run_cause g.R.Source g.W.Sink c.in_err-more.field-0.0 c.loop-self.lines.reads c.args.reader.now c.loop-self.reader c.take_turn.new.reader c.take_turn.new.self.writer.now i.led (c.in_err-more.ensures).turns.0)
+    rw (exit.1, exit.2) (run_cause g.R.Source g.W.Sink c.in_err-more.field-0.0 c.loop-self.lines.reads c.args.reader.now c.loop-self.reader c.take_turn.new.reader c.args.self.now.writer.now c.loop-self.self.writer.now c.take_turn.new.self.writer.now i.led i.wrote (c.in_err-more.ensures).turns.0)
 
 pub returns-then-not-more-clause-ok : goal.returns-then-not-more-clause-ok
 returns-then-not-more-clause-ok g c =
@@ -56,7 +58,7 @@ returns-then-not-more-clause-ok g c =
     let b = written g.W.Sink c.loop-self.self in
     let d = written g.W.Sink c.take_turn.new.self in
     let last : c.in_ok-more.more ≡ false = search rules in
-    come_end from mid to a b d c.args.self.now.bad_lines (reached c.loop-self.self) (reached c.take_turn.new.self) c.loop-self.lines.rest c.take_turn.new.lines.rest c.in_ok-more.more last i.come i.unbroken (c.in_ok-more.ensures).turns.1
+    come_end from mid to a b d c.args.self.now.bad_lines (reached c.loop-self.self) (reached c.take_turn.new.self) c.loop-self.lines.rest c.take_turn.new.lines.rest c.in_ok-more.more last i.come i.unbroken (c.in_ok-more.ensures).turns.2
 
 pub loop-self-preserved : goal.loop-self-preserved
 loop-self-preserved g c =
@@ -69,7 +71,7 @@ loop-self-preserved g c =
     let b = written g.W.Sink c.loop-self.self in
     let d = written g.W.Sink c.take_turn.new.self in
     let e = c.in_ok-more.ensures in
-    let t = come_turn from mid to a b d c.args.self.now.bad_lines (reached c.loop-self.self) (reached c.take_turn.new.self) c.loop-self.lines.rest c.take_turn.new.lines.rest c.in_ok-more.more more i.come e.turns.1 in
+    let t = come_turn from mid to a b d c.args.self.now.bad_lines (reached c.loop-self.self) (reached c.take_turn.new.self) c.loop-self.lines.rest c.take_turn.new.lines.rest c.in_ok-more.more more i.come e.turns.2 in
     let next = e.more more in
     record {
       come = t.0;
@@ -77,6 +79,7 @@ loop-self-preserved g c =
       count = next.count;
       led = subst (λ (n : ℕ). CallsLead g.R.Source.reads n c.args.reader.now c.take_turn.new.reader) (sym next.reads) (c.loop-self.reader, i.led, e.turns.0);
       same = e.same ∙ i.same;
+      wrote = only_calls_on g.W.Sink.writes c.args.self.now.writer.now c.loop-self.self.writer.now c.take_turn.new.self.writer.now i.wrote e.turns.1;
     }
 
 pub returns-clause-err : goal.returns-clause-err
@@ -89,4 +92,4 @@ returns-clause-err g c =
     come_over from to a b c.args.self.now.bad_lines (reached c.loop-self.self) c.loop-self.lines.rest i.come i.unbroken
 
 pub returns-clause-cause : goal.returns-clause-cause
-returns-clause-cause g c = (c.loop-self.lines.reads, inr (c.may_read.ensures.all c.loop-self-test.false, c.loop-self.invariant.led))
+returns-clause-cause g c = ((c.loop-self.lines.reads, inr (c.may_read.ensures.all c.loop-self-test.false, c.loop-self.invariant.led)), c.loop-self.invariant.wrote)

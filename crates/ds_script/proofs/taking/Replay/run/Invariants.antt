@@ -1,7 +1,7 @@
 use Rattle.std.proofs.Common.{◌≡◌, ◌-◌}
 use Rattle.line_io.specs.Lines.{IsUnbroken}
 use Rattle.line_io.specs.Streams.{CallsLead}
-use Rattle.ds_script.specs.Taking.{reached, written, KeepsWriter}
+use Rattle.ds_script.specs.Taking.{reached, written, KeepsWriter, OnlyWrites}
 use Rattle.ds_script.proofs.EndLemmas.{Come}
 use Rattle.ds_script.proofs.taking.Replay.run.Given as goal
 
@@ -12,6 +12,7 @@ invariant-loop-self g l = record {
   count : l.self.tally.lines ≡ l.lines.count;
   led : CallsLead g.R.Source.reads l.lines.reads l.fn.reader l.reader;
   same : KeepsWriter l.fn.self l.self;
+  wrote : OnlyWrites g.W.Sink l.fn.self l.self;
 }
 
 abbrev pub decreases-loop-self : goal.decreases-loop-self

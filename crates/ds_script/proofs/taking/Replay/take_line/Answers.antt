@@ -3,6 +3,8 @@ use Rattle.std.proofs.lemmas.Result.{err_from_is_err_and}
 use Rattle.ds_script.specs.Progress.{Reached, TakesLines}
 use Rattle.ds_script.specs.Taking.{reached}
 use Rattle.ds_script.proofs.ProgressLemmas.{waits, takes_kept, takes_sent, takes_line, takes_then, line_after, where_both}
+use Rattle.line_io.proofs.CallLemmas.{only_calls_on}
+use Rattle.ds_script.proofs.CauseLemmas.{write_cause_on}
 use Rattle.ds_script.proofs.taking.Replay.take_line.Goals as goal
 
 pub returns-in_err-send_full-clause-takes : goal.returns-in_err-send_full-clause-takes
@@ -15,7 +17,7 @@ returns-in_err-send_full-clause-takes g c =
     rw (exit.1, exit.2) ((c.in_err-send_full.ensures).cause, λ text is. ([], waits old e.1, inl refl, takes_sent had has old e.0 e.1 e.2 e.3))
 
 pub returns-in-Ok-clause-takes : goal.returns-in-Ok-clause-takes
-returns-in-Ok-clause-takes g c = λ text is.
+returns-in-Ok-clause-takes g c = ((c.in_ok-send_full.ensures).led, λ text is.
     let s = (c.in_ok-send_full.ensures).ok in
     let a = (c.in-Ok.ensures).ok in
     let had = g.W.Sink.contents c.args.self.now.writer.now in
@@ -24,7 +26,7 @@ returns-in-Ok-clause-takes g c = λ text is.
     let mid : Reached = waits old c.send_full.new.output.items in
     let new : Reached = record old { session = c.answer_line.new.session; waiting = c.answer_line.new.output.items; lines = old.lines + 1 } in
     let one : TakesLines has has mid (text ∷ []) new = takes_line has mid new a.0 text a.1 (a.2 text is) refl refl refl in
-    takes_then had has has old mid new [] (text ∷ []) (takes_sent had has old s.0 mid.waiting s.1 s.2) one
+    takes_then had has has old mid new [] (text ∷ []) (takes_sent had has old s.0 mid.waiting s.1 s.2) one)
 
 pub returns-in-Err-BadLine-clause-takes : goal.returns-in-Err-BadLine-clause-takes
 returns-in-Err-BadLine-clause-takes g c =
@@ -37,11 +39,18 @@ returns-in-Err-BadLine-clause-takes g c =
     let mid : Reached = record old { session = c.answer_line.new.session; waiting = c.answer_line.new.output.items } in
     let split : old.waiting ≡ s.0 ++ mid.waiting = s.1 ∙ ap (λ t. s.0 ++ t) (sym e.err) in
     let kept : TakesLines had has old [] mid = takes_kept had has old mid s.0 split s.2 (rw c.in-Err-BadLine.field-0-is at e.kept) refl refl refl in
+    let from = c.args.self.now.writer.now in
+    let at = c.send_full.new.writer in
+    let to = c.take_bad.new.self.writer.now in
+    let led = (c.in_ok-send_full.ensures).led in
     where_both c.take_bad.result
-    (λ _ done text is.
-    takes_then had has last old mid (reached c.take_bad.new.self) [] (text ∷ []) kept (done text (rw c.in-Err-BadLine.field-0-is at (e.fault text is))))
+    (λ _ done. (
+      only_calls_on g.W.Sink.writes from at to led done.0,
+      λ text is.
+          takes_then had has last old mid (reached c.take_bad.new.self) [] (text ∷ []) kept (done.1 text (rw c.in-Err-BadLine.field-0-is at (e.fault text is))),
+    ))
     (λ fault stops. (
-      stops.0,
+      write_cause_on g.W.Sink fault from at to led stops.0,
       λ text is.
           line_after fault had has last old mid text c.take_bad.new.self.output.items kept (stops.1 text (rw c.in-Err-BadLine.field-0-is at (e.fault text is))),
     ))
@@ -54,4 +63,4 @@ returns-in-Err-NoRoom-clause-takes g c =
     let left : List ℕ = c.answer_line.new.output.items in
     let had = g.W.Sink.contents c.args.self.now.writer.now in
     let has = g.W.Sink.contents c.send_full.new.writer in
-    (tt, λ text is. (waits old left, takes_sent had has old s.0 left (s.1 ∙ ap (λ t. s.0 ++ t) (sym (c.in-Err-NoRoom.ensures).err)) s.2, refl))
+    ((c.in_ok-send_full.ensures).led, λ text is. (waits old left, takes_sent had has old s.0 left (s.1 ∙ ap (λ t. s.0 ++ t) (sym (c.in-Err-NoRoom.ensures).err)) s.2, refl))

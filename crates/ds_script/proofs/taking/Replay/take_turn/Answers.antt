@@ -4,6 +4,8 @@ use Rattle.ds_script.specs.Progress.{Reached, TakesLines}
 use Rattle.ds_script.specs.Taking.{reached, written}
 use Rattle.ds_script.proofs.ProgressLemmas.{waits, takes_written, where_both}
 use Rattle.ds_script.proofs.RunLemmas.{turn_unsent, turns_after, turn_stops_after}
+use Rattle.line_io.proofs.CallLemmas.{only_calls_on}
+use Rattle.ds_script.proofs.CauseLemmas.{turn_cause_on}
 use Rattle.ds_script.proofs.taking.Replay.take_turn.Goals as goal
 
 pub returns-in_err-send-clause-turns : goal.returns-in_err-send-clause-turns
@@ -28,7 +30,11 @@ returns-clause-turns g c =
     let d = written g.W.Sink c.take_read.new.self in
     let pending = c.args.lines.now.rest in
     let sent : TakesLines a b old [] mid = takes_written a b old c.send.new.output.items s.0 s.1 in
+    let first = c.args.self.now.writer.now in
+    let at = c.send.new.writer in
+    let last = c.take_read.new.self.writer.now in
+    let led = (c.in_ok-send.ensures).led in
     where_both c.take_read.result
-    (λ more t. (t.0, turns_after more from to a b d old mid new pending c.take_read.new.lines.rest sent t.1))
-    (λ fault t. (t.0, turn_stops_after fault from to a b d old mid pending c.take_read.new.self.output.items sent t.1))
+    (λ more t. (t.0, only_calls_on g.W.Sink.writes first at last led t.1, turns_after more from to a b d old mid new pending c.take_read.new.lines.rest sent t.2))
+    (λ fault t. (turn_cause_on g.R.Source g.W.Sink fault c.args.reader.now c.take_read.new.reader first at last led t.0, turn_stops_after fault from to a b d old mid pending c.take_read.new.self.output.items sent t.1))
     c.take_read.ensures.turns

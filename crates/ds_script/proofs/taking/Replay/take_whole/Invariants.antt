@@ -1,6 +1,6 @@
 use Rattle.std.proofs.Common.{◌≡◌, length}
 use Rattle.ds_script.specs.Progress.{TakesText}
-use Rattle.ds_script.specs.Taking.{reached, written, KeepsWriter}
+use Rattle.ds_script.specs.Taking.{reached, written, KeepsWriter, OnlyWrites}
 use Rattle.ds_script.proofs.taking.Replay.take_whole.Given as goal
 
 abbrev pub invariant-loop-self : goal.invariant-loop-self
@@ -9,6 +9,7 @@ invariant-loop-self g l = record {
   count : l.self.tally.lines ≡ l.lines.count;
   reads : l.lines.reads ≡ l.fn.lines.reads;
   same : KeepsWriter l.fn.self l.self;
+  wrote : OnlyWrites g.W.Sink l.fn.self l.self;
 }
 
 abbrev pub decreases-loop-self : goal.decreases-loop-self
