@@ -9,7 +9,7 @@ const KEPT: usize = 1024;
 #[derive(Drop)]
 pub struct WithFront<R> {
     /// The reader.
-    pub reader: R,
+    reader: R,
     front: [u8; KEPT],
     count: usize,
 }

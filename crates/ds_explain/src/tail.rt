@@ -12,7 +12,7 @@ const KEPT: usize = 2 * AT_ONCE + 2;
 #[derive(Drop)]
 pub struct WithTail<R> {
     /// The reader.
-    pub reader: R,
+    reader: R,
     kept: [u8; KEPT],
     count: usize,
     passed: u64,

@@ -18,27 +18,27 @@ pub(crate) fn record_input<R: Runtime + AllocGlobal>(
     form: TraceForm,
 ) -> Result<ExitCode, Failure> {
     greet(rt, terminals, Greeting::Commands);
-    let mut reader = Plain(WithTail::new(Typed::unprompted(rt, input)));
-    let mut writer = Plain(Answers::new(rt, io::writer(rt)));
+    let mut reader = Plain::new(WithTail::new(Typed::unprompted(rt, input)));
+    let mut writer = Plain::new(Answers::new(rt, io::writer(rt)));
     let recorded = record(rt.alloc(), &mut reader, &mut writer, form_of(form));
-    outcome(rt, recorded, &mut reader.0, writer.0.fault)
+    outcome(rt, recorded, &mut reader, writer.fault)
 }
 
 // Returns the exit status of a recording, or why the input or the trace failed.
 fn outcome<R: Runtime + AllocGlobal>(
     rt: &R,
     recorded: Result<u64, RecordFault>,
-    input: &mut WithTail<Typed<'_, R>>,
+    reader: &mut Plain<WithTail<Typed<'_, R>>>,
     unwritten: Option<io::Error>,
 ) -> Result<ExitCode, Failure> {
     match recorded {
         Ok(_) => Ok(ExitCode::SUCCESS),
         Err(RecordFault::BadLine { line, place }) => {
             let _ = eprintln!(rt; "badline {line} {place}");
-            explain_recorded(rt, line, place, input.from_line(line));
+            explain_recorded(rt, line, place, reader.inner.from_line(line));
             Ok(ExitCode::from(1))
         }
-        Err(RecordFault::ReadFault) => Err(Failure::ReadFault(input.reader.fault)),
+        Err(RecordFault::ReadFault) => Err(Failure::ReadFault(reader.fault)),
         Err(RecordFault::WriteFault) => Err(Failure::WriteFault(unwritten)),
         Err(RecordFault::NoRoom) => Err(Failure::NoRoom),
     }

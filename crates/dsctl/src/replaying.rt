@@ -85,17 +85,18 @@ pub(crate) fn replay_input<R: Runtime + AllocGlobal>(
     let last = LastLine::new();
     let line = LineNumber::new();
     let typed = Typed::prompted(rt, input, terminals, &last);
-    let mut reader = Plain(Stepped::new(rt, typed, replaying.ends, &line));
-    let Ok(has_notes) = reader.0.take_header() else {
-        return Err(Failure::ReadFault(reader.0.reader.fault));
-    };
-    let mut writer = Plain(Answers::explained(rt, io::writer(rt), terminals, &last));
+    let mut reader = Plain::new(Stepped::new(rt, typed, replaying.ends, &line));
+    let has_notes = reader
+        .inner
+        .take_header()
+        .map_err(|error| Failure::ReadFault(Some(error)))?;
+    let mut writer = Plain::new(Answers::explained(rt, io::writer(rt), terminals, &last));
     let mut explainer = Explainer {
         rt,
         audience: audience(terminals),
         bad_lines,
         line: has_notes.then_some(&line),
-        kind: kind_of(&reader.0, terminals, has_notes),
+        kind: kind_of(&reader.inner, terminals, has_notes),
         unwritten: None,
     };
     let replayed = answer(
@@ -106,14 +107,13 @@ pub(crate) fn replay_input<R: Runtime + AllocGlobal>(
         bad_lines,
         has_notes,
     );
-    let mut stepped = reader.0;
     let status = outcome(
         replayed,
-        explainer.unwritten.or(stepped.unwritten),
-        stepped.reader.fault,
-        writer.0.fault,
+        explainer.unwritten.or(reader.inner.unwritten),
+        reader.fault,
+        writer.fault,
     )?;
-    match stepped.end_answer() {
+    match reader.inner.end_answer() {
         Ok(()) => Ok(status),
         Err(error) => Err(Failure::WriteFault(Some(error))),
     }

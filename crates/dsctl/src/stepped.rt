@@ -58,7 +58,7 @@ pub(crate) struct Stepping {
 #[derive(Drop)]
 pub(crate) struct Stepped<'a, R, I> {
     rt: &'a R,
-    pub(crate) reader: I,
+    reader: I,
     how: Stepping,
     line: &'a LineNumber,
     block: [u8; BLOCK],

@@ -17,27 +17,26 @@ pub(crate) fn judge_input<R: Runtime + AllocGlobal>(
     input: Input<R>,
 ) -> Result<ExitCode, Failure> {
     greet(rt, terminals, Greeting::Trace);
-    let mut reader = Plain(WithFront::new(Typed::unprompted(rt, input)));
+    let mut reader = Plain::new(WithFront::new(Typed::unprompted(rt, input)));
     let judged = judge(rt.alloc(), &mut reader);
-    let input = reader.0;
-    tell_verdict(rt, &judged, &input)
+    tell_verdict(rt, &judged, &reader)
 }
 
 // Prints the verdict on a trace, and explains what is wrong with it.
 fn tell_verdict<R: Runtime + AllocGlobal>(
     rt: &R,
     judged: &Judged,
-    input: &WithFront<Typed<'_, R>>,
+    reader: &Plain<WithFront<Typed<'_, R>>>,
 ) -> Result<ExitCode, Failure> {
     let (word, number) = match judged.verdict {
         Verdict::Legal { length } => ("legal", length),
         Verdict::IllegalAt(line) => ("illegal", line),
         Verdict::BadLineAt(line) => ("badline", line),
-        Verdict::ReadFault => return Err(Failure::ReadFault(input.reader.fault)),
+        Verdict::ReadFault => return Err(Failure::ReadFault(reader.fault)),
         Verdict::NoRoom => return Err(Failure::NoRoom),
     };
     match println!(rt; "{word} {number}") {
-        Ok(()) => Ok(explain_wrong_line(rt, judged, input)),
+        Ok(()) => Ok(explain_wrong_line(rt, judged, &reader.inner)),
         Err(error) => Err(Failure::WriteFault(Some(error))),
     }
 }
@@ -77,10 +76,10 @@ pub(crate) fn upgrade_input<R: Runtime + AllocGlobal>(
     input: Input<R>,
 ) -> Result<ExitCode, Failure> {
     greet(rt, terminals, Greeting::Trace);
-    let mut reader = Plain(WithTail::new(Typed::unprompted(rt, input)));
-    let mut writer = Plain(Answers::new(rt, io::writer(rt)));
+    let mut reader = Plain::new(WithTail::new(Typed::unprompted(rt, input)));
+    let mut writer = Plain::new(Answers::new(rt, io::writer(rt)));
     let upgraded = upgrade(rt.alloc(), &mut reader, &mut writer);
-    outcome(rt, terminals, upgraded, &mut reader.0, writer.0.fault)
+    outcome(rt, terminals, upgraded, &mut reader, writer.fault)
 }
 
 // Returns the exit status of an upgrade, or why reading or writing failed.
@@ -88,18 +87,18 @@ fn outcome<R: Runtime + AllocGlobal>(
     rt: &R,
     terminals: Terminals,
     upgraded: Result<u64, UpgradeFault>,
-    input: &mut WithTail<Typed<'_, R>>,
+    reader: &mut Plain<WithTail<Typed<'_, R>>>,
     unwritten: Option<io::Error>,
 ) -> Result<ExitCode, Failure> {
     match upgraded {
         Ok(_) => Ok(ExitCode::SUCCESS),
-        Err(UpgradeFault::ReadFault) => Err(Failure::ReadFault(input.reader.fault)),
+        Err(UpgradeFault::ReadFault) => Err(Failure::ReadFault(reader.fault)),
         Err(UpgradeFault::WriteFault) => Err(Failure::WriteFault(unwritten)),
         Err(UpgradeFault::NoRoom) => Err(Failure::NoRoom),
         Err(fault) => {
             let _ = rt.eprintln(fault);
             if terminals.error {
-                explain_upgrade(rt, fault, wrong_line(input, fault));
+                explain_upgrade(rt, fault, wrong_line(&mut reader.inner, fault));
             }
             Ok(ExitCode::from(1))
         }

@@ -83,7 +83,7 @@ impl LastLine {
     }
 }
 
-/// An input, with a prompt before each line if a user types it. Keeps the error of the last failed read.
+/// An input, with a prompt before each line if a user types it.
 ///
 /// At the prompt, an empty line, a comment, `help`, `help all`, `help WORD`, `?`, `quit`, `exit`, and a line that ^C ends
 /// are handled here, and aren't lines of the script. Once the input has ended it isn't read again: a terminal would wait for another ^D.
@@ -95,8 +95,6 @@ pub struct Typed<'a, R: Runtime> {
     prompts: bool,
     begins_line: bool,
     ended: bool,
-    /// The error of the last failed read.
-    pub fault: Option<io::Error>,
 }
 
 impl<'a, R: Runtime> Typed<'a, R> {
@@ -122,7 +120,6 @@ impl<'a, R: Runtime> Typed<'a, R> {
             prompts: false,
             begins_line: true,
             ended: false,
-            fault: None,
         }
     }
 
@@ -250,15 +247,12 @@ fn is_own(word: &[u8]) -> bool {
     asks_for_help(word) || asks_to_end(word)
 }
 
-/// Standard output. At a prompt, each refusal is followed by its meaning on standard error. Keeps the error of the last
-/// failed write.
+/// Standard output. At a prompt, each refusal is followed by its meaning on standard error.
 #[derive(Drop)]
 pub struct Answers<'a, R: Runtime, W> {
     rt: &'a R,
     writer: W,
     last: Option<&'a LastLine>,
-    /// The error of the last failed write.
-    pub fault: Option<io::Error>,
 }
 
 impl<'a, R: Runtime, W: Write> Answers<'a, R, W> {
@@ -268,7 +262,6 @@ impl<'a, R: Runtime, W: Write> Answers<'a, R, W> {
             rt,
             writer,
             last: None,
-            fault: None,
         }
     }
 
@@ -290,13 +283,9 @@ impl<'a, R: Runtime, W: Write> Answers<'a, R, W> {
 impl<R: Runtime, W: Write> Write for Answers<'_, R, W> {
     fn write(&mut self, buf: &[u8]) -> io::Result<usize> {
         let written = self.writer.write(buf);
-        match (&written, self.last) {
-            (Err(error), _) => self.fault = Some(*error),
-            (Ok(count), Some(last)) => {
-                let taken = buf.get(..*count).unwrap_or(buf);
-                explain_refusals(self.rt, last.topic.get(), taken);
-            }
-            (Ok(_), None) => {}
+        if let (Ok(count), Some(last)) = (&written, self.last) {
+            let taken = buf.get(..*count).unwrap_or(buf);
+            explain_refusals(self.rt, last.topic.get(), taken);
         }
         written
     }
@@ -313,19 +302,14 @@ impl<R: Runtime> Read for Typed<'_, R> {
         }
         for _asked in 0..u64::MAX {
             self.prompt();
-            match self.reader.read(buf) {
-                Ok(count) => match self.meaning(&buf[..count]) {
-                    Meaning::Line => return Ok(count),
-                    Meaning::End => {
-                        self.ended = true;
-                        return Ok(0);
-                    }
-                    Meaning::Nothing | Meaning::Help => {}
-                },
-                Err(error) => {
-                    self.fault = Some(error);
-                    return Err(error);
+            let count = self.reader.read(buf)?;
+            match self.meaning(&buf[..count]) {
+                Meaning::Line => return Ok(count),
+                Meaning::End => {
+                    self.ended = true;
+                    return Ok(0);
                 }
+                Meaning::Nothing | Meaning::Help => {}
             }
         }
         Ok(0)

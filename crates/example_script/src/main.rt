@@ -19,8 +19,8 @@ fn main(rt: HostRuntime) -> ExitCode {
 
 // Answers the script on standard input, and returns the number of its lines.
 fn answer_input(rt: &(impl Runtime + AllocGlobal)) -> Result<u64, ReplayFault> {
-    let mut reader = Plain(rt.reader());
-    let mut writer = Plain(io::writer(rt));
+    let mut reader = Plain::new(rt.reader());
+    let mut writer = Plain::new(io::writer(rt));
     replay(rt.alloc(), &mut reader, &mut writer)
 }
 
