@@ -15,6 +15,7 @@ use Rattle.trace_record.specs.declared.form.Form.{Form}
 use Rattle.trace_record.specs.declared.form.Form.TheVariants.{One, Two}
 use Rattle.trace_record.specs.Asking.{asked_by}
 use Rattle.trace_record.specs.Record.{header_of}
+use Rattle.trace_record.specs.Stepping.{AllAnswered, IsAnswer, IsLastOf}
 use Rattle.trace_record.specs.Steps.{Recorded}
 use Rattle.trace_record.proofs.AskingLemmas.{ask_more}
 
@@ -32,6 +33,7 @@ recorded_none h is =
       entries = [];
       asks = refl;
       trace = record { header = is; each = All-nil (IsEntry h.format); history = refl; written = sym (append-nil (header_text h)) };
+      answered = refl;
       traced = b.traced;
       counted = refl;
     }
@@ -42,14 +44,18 @@ lead_more : (format : Format) (entries : List TraceEntry) (e : TraceEntry) (s t 
 lead_more format [] e s t u l x = (u, subst (λ (z : State). EntryLeads format z e u) l x, refl)
 lead_more format (f ∷ entries) e s t u l x = (l.0, l.1, lead_more format entries e l.0 t u l.2 x)
 
+answered_more : (format : Format) (entries : List TraceEntry) (e : TraceEntry) (s t u : State) → AllAnswered format s entries t → IsAnswer format t e u → AllAnswered format s (entries ++ e ∷ []) u
+answered_more format [] e s t u l x = (u, subst (λ (z : State). IsAnswer format z e u) l x, refl)
+answered_more format (f ∷ entries) e s t u l x = (l.0, l.1, answered_more format entries e l.0 t u l.2 x)
+
 written_more : (h : Header) (entries : List TraceEntry) (e : TraceEntry) → trace_text h (entries ++ e ∷ []) ≡ trace_text h entries ++ entry_text h.limits e
 written_more h entries e =
     ap (λ (l : List ℕ). header_text h ++ l) (flat_map-append (entry_text h.limits) entries (e ∷ []) ∙ ap (λ (l : List ℕ). flat_map (entry_text h.limits) entries ++ l) (append-nil (entry_text h.limits e)))
     ∙ sym (append_assoc (header_text h) (flat_map (entry_text h.limits) entries) (entry_text h.limits e))
 
-pub recorded_more : (h : Header) (text asking more : List ℕ) (s t : State) (count : ℕ) (e : TraceEntry) → Recorded h text asking s count → IsEntry h.format e → EntryLeads h.format s e t → asked_by more ≡ asked_text e.pass e.asked →
+pub recorded_more : (h : Header) (text asking more : List ℕ) (s t : State) (count : ℕ) (e : TraceEntry) → Recorded h text asking s count → IsEntry h.format e → (x : EntryLeads h.format s e t) → IsLastOf h.format s x.0 e.reply → asked_by more ≡ asked_text e.pass e.asked →
     Recorded h (text ++ entry_text h.limits e) (asking ++ more) t (suc count)
-recorded_more h text asking more s t count e r is x asks =
+recorded_more h text asking more s t count e r is x last asks =
     record {
       entries = r.entries ++ e ∷ [];
       asks = ask_more asking more r.entries e r.asks asks;
@@ -59,6 +65,7 @@ recorded_more h text asking more s t count e r is x asks =
         history = lead_more h.format r.entries e (opened_by h) s t r.trace.history x;
         written = ap (λ (l : List ℕ). l ++ entry_text h.limits e) r.trace.written ∙ sym (written_more h r.entries e);
       };
+      answered = answered_more h.format r.entries e (opened_by h) s t r.answered (x.0, x.1, x.2, last);
       traced = traced_stays h.format e.pass e.asked x.0 s t e.reply r.traced is.asked x.1 x.2;
       counted = omega (arith, r.counted, length-append r.entries (e ∷ []));
     }

@@ -6,3 +6,4 @@ pub mod StepLemmas
 pub mod RunLemmas
 pub mod CauseLemmas
 pub mod PlaceLemmas
+pub mod LastLemmas

@@ -27,6 +27,7 @@ use Rattle.trace_record.specs.declared.recorder.Recorder.{Recorder}
 use Rattle.trace_record.specs.Asking.{IsPlaceOfLine, AsksNothing, IsFirstLines, IsRingLine, asked_by}
 use Rattle.trace_record.specs.Reading.{IsAtLine, IsOfInput, IsOfLines, of_lines}
 use Rattle.trace_record.specs.Record.{IsBeforeFault}
+use Rattle.trace_record.specs.Stepping.{IsLastOf}
 use Rattle.trace_record.specs.Steps.{AddedEntry, AddsEntry, AnswersAsked, AnswersIn, FailsAtHead, FailsInEntry, HeadsFrom, KeepsOutput, Recorded}
 use Rattle.trace_record.proofs.AskingLemmas.{asked_after}
 use Rattle.trace_record.proofs.BadLineLemmas.{asks_nothing, front_there, lacks_item}
@@ -75,6 +76,7 @@ module _ (w read new : Recorder) (whole : EntryReader) (from to : Option (List �
       let h : Header = w.header in
       let e : TraceEntry = record { pass = hf.pass; asked = asked; reply = q.reply } in
       let step = subst (λ (z : Header). StepOf z.format s q.command q.reply q.new_state) hf.keeps.0 q.step in
+      let last = subst (λ (z : Header). IsLastOf z.format s q.command q.reply) hf.keeps.0 q.last in
       let told : entry_text h.limits e ≡ whole.text.items ++ marked (reply_lines (worded_as asked) q.reply read.header.limits) =
       ap (λ (t : List ℕ). t ++ marked (reply_lines (worded_as asked) q.reply h.limits)) (l.whole ∙ sym l.text) ∙ ap (λ (z : Header). whole.text.items ++ marked (reply_lines (worded_as asked) q.reply z.limits)) (sym hf.keeps.0) in
       record {
@@ -82,7 +84,7 @@ module _ (w read new : Recorder) (whole : EntryReader) (from to : Option (List �
         more = line ++ l.more;
         new_state = q.new_state;
         some = lines_some;
-        recorded = recorded_more h text asking (line ++ l.more) s q.new_state count e r (record { pass = hf.is.0; asked = l.may }) (q.command, q.asks, step) lines_asked;
+        recorded = recorded_more h text asking (line ++ l.more) s q.new_state count e r (record { pass = hf.is.0; asked = l.may }) (q.command, q.asks, step) last lines_asked;
         stands = q.stands;
         output = q.output ∙ ap (λ (t : List ℕ). read.output.items ++ t) (sym told) ∙ ap (λ (t : List ℕ). t ++ entry_text h.limits e) hf.keeps.1;
         over = lines_over stays;

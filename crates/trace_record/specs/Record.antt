@@ -7,12 +7,13 @@ use Rattle.ds_machine.specs.State.{State}
 use Rattle.trace_walk.specs.declared.header.Format.{Format}
 use Rattle.trace_walk.specs.declared.header.Format.TheVariants as formats
 use Rattle.trace_walk.specs.declared.header.Header.{Header}
-use Rattle.trace_walk.specs.Legal.{IsTrace}
+use Rattle.trace_walk.specs.Legal.{IsTrace, opened_by}
 use Rattle.trace_walk.specs.Text.{TraceEntry}
 use Rattle.trace_record.specs.declared.fault.RecordFault.{RecordFault}
 use Rattle.trace_record.specs.declared.fault.RecordFault.TheVariants.{BadLine, WriteFault, NoRoom}
 use Rattle.trace_record.specs.declared.form.Form.{Form}
 use Rattle.trace_record.specs.declared.form.Form.TheVariants.{One, Two}
+use Rattle.trace_record.specs.Stepping.{AllAnswered}
 use Rattle.trace_record.specs.Asking.{AskAll, OpensWith, AsksNothingAt, IsFirstLines, IsAllLines}
 
 -- The header of a store of incarnation 1, whose positions begin at 0 and whose journal keeps `ring` items.
@@ -24,7 +25,8 @@ abbrev pub format_of : Form → Format
 format_of One = formats.One
 format_of (Two limits) = formats.Two
 
--- Whether the text is a legal trace of `count` entries, which are the input's lines, in order.
+-- Whether the text is a legal trace of `count` entries, which are the input's lines, in order, and one store's answers to
+-- them.
 pub record IsRecord (form : Form) (input text : List ℕ) (count : ℕ) : Type 0 where
   pub ring : ℕ
   pub first : List ℕ
@@ -35,6 +37,7 @@ pub record IsRecord (form : Form) (input text : List ℕ) (count : ℕ) : Type 0
   pub input_is : input ≡ first ++ asking
   pub asks : AskAll asking entries
   pub trace : IsTrace text (header_of form ring) entries last
+  pub answered : AllAnswered (header_of form ring).format (opened_by (header_of form ring)) entries last
   pub counted : length entries ≡ count
 
 -- Whether the trace of everything that the reader has was written.

@@ -21,6 +21,7 @@ use Rattle.trace_record.specs.declared.recorder.Recorder.{Recorder}
 use Rattle.trace_record.specs.Asking.{AskAll, IsRingLine, asked_by}
 use Rattle.trace_record.specs.Reading.{IsAtLine, IsBadHead, IsOfInput}
 use Rattle.trace_record.specs.Record.{IsBeforeFault, header_of}
+use Rattle.trace_record.specs.Stepping.{AllAnswered, IsLastOf}
 
 -- ---- what is unchanged
 
@@ -74,6 +75,7 @@ pub record AnswersIn (old : Recorder) (asked : Asked) (new : Recorder) (s : Stat
   pub reply : Reply
   pub asks : command_asked asked ≡ Some command
   pub step : StepOf old.header.format s command reply new_state
+  pub last : IsLastOf old.header.format s command reply
   pub stands : ContentStands new.store new_state
   pub output : new.output.items ≡
       old.output.items ++ (old.entry.text.items ++ marked (reply_lines (worded_as asked) reply old.header.limits))
@@ -90,6 +92,7 @@ pub record Recorded (h : Header) (text asking : List ℕ) (s : State) (count : �
   pub entries : List TraceEntry
   pub asks : AskAll asking entries
   pub trace : IsTrace text h entries s
+  pub answered : AllAnswered h.format (opened_by h) entries s
   pub traced : IsTraced h.format s
   pub counted : length entries ≡ count
 

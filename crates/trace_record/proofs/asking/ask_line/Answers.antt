@@ -6,6 +6,7 @@ use Rattle.trace_walk.specs.declared.header.Format.{Format}
 use Rattle.trace_walk.specs.OneReply.{IsTraced}
 use Rattle.trace_walk.specs.Sweep.{older_sweep}
 use Rattle.trace_walk.proofs.ToldLemmas.{older_is, plain_steps, sweep_step}
+use Rattle.trace_record.proofs.LastLemmas.{plain_last, sweep_last}
 use Rattle.trace_record.proofs.asking.ask_line.Goals as goal
 
 pub returns-in-Some-clause-step : goal.returns-in-Some-clause-step
@@ -20,6 +21,7 @@ returns-in-Some-clause-step c =
       (older_sweep s swept.caller swept.owner swept.generation).1,
       ap store_command is.1,
       sweep_step format s swept.caller swept.owner swept.generation answer.reply is.0 r.0,
+      sweep_last format s swept.caller swept.owner swept.generation answer.reply is.0 r.0,
       r.1,
     ))
     c.ask_older.ensures.step
@@ -29,5 +31,5 @@ returns-clause-step c =
     IfOk-weaker c.ask_plain.result _ _
     (λ answer steps s stands traced.
     let p = steps s stands in
-    (p.0, p.1, p.2, plain_steps c.args.format c.args.command p.0 (sym c.older.ensures ∙ c.in_default.is) p.2 s p.1 answer.reply p.3, p.4))
+    (p.0, p.1, p.2, plain_steps c.args.format c.args.command p.0 (sym c.older.ensures ∙ c.in_default.is) p.2 s p.1 answer.reply p.3, plain_last c.args.format c.args.command p.0 (sym c.older.ensures ∙ c.in_default.is) p.2 s answer.reply p.4, p.5))
     c.ask_plain.ensures.step

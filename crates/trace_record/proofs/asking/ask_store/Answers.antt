@@ -10,7 +10,8 @@ use Rattle.trace_walk.specs.declared.header.Format.{Format}
 use Rattle.trace_walk.specs.declared.header.Format.TheVariants.{One, Two}
 use Rattle.trace_walk.specs.Legal.{StepOf}
 use Rattle.trace_walk.specs.Text.{command_asked, worded_as}
-use Rattle.trace_record.specs.Stepping.{StepsBy}
+use Rattle.ds_store.specs.Last.{IsLast}
+use Rattle.trace_record.specs.Stepping.{IsLastOf, StepsBy}
 use Rattle.trace_record.proofs.asking.ask_store.Goals as goal
 
 pub returns-in-Line-clause-step : goal.returns-in-Line-clause-step
@@ -25,10 +26,14 @@ merge_step : (format : Format) (s t : State) (items : List Item) (reply : Reply)
 merge_step One s t items reply step = step
 merge_step Two s t items reply step = step
 
+merge_last : (format : Format) (s : State) (items : List Item) (reply : Reply) → IsLast s (Merge items) reply → IsLastOf format s (Merge items) reply
+merge_last One s items reply last = last
+merge_last Two s items reply last = last
+
 pub returns-in-Merge-clause-step : goal.returns-in-Merge-clause-step
 returns-in-Merge-clause-step c s stands traced =
     let step = c.apply.ensures.step s stands in
-    (Merge c.in-Merge.items, step.0, ap command_asked c.in-Merge.is, merge_step c.args.format s step.0 c.in-Merge.items c.apply.result step.1, step.2)
+    (Merge c.in-Merge.items, step.0, ap command_asked c.in-Merge.is, merge_step c.args.format s step.0 c.in-Merge.items c.apply.result step.1, merge_last c.args.format s c.in-Merge.items c.apply.result (c.apply.ensures.last s stands), step.2)
 
 pub returns-in-Merge-clause-wording : goal.returns-in-Merge-clause-wording
 returns-in-Merge-clause-wording c = ap worded_as (sym c.in-Merge.is)

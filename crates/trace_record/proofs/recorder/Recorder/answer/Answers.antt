@@ -23,7 +23,8 @@ returns-clause-goes c =
             reply = answer.reply;
             asks = q.2;
             step = q.3;
-            stands = subst (λ (k : ContentRecord). ContentStands k q.1) (sym a.store) q.4;
+            last = q.4;
+            stands = subst (λ (k : ContentRecord). ContentStands k q.1) (sym a.store) q.5;
             output = a.output ∙ ap (λ (w : Wording). old.output.items ++ (old.entry.text.items ++ marked (reply_lines w answer.reply old.header.limits))) c.in_ok-answer.ensures.wording;
           },
     ))
