@@ -104,7 +104,7 @@ still_full laws stood s sub stamp count reading items k mid went =
 pub overtaken : ReaderLaws → (stood : State → Type 0) (s : State) (sub stamp count : ℕ) (reading : Reading) (items more : List Item)
     (k : Checking stood s sub reading.max reading.query items stamp count) (t : State) (before after : ℕ) →
     Asked k.now (commands.Check sub reading.max) (replies.Checked more before after) t → before ≢ stamp →
-    (turns : List CheckTurn) × IsOvertaken s t sub reading turns
+    (turns : List CheckTurn) × IsOvertaken s t sub reading turns × (length turns ≡ count)
 unfolding still_full all_full shows_checked
 overtaken laws stood s sub stamp count reading items more k t before after a other =
     let found = laws.checked a.mid t sub reading.max more before after a.answered.step in
@@ -118,6 +118,7 @@ overtaken laws stood s sub stamp count reading items more k t before after a oth
         differs = λ e. other (found.before_is ∙ e ∙ k.stamp_is);
         goes = laws.step a.mid t (commands.Check sub reading.max) (replies.Checked more before after) reached a.answered.step;
       },
+      k.count_is,
     )
 
 -- one with any stamp

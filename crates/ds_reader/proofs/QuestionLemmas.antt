@@ -11,7 +11,7 @@ use Rattle.ds_machine.specs.declared.command.Command.TheVariants.{Check, Page, S
 use Rattle.ds_machine.specs.declared.command.Scope.{Scope}
 use Rattle.ds_machine.specs.declared.command.Scope.TheVariants.{Under}
 use Rattle.ds_reader.specs.Asked.{subscribe_anew}
-use Rattle.ds_reader.specs.Questions.{AsksByChecks, AsksByPages, AsksFew, IsPageOf, IsSinceOf}
+use Rattle.ds_reader.specs.Questions.{AsksByChecks, AsksByPages, AsksFew, AsksSoManyChecks, IsPageOf, IsSinceOf}
 use Rattle.ds_reader.specs.declared.reading.Reading.{Reading}
 
 module _ {A : Type 0} (asks_once : A → Command → A → Type 0) where
@@ -38,28 +38,36 @@ module _ {A : Type 0} (asks_once : A → Command → A → Type 0) where
     abbrev IsCheck : Command → Type 0
     IsCheck command = command ≡ Check sub reading.max
 
-    pub record HasChecked (count : ℕ) (old now : A) : Type 0 where
-      pub subscribed : A
-      pub begins : asks_once old (subscribe_anew sub reading.query) subscribed
-      pub checks : AsksFew asks_once IsCheck count subscribed now
+    abbrev pub HasChecked : ℕ → A → A → Type 0
+    HasChecked count old now = AsksSoManyChecks asks_once sub reading count old now
 
     pub has_begun : (old new : A) (query : Query) → query ≡ reading.query → asks_once old (subscribe_anew sub query) new → HasChecked 0 old new
     has_begun old new query same asks = record {
       subscribed = new;
       begins = subst (λ (q : Query). asks_once old (subscribe_anew sub q) new) same asks;
-      checks = none_asked IsCheck 0 new;
+      commands = [];
+      asked = refl;
+      all = All-nil IsCheck;
+      counted = refl;
     }
 
     pub checks_more : (count : ℕ) (old now new : A) → HasChecked count old now → asks_once now (Check sub reading.max) new → HasChecked (count + 1) old new
     checks_more count old now new h asks = record {
       subscribed = h.subscribed;
       begins = h.begins;
-      checks = one_more IsCheck count h.subscribed now new (Check sub reading.max) h.checks asks refl;
+      commands = h.commands ++ Check sub reading.max ∷ [];
+      asked = path_push asks_once h.subscribed now new h.commands (Check sub reading.max) h.asked asks;
+      all = All-push IsCheck h.commands (Check sub reading.max) h.all refl;
+      counted = omega (arith, h.counted, length_push h.commands (Check sub reading.max));
     }
 
     pub by_checks : (count : ℕ) (old new : A) → count ≤ reading.questions → HasChecked count old new → AsksByChecks asks_once sub reading old new
     by_checks count old new small h =
-        inr record { subscribed = h.subscribed; begins = h.begins; checks = fewer IsCheck count reading.questions h.subscribed new small h.checks }
+        inr record {
+          subscribed = h.subscribed;
+          begins = h.begins;
+          checks = record { commands = h.commands; asked = h.asked; all = h.all; few = omega (arith, h.counted, small) };
+        }
 
   -- ---- a reader by pages
   module _ (reading : Reading) where

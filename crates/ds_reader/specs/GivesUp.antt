@@ -1,6 +1,6 @@
 -- The conditions on which a reader gives up: memory ran out for the items, the store refused a command, or the allowed
 -- number of commands wasn't enough.
-use Rattle.std.specs.Prelude.{◌≡◌, ◌≢◌, ◌⊎◌, ℕ, ◌<◌, ◌≤◌, true, List, [], ◌∷◌, ◌++◌, length, None, Some, All}
+use Rattle.std.specs.Prelude.{◌≡◌, ◌≢◌, ◌⊎◌, ℕ, ◌<◌, ◌≤◌, ◌+◌, true, List, [], ◌∷◌, ◌++◌, length, None, Some, All}
 use Rattle.std.specs.Option.{unwrap_or}
 use Rattle.ds_entry.specs.declared.item.Item.{Item}
 use Rattle.ds_feed.specs.declared.cursor.Cursor.{Cursor}
@@ -21,7 +21,8 @@ use Rattle.ds_machine.specs.declared.command.Command.TheVariants.{Check, Since, 
 use Rattle.ds_machine.specs.declared.command.Scope.TheVariants.{Under}
 use Rattle.ds_machine.specs.declared.reply.Reply.TheVariants as replies
 use Rattle.ds_store.specs.Last.{IsLast}
-use Rattle.ds_reader.specs.Asked.{Goes, subscribe_anew}
+use Rattle.ds_reader.specs.Asked.{ComesTo, Goes, subscribe_anew}
+use Rattle.ds_reader.specs.Questions.{AsksSoManyChecks}
 use Rattle.ds_reader.specs.declared.fault.ReadFault.{ReadFault}
 use Rattle.ds_reader.specs.declared.fault.ReadFault.TheVariants.{Refused, NoRoom, Unfinished, Overtaken, Worn}
 use Rattle.ds_reader.specs.declared.reading.Reading.{Reading}
@@ -65,6 +66,13 @@ pub record IsOvertaken (s t : State) (sub : ℕ) (reading : Reading) (turns : Li
   pub here : subscription_at found sub ≡ Some seer
   pub differs : seer.stamp ≢ all.was_left.shows.seer.stamp
   pub goes : GoesOn found t
+
+-- Whether the last Check that the asker sent found another stamp than the reader's last one, and all Checks before it were
+-- full.
+abbrev pub IsOvertakenAtLast : {A : Type 0} → (A → Command → A → Type 0) → (A → State → Type 0) → ℕ → Reading → (old new : A) → Type 0
+IsOvertakenAtLast asks_once stands sub reading old new =
+    (count : ℕ) × (count < reading.questions) × AsksSoManyChecks asks_once sub reading (count + 1) old new
+    × ComesTo stands old new (λ s t. (turns : List CheckTurn) × IsOvertaken s t sub reading turns × (length turns ≡ count))
 
 -- Whether one more Check returned items, for which memory may have run out. All Checks before it were full.
 pub record IsCheckedMore (s t : State) (reading : Reading) (turns : List CheckTurn) : Type 0 where

@@ -31,6 +31,15 @@ module _ {A : Type 0} (asks_once : A → Command → A → Type 0) where
     pub begins : asks_once old (subscribe_anew sub reading.query) subscribed
     pub checks : AsksFew (λ command. command ≡ Check sub reading.max) reading.questions subscribed new
 
+  -- Whether the asker sent one Subscribe with INITIAL, and then this many Checks.
+  pub record AsksSoManyChecks (sub : ℕ) (reading : Reading) (count : ℕ) (old new : A) : Type 0 where
+    pub subscribed : A
+    pub begins : asks_once old (subscribe_anew sub reading.query) subscribed
+    pub commands : List Command
+    pub asked : Path asks_once subscribed commands new
+    pub all : All (λ command. command ≡ Check sub reading.max) commands
+    pub counted : length commands ≡ count
+
   -- Whether the asker sent the commands of a reader by checks, or nothing, if memory ran out before the first one.
   abbrev pub AsksByChecks : ℕ → Reading → A → A → Type 0
   AsksByChecks sub reading old new = (new ≡ old) ⊎ AsksChecks sub reading old new

@@ -2,7 +2,7 @@
 
 ghost use Rattle.std.specs.Prelude.{◌≡◌, Err, IfOk, IfErr};
 ghost use Rattle.ds_reader.specs.Asked.{ComesTo};
-ghost use Rattle.ds_reader.specs.GivesUp.{StopsChecks};
+ghost use Rattle.ds_reader.specs.GivesUp.{IsOvertakenAtLast, StopsChecks};
 ghost use Rattle.ds_reader.specs.Questions.{AsksByChecks};
 ghost use Rattle.ds_reader.specs.ReadWhole.{AreChecked, IsReadWhole};
 
@@ -33,6 +33,7 @@ pub fn read_by_checks<A: Asks>(
     ensures whole { IfOk result (λ items. ComesTo A.stands asked.old asked.new (λ _ t. IsReadWhole t reading.now.query items)) }
     ensures items { IfOk result (λ items. ComesTo A.stands asked.old asked.new (λ s t. AreChecked s t reading.now.query items)) }
     ensures stopped { IfErr result (λ fault. ComesTo A.stands asked.old asked.new (λ s t. StopsChecks s t sub reading.now fault)) }
+    ensures overtaken { result ≡ Err ReadFault.Overtaken → IsOvertakenAtLast A.asks_once A.stands sub reading.now asked.old asked.new }
     ensures only { AsksByChecks A.asks_once sub reading.now asked.old asked.new }
     ensures worn { result ≡ Err ReadFault.Worn → A.is_worn asked.new }
     ensures same { A.origin_of asked.new ≡ A.origin_of asked.old }

@@ -29,7 +29,8 @@ turn_cause r w WriteFault old new from to h = h
 turn_cause r w NoRoom old new from to h = h
 
 -- The fault of a turn ends the script, after the reads and writes before it.
-pub run_cause : {R W : Type 0} (r : Reader R) (w : Writer W) (fault : ReplayFault) (n : ℕ) (old mid new : R) (from at to : W) → CallsLead r.reads n old mid → OnlyCalls w.writes from at → HasTurnCause r w fault mid new at to → HasCause r w fault old new from to
+pub run_cause : {R W : Type 0} (r : Reader R) (w : Writer W) (fault : ReplayFault) (n : ℕ) (old mid new : R) (from at to : W) → CallsLead r.reads n old mid → OnlyCalls w.writes from at → HasTurnCause r w fault mid new at to
+    → HasCause r w fault old new from to
 run_cause r w (BadLine number place expected) n old mid new from at to led wrote h = only_calls_on w.writes from at to wrote h
 run_cause r w ReadFault n old mid new from at to led wrote h = ((n, inl (mid, led, h.0)), only_calls_on w.writes from at to wrote h.1)
 run_cause r w WriteFault n old mid new from at to led wrote h = failed_on w.writes w.fails from at to wrote h

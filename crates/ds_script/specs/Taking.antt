@@ -81,7 +81,8 @@ TakesBad w old new place result =
 -- Whether the whole lines of a text are answered, and the rest is the front of a line; or why not.
 abbrev pub TakesWhole : {W B T : Type 0} → Writer W → Replay W B → Replay W B → (text rest : List ℕ) → Result T ReplayFault → Type 0
 TakesWhole w old new text rest result =
-    MatchResult result (λ _. OnlyWrites w old new × TakesText (written w old) (written w new) (reached old) text (reached new) rest × IsUnbroken rest)
+    MatchResult result
+    (λ _. OnlyWrites w old new × TakesText (written w old) (written w new) (reached old) text (reached new) rest × IsUnbroken rest)
     (λ fault. IsCaused w old new fault × StopsInText w old new text fault)
 
 -- Whether the front of a line may still become a line, and nothing is done; or why it is bad already.

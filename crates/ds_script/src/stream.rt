@@ -160,7 +160,8 @@ impl<W: Sink, B: Report> Replay<'_, W, B> {
             × Consumes (R.remaining reader.old) (R.remaining reader.new) input
             × Appends (W.contents self.old.writer.now) (W.contents self.new.writer.now) output
             × Stops self.old.bad_lines fault (R.remaining reader.new) input output self.new.output.items) }
-        ensures cause { IfErr result (λ fault. HasCause R.Source W.Sink fault reader.old reader.new self.old.writer.now self.new.writer.now) }
+        ensures cause { IfErr result (λ fault.
+            HasCause R.Source W.Sink fault reader.old reader.new self.old.writer.now self.new.writer.now) }
     {
         while lines.may_read() {
             let more = self.take_turn(reader, lines)?;

@@ -51,7 +51,7 @@ abbrev pub IsHarmed : Option Error → Type 0
 IsHarmed None = ⊥
 IsHarmed (Some error) = error_kind error ≢ kinds.Interrupted
 
--- What an error means for the call: an interruption is told as one, and any other error as a failure.
+-- Whether the call reports the error rightly: an interruption as one, and any other error as a failure.
 abbrev pub MeansMissed : Error → Missed → Type 0
 MeansMissed error Interrupted = error_kind error ≡ kinds.Interrupted
 MeansMissed error Failed = error_kind error ≢ kinds.Interrupted

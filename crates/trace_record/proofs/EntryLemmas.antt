@@ -15,7 +15,7 @@ use Rattle.trace_record.specs.declared.form.Form.{Form}
 use Rattle.trace_record.specs.declared.form.Form.TheVariants.{One, Two}
 use Rattle.trace_record.specs.Asking.{asked_by}
 use Rattle.trace_record.specs.Record.{header_of}
-use Rattle.trace_record.specs.Stepping.{AllAnswered, IsAnswer, IsLastOf}
+use Rattle.trace_record.specs.Stepping.{AllAnswered, EntryAnswered, IsLastOf}
 use Rattle.trace_record.specs.Steps.{Recorded}
 use Rattle.trace_record.proofs.AskingLemmas.{ask_more}
 
@@ -44,8 +44,8 @@ lead_more : (format : Format) (entries : List TraceEntry) (e : TraceEntry) (s t 
 lead_more format [] e s t u l x = (u, subst (λ (z : State). EntryLeads format z e u) l x, refl)
 lead_more format (f ∷ entries) e s t u l x = (l.0, l.1, lead_more format entries e l.0 t u l.2 x)
 
-answered_more : (format : Format) (entries : List TraceEntry) (e : TraceEntry) (s t u : State) → AllAnswered format s entries t → IsAnswer format t e u → AllAnswered format s (entries ++ e ∷ []) u
-answered_more format [] e s t u l x = (u, subst (λ (z : State). IsAnswer format z e u) l x, refl)
+answered_more : (format : Format) (entries : List TraceEntry) (e : TraceEntry) (s t u : State) → AllAnswered format s entries t → EntryAnswered format t e u → AllAnswered format s (entries ++ e ∷ []) u
+answered_more format [] e s t u l x = (u, subst (λ (z : State). EntryAnswered format z e u) l x, refl)
 answered_more format (f ∷ entries) e s t u l x = (l.0, l.1, answered_more format entries e l.0 t u l.2 x)
 
 written_more : (h : Header) (entries : List TraceEntry) (e : TraceEntry) → trace_text h (entries ++ e ∷ []) ≡ trace_text h entries ++ entry_text h.limits e
@@ -53,7 +53,8 @@ written_more h entries e =
     ap (λ (l : List ℕ). header_text h ++ l) (flat_map-append (entry_text h.limits) entries (e ∷ []) ∙ ap (λ (l : List ℕ). flat_map (entry_text h.limits) entries ++ l) (append-nil (entry_text h.limits e)))
     ∙ sym (append_assoc (header_text h) (flat_map (entry_text h.limits) entries) (entry_text h.limits e))
 
-pub recorded_more : (h : Header) (text asking more : List ℕ) (s t : State) (count : ℕ) (e : TraceEntry) → Recorded h text asking s count → IsEntry h.format e → (x : EntryLeads h.format s e t) → IsLastOf h.format s x.0 e.reply → asked_by more ≡ asked_text e.pass e.asked →
+pub recorded_more : (h : Header) (text asking more : List ℕ) (s t : State) (count : ℕ) (e : TraceEntry) → Recorded h text asking s count → IsEntry h.format e → (x : EntryLeads h.format s e t) → IsLastOf h.format s x.0 e.reply
+    → asked_by more ≡ asked_text e.pass e.asked →
     Recorded h (text ++ entry_text h.limits e) (asking ++ more) t (suc count)
 recorded_more h text asking more s t count e r is x last asks =
     record {

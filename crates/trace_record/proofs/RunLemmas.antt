@@ -225,7 +225,8 @@ runs_first known first had form ring lines w from next o comes no_ring =
     }
 
 is_record : (form : Form) (ring : ℕ) (first asking text : List ℕ) (s : State) (count : ℕ) → OpensWith first ring → Recorded (header_of form ring) text asking s count → IsRecord form (first ++ asking) text count
-is_record form ring first asking text s count opens r = record { ring = ring; first = first; asking = asking; entries = r.entries; last = s; opens = opens; input_is = refl; asks = r.asks; trace = r.trace; answered = r.answered; counted = r.counted }
+is_record form ring first asking text s count opens r =
+    record { ring = ring; first = first; asking = asking; entries = r.entries; last = s; opens = opens; input_is = refl; asks = r.asks; trace = r.trace; answered = r.answered; counted = r.counted }
 
 format_is : (form : Form) (ring : ℕ) → (header_of form ring).format ≡ format_of form
 format_is forms.One ring = refl

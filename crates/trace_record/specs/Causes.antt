@@ -37,7 +37,8 @@ abbrev pub LeadsFrom : {R T : Type 0} → Reader R →
 LeadsFrom {R} r before old made after new reads = (first : R) → ReadsLead r before first old made → ReadsLead r after first new reads
 
 -- The cause of a fault of a run, however many reads were made before.
-abbrev pub RunIsCaused : {R W T : Type 0} → Reader R → Writer W → Result T RecordFault → (old new : R) → ℕ → (from to : W) → RecordFault → Type 0
+abbrev pub RunIsCaused : {R W T : Type 0} → Reader R → Writer W → Result T RecordFault → (old new : R) → ℕ →
+    (from to : W) → RecordFault → Type 0
 RunIsCaused {R} r w next old new made from to fault = (first : R) → ReadsLead r next first old made → IsToBlame r w fault first new from to
 
 -- The fault after the waiting entries are written: the one before, or a write that failed then. A writer that failed

@@ -25,14 +25,15 @@ IsLastOf One s (Sweep caller owner generation) reply = reply ≡ (older_sweep s 
 IsLastOf _ s command reply = IsLast s command reply
 
 -- Whether the entry is the answer of a store in the first state, which leads to the second.
-abbrev pub IsAnswer : Format → State → TraceEntry → State → Type 0
-IsAnswer format old e new =
-    (command : Command) × (command_asked e.asked ≡ Some command) × StepOf format old command e.reply new × IsLastOf format old command e.reply
+abbrev pub EntryAnswered : Format → State → TraceEntry → State → Type 0
+EntryAnswered format old e new =
+    (command : Command) × (command_asked e.asked ≡ Some command)
+    × StepOf format old command e.reply new × IsLastOf format old command e.reply
 
 -- Whether each entry is the answer of one store, from the state after the one before it.
 abbrev pub AllAnswered : Format → State → List TraceEntry → State → Type 0
 AllAnswered format old [] new = new ≡ old
-AllAnswered format old (e ∷ entries) new = (mid : State) × IsAnswer format old e mid × AllAnswered format mid entries new
+AllAnswered format old (e ∷ entries) new = (mid : State) × EntryAnswered format old e mid × AllAnswered format mid entries new
 
 -- Whether the store answers the entry's command with this reply, as a trace's store does, from each state that it may
 -- be in and that a trace of the format leads to.

@@ -56,7 +56,8 @@ fn record_all<R: Source, W: Sink>(
     requires { IsReady recorder.old.entry.lines first }
     ensures whole { IfOk result (RecordsAll recorder.old (R.remaining reader.old) (W.contents writer.old) first (W.contents writer.new)) }
     ensures stops { IfErr result (StopsBefore recorder.old (R.remaining reader.old) (W.contents writer.old) first (W.contents writer.new)) }
-    ensures cause { IfErr result (RunIsCaused R.Source W.Sink first reader.old reader.new recorder.old.entry.lines.reads writer.old writer.new) }
+    ensures cause { IfErr result
+        (RunIsCaused R.Source W.Sink first reader.old reader.new recorder.old.entry.lines.reads writer.old writer.new) }
 {
     match run(recorder, reader, writer, first) {
         Ok(count) => {
@@ -77,7 +78,8 @@ fn run<R: Source, W: Sink>(
     requires { IsReady recorder.old.entry.lines first }
     ensures led { OnOk result (OnlyCalls W.writes writer.old writer.new) }
     ensures runs { RunsOn recorder.old (R.remaining reader.old) (W.contents writer.old) first recorder.new (W.contents writer.new) result }
-    ensures cause { IfErr result (RunIsCaused R.Source W.Sink first reader.old reader.new recorder.old.entry.lines.reads writer.old writer.new) }
+    ensures cause { IfErr result
+        (RunIsCaused R.Source W.Sink first reader.old reader.new recorder.old.entry.lines.reads writer.old writer.new) }
 {
     let mut next = first;
     for count in 0..u64::MAX {

@@ -4,7 +4,7 @@ use Rattle.ds_entry.specs.declared.item.Item.{Item}
 use Rattle.ds_pattern.specs.declared.query.Query.{Query}
 use Rattle.ds_reader.specs.Asked.{Asked, subscribe_anew}
 use Rattle.ds_reader.specs.ReadWhole.{AreChecked, IsReadWhole}
-use Rattle.ds_reader.proofs.StopLemmas.{nothing_read, has_room, by_fault, stops_worn, stops_check, stops_subscribe}
+use Rattle.ds_reader.proofs.StopLemmas.{nothing_read, has_room, has_room_still, by_fault, by_overtaken, stops_worn, stops_otherwise, stops_check, stops_subscribe}
 use Rattle.ds_reader.proofs.CheckLemmas.{Checking, begun, all_full, checked_more, checked_on, gone, overtaken, read_each, read_whole}
 use Rattle.ds_reader.proofs.QuestionLemmas.{by_checks, checks_more, has_begun}
 use Rattle.ds_machine.specs.declared.reply.Reply.TheVariants as replies
@@ -54,7 +54,7 @@ returns-then-shown-stamp-clause-stopped g c = λ s stands.
       gone c.laws.ensures stood s c.args.sub reading.query q.items shown.items reading.max q.stamp q._question k a.0 shown.before
           shown.after a.1,
       a.2,
-      over,
+      (over.0, over.1),
     )
 
 pub returns-in_err-append_copies-clause-stopped : goal.returns-in_err-append_copies-clause-stopped
@@ -283,3 +283,48 @@ returns-in_err-shown-clause-items g c = nothing_read c.from_residual-in_err-show
 
 pub returns-in_err-append_copies-clause-items : goal.returns-in_err-append_copies-clause-items
 returns-in_err-append_copies-clause-items g c = nothing_read c.from_residual-in_err-append_copies.result _ _ c.from_residual-in_err-append_copies.ensures.1
+
+-- ---- how many Checks it sent before it was overtaken
+
+pub returns-in_err-query-clause-overtaken : goal.returns-in_err-query-clause-overtaken
+returns-in_err-query-clause-overtaken g c = has_room_still c.from_residual.result c.from_residual.ensures.1
+
+pub returns-in_err-stamp-clause-overtaken : goal.returns-in_err-stamp-clause-overtaken
+returns-in_err-stamp-clause-overtaken g c =
+    by_overtaken c.from_residual-in_err-stamp.result c.in_err-stamp.field-0.0 c.from_residual-in_err-stamp.ensures.1
+    (stops_otherwise g.A.Asks.stands g.A.Asks.is_worn c.args.asked.now c.subscribe.new.asked _ c.in_err-stamp.field-0.0 c.in_err-stamp.ensures.refused)
+
+pub returns-in_err-shown-clause-overtaken : goal.returns-in_err-shown-clause-overtaken
+returns-in_err-shown-clause-overtaken g c =
+    by_overtaken c.from_residual-in_err-shown.result c.in_err-shown.field-0.0 c.from_residual-in_err-shown.ensures.1
+    (stops_otherwise g.A.Asks.stands g.A.Asks.is_worn c.loop-question.asked c.check.new.asked _ c.in_err-shown.field-0.0 c.in_err-shown.ensures.refused)
+
+pub returns-then-shown-stamp-clause-overtaken : goal.returns-then-shown-stamp-clause-overtaken
+returns-then-shown-stamp-clause-overtaken g c e =
+    let q = c.loop-question in
+    let reading = c.args.reading.now in (
+      q._question,
+      omega (arith, c.loop-question-test.true),
+      checks_more g.A.Asks.asks_once c.args.sub reading q._question c.args.asked.now q.asked c.check.new.asked q.invariant.1 c.check.ensures.only,
+      λ s stands.
+          (let stood = g.A.Asks.stands q.asked in
+          let shown = c.in_ok-shown.shown in
+          let k = q.invariant.2 s stands in
+          let a = c.in_ok-shown.ensures.shown k.now k.stands in (
+            a.0,
+            gone c.laws.ensures stood s c.args.sub reading.query q.items shown.items reading.max q.stamp q._question k a.0 shown.before
+                shown.after a.1,
+            a.2,
+            overtaken c.laws.ensures stood s c.args.sub q.stamp q._question reading q.items shown.items k a.0 shown.before shown.after
+                a.1 c.if-shown-stamp.true,
+          )),
+    )
+
+pub returns-in_err-append_copies-clause-overtaken : goal.returns-in_err-append_copies-clause-overtaken
+returns-in_err-append_copies-clause-overtaken g c = has_room_still c.from_residual-in_err-append_copies.result c.from_residual-in_err-append_copies.ensures.1
+
+pub returns-then-len-reading-clause-overtaken : goal.returns-then-len-reading-clause-overtaken
+returns-then-len-reading-clause-overtaken g c = λ e. absurd (cc)
+
+pub returns-clause-overtaken : goal.returns-clause-overtaken
+returns-clause-overtaken g c = λ e. absurd (cc)

@@ -90,7 +90,8 @@ returns-clause-part g c b before w x =
 pub returns-in_err-passed-clause-cause : goal.returns-in_err-passed-clause-cause
 returns-in_err-passed-clause-cause g c =
     carried c.from_residual.result _ _ c.from_residual.ensures.1
-    (λ first led. cause_upgraded g.R.Source g.W.Sink c.in_err-passed.field-0.0 first c.next.new.reader c.args.writer.now c.loop-entry.writer c.loop-entry.invariant.wrote (c.in_err-passed.ensures.reads first (c.loop-entry.invariant.reads.0 first led)))
+    (λ first led.
+    cause_upgraded g.R.Source g.W.Sink c.in_err-passed.field-0.0 first c.next.new.reader c.args.writer.now c.loop-entry.writer c.loop-entry.invariant.wrote (c.in_err-passed.ensures.reads first (c.loop-entry.invariant.reads.0 first led)))
 
 pub returns-in_err-count-clause-cause : goal.returns-in_err-count-clause-cause
 returns-in_err-count-clause-cause g c =
@@ -98,7 +99,8 @@ returns-in_err-count-clause-cause g c =
 
 pub returns-in_err-write_out-clause-cause : goal.returns-in_err-write_out-clause-cause
 returns-in_err-write_out-clause-cause g c =
-    carried c.from_residual-in_err-write_out.result _ _ c.from_residual-in_err-write_out.ensures.1 (λ first led. failed_on g.W.Sink.writes g.W.Sink.fails c.args.writer.now c.loop-entry.writer c.write_out.new.writer c.loop-entry.invariant.wrote c.in_err-write_out.ensures.cause)
+    carried c.from_residual-in_err-write_out.result _ _ c.from_residual-in_err-write_out.ensures.1
+    (λ first led. failed_on g.W.Sink.writes g.W.Sink.fails c.args.writer.now c.loop-entry.writer c.write_out.new.writer c.loop-entry.invariant.wrote c.in_err-write_out.ensures.cause)
 
 -- an input has fewer entries
 pub returns-clause-cause : goal.returns-clause-cause

@@ -33,7 +33,8 @@ merge_last Two s items reply last = last
 pub returns-in-Merge-clause-step : goal.returns-in-Merge-clause-step
 returns-in-Merge-clause-step c s stands traced =
     let step = c.apply.ensures.step s stands in
-    (Merge c.in-Merge.items, step.0, ap command_asked c.in-Merge.is, merge_step c.args.format s step.0 c.in-Merge.items c.apply.result step.1, merge_last c.args.format s c.in-Merge.items c.apply.result (c.apply.ensures.last s stands), step.2)
+    let last = merge_last c.args.format s c.in-Merge.items c.apply.result (c.apply.ensures.last s stands) in
+    (Merge c.in-Merge.items, step.0, ap command_asked c.in-Merge.is, merge_step c.args.format s step.0 c.in-Merge.items c.apply.result step.1, last, step.2)
 
 pub returns-in-Merge-clause-wording : goal.returns-in-Merge-clause-wording
 returns-in-Merge-clause-wording c = ap worded_as (sym c.in-Merge.is)

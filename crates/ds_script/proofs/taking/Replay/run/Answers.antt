@@ -46,7 +46,9 @@ pub returns-in_err-more-clause-cause : goal.returns-in_err-more-clause-cause
 returns-in_err-more-clause-cause g c =
     let exit = err_from_is_err_and c.from_residual.result c.from_residual.ensures.1 in
     let i = c.loop-self.invariant in
-    rw (exit.1, exit.2) (run_cause g.R.Source g.W.Sink c.in_err-more.field-0.0 c.loop-self.lines.reads c.args.reader.now c.loop-self.reader c.take_turn.new.reader c.args.self.now.writer.now c.loop-self.self.writer.now c.take_turn.new.self.writer.now i.led i.wrote (c.in_err-more.ensures).turns.0)
+    rw (exit.1, exit.2)
+    (run_cause g.R.Source g.W.Sink c.in_err-more.field-0.0 c.loop-self.lines.reads c.args.reader.now c.loop-self.reader c.take_turn.new.reader
+    c.args.self.now.writer.now c.loop-self.self.writer.now c.take_turn.new.self.writer.now i.led i.wrote (c.in_err-more.ensures).turns.0)
 
 pub returns-then-not-more-clause-ok : goal.returns-then-not-more-clause-ok
 returns-then-not-more-clause-ok g c =
