@@ -1,7 +1,7 @@
 -- What the first cause against a change or a floor says.
 use Rattle.std.proofs.Common.{◌≡◌, ℕ, ◌<◌, ◌≤◌, Bool, true, false, not, ◌&&◌, ◌||◌, ◌==◌, nat_le, nat_lt, List, [], ◌∷◌, ◌++◌, map, Option, Some, None, is_none, refl, ap, sym, ◌∙◌, inl, inr, ◌⊎◌, arith, Contains, eqb-true}
 use Rattle.std.proofs.lemmas.Bool.Decides.{nat_tests}
-use Rattle.std.proofs.lemmas.Bool.{eqb-false, ltb-true, or_parts, not-false, leb-false}
+use Rattle.std.proofs.lemmas.Bool.{eqb-false, ltb-true, or_parts, not-false, leb-false, le-leb, lt-leb}
 use Rattle.std.specs.Cmp.Lexicographic.{same_text}
 use Rattle.std.specs.declared.cmp.Ordering.{Ordering}
 use Rattle.std.specs.declared.cmp.Ordering.TheVariants.{Less, Equal, Greater}
@@ -109,6 +109,11 @@ pub room_above : (o : Option Floor) (count : ℕ) (f : Floor) → HasFloorRoom o
 room_above None count f h = tt
 room_above (Some g) count f h = h
 
+-- a floor that is free raises its owner's
+pub not_as_high : (o : Option Floor) (count : ℕ) (f : Floor) → HasFloorRoom o count f → on_floor o (nat_le f.generation) ≡ false
+not_as_high None count f h = refl
+not_as_high (Some g) count f h = lt-leb f.generation g.generation h
+
 pub floor_is_free : (t : FloorStanding) (f : Floor) → first_cause None (against_floor t f) ≡ None → IsFloorFree t f
 floor_is_free t f e =
     let no = floor_free (against_floor t f) e in
@@ -215,7 +220,20 @@ pub asked_covered : (s : State) (caller : Option (List ℕ)) (a : AskedChange) (
     IsCoveredIn (held s) (Changed (change_asked caller a body))
 asked_covered s caller a body cause e k = over_by s (change_asked caller a body) (against_asked (standing_of s (change_asked caller a body)) caller a body) cause e k refl refl refl
 
+as_high_by : (o : Option Floor) (m : ℕ) (test : ℕ → Bool) → ((n : ℕ) → test n ≡ true → m ≤ n) → on_floor o test ≡ true → on_floor o (nat_le m) ≡ true
+as_high_by None m test most here = absurd (let n : false ≡ true = here in cc)
+as_high_by (Some g) m test most here = le-leb m g.generation (most g.generation here)
+
 module _ (s : State) (f : Floor) where
+  -- a sweep that is passed over finds a floor as high
+  pub sweep_as_high : (caller : EndpointRecord) (cause : Cause) → first_cause None (against_sweep (floor_standing_of s f) caller f) ≡ Some cause → IsPassed cause → on_floor (floor_at (held s) f.owner) (nat_le f.generation) ≡ true
+  sweep_as_high caller cause e (inl k) =
+      as_high_by (floor_at (held s) f.owner) f.generation (λ n. n == f.generation) (λ n t. (let same : n ≡ f.generation = eqb-true n f.generation t in omega (arith, same)))
+      (ap (against_sweep (floor_standing_of s f) caller f) (sym k) ∙ (found (against_sweep (floor_standing_of s f) caller f) floor_order cause e).1)
+  sweep_as_high caller cause e (inr k) =
+      as_high_by (floor_at (held s) f.owner) f.generation (nat_lt f.generation) (λ n t. (let low : f.generation < n = ltb-true f.generation n t in omega (arith, low)))
+      (ap (against_sweep (floor_standing_of s f) caller f) (sym k) ∙ (found (against_sweep (floor_standing_of s f) caller f) floor_order cause e).1)
+
   over_floor : (test : ℕ → Bool) → ((n : ℕ) → test n ≡ true → f.generation ≤ n) → on_floor (floor_at (held s) f.owner) test ≡ true → IsCoveredIn (held s) (Floored f)
   over_floor test most here = by_held (floor_at (held s) f.owner) refl here
     where

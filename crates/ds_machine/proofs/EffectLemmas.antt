@@ -1,5 +1,5 @@
 -- What one step does to its state, and what a run of them does.
-use Rattle.std.proofs.Common.{◌≡◌, ℕ, zero, suc, ◌+◌, ◌<◌, Bool, true, false, List, [], ◌∷◌, ◌++◌, length, take, Option, Some, None, refl, sym, subst, inl, inr, ◌⊎◌, arith, Contains, eq-eqb}
+use Rattle.std.proofs.Common.{◌≡◌, ℕ, zero, suc, ◌+◌, ◌<◌, Bool, true, false, List, [], ◌∷◌, ◌++◌, length, take, Option, Some, None, refl, ap, sym, ◌∙◌, subst, inl, inr, ◌⊎◌, arith, Contains, eq-eqb, append-nil, nat_le, cond}
 use Rattle.std.proofs.lemmas.Bool.{leb-false}
 use Rattle.std.proofs.lemmas.List.Elements.{Contains-push, Contains-append_cases}
 use Rattle.std.specs.Option.{option_map_or}
@@ -18,14 +18,14 @@ use Rattle.ds_machine.specs.Parts.{changes_in, floor_at, floors_in}
 use Rattle.ds_machine.specs.Subscription.{Subscription, is_unseen}
 use Rattle.ds_machine.specs.State.{State, held, takes_effect, owed, unseen, subscribes, subscription_at}
 use Rattle.ds_machine.specs.Order.{first_refusal, by_command, by_room}
-use Rattle.ds_machine.specs.Standing.{standing_of, floor_standing_of}
+use Rattle.ds_machine.specs.Standing.{standing_of, floor_standing_of, on_floor}
 use Rattle.ds_machine.specs.Asking.{AskedChange, published, deleted, name_of, asked_in, cause_against, sweep_cause}
 use Rattle.ds_machine.specs.Calling.{SubscribeCase, against_subscribe, against_check, against_merge}
 use Rattle.ds_machine.specs.Merging.{Course, begun, course, merging}
 use Rattle.ds_machine.specs.Watching.{subscribing, subscribe_case, owed_at_first, shown_at_first, shows, check_case, checking, checking_at}
 use Rattle.ds_machine.specs.Machine.{Step, MergeWantsRoom, IsOutcome, outcome, asking, answer_for, sweeping, sweep_answer}
 use Rattle.ds_machine.specs.Reached.{IsReached}
-use Rattle.ds_machine.specs.Effect.{IsNews, Grows, Serves, Effect, known_after, learnt_by, brought_by, StepHasEffect}
+use Rattle.ds_machine.specs.Effect.{IsNews, Grows, Serves, Effect, known_after, learnt_by, brought_by, raised_by, StepHasEffect, SweepLearnsEffect}
 use Rattle.ds_machine.specs.declared.refusal.Cause.{Cause}
 use Rattle.ds_machine.specs.declared.refusal.Cause.TheVariants as causes
 use Rattle.ds_machine.specs.declared.refusal.Refusal.{Refusal}
@@ -36,7 +36,7 @@ use Rattle.ds_machine.specs.declared.reply.Reply.{Reply}
 use Rattle.ds_machine.specs.declared.reply.Reply.TheVariants.{Changed as Accepted, Known, Swept, Subscribed, Merged, MergeStopped, Refused}
 use Rattle.ds_machine.proofs.PartLemmas.{missing, take_whole}
 use Rattle.ds_machine.proofs.NewsLemmas.{news_change, news_floor}
-use Rattle.ds_machine.proofs.CauseLemmas.{IsCoveredIn, asked_free, asked_covered, sweep_is_free, sweep_covered, room_above}
+use Rattle.ds_machine.proofs.CauseLemmas.{IsCoveredIn, asked_free, asked_covered, sweep_is_free, sweep_as_high, not_as_high, room_above}
 use Rattle.ds_machine.proofs.ReachedLemmas.{held_is_top}
 use Rattle.ds_machine.proofs.CourseLemmas.{Went, went, grows_none, grows_one, reached_grown, covered_accepted, covers_first, covers_nothing}
 
@@ -60,6 +60,9 @@ learns_news s t i r n e =
     record { grows = grows; holds = covers_first i [] (held t) (covered_accepted t (reached_grown s t (i ∷ []) r grows) i here) (covers_nothing (held t)) }
 
 -- ---- a Publish, a Delete and a Sweep
+effect_of_none : (s : State) → takes_effect s [] ≡ s
+effect_of_none s = ap (λ (l : List Item). record s { feed = record s.feed { accepted = l } }) (append-nil s.feed.accepted)
+
 module _ (s t : State) (r : IsReached s) (reply : Reply) where
   asked_learns : (a : AskedChange) (body : Body) → reply ≡ (asking s a body).0 → t ≡ (asking s a body).1 → Learns s (known_after reply (Changed (asked_in s a body) ∷ [])) t
   asked_learns a body e f = by_cause (cause_against s a body) refl e f
@@ -81,25 +84,37 @@ module _ (s t : State) (r : IsReached s) (reply : Reply) where
           let n = news_change s.feed.accepted r.owners (asked_in s a body) free.valid (length (changes_in (held s))) s.limits.keys free.room in
           told (Accepted (owed s (i ∷ []))) g (learns_news s t i r n h)
 
-  swept_learns : (caller : EndpointRecord) (f : Floor) → reply ≡ (sweeping s caller f).0 → t ≡ (sweeping s caller f).1 → Learns s (known_after reply (Floored f ∷ [])) t
-  swept_learns caller f e g = by_cause (sweep_cause s caller f) refl e g
+  -- the floor takes effect, or as high a one is held
+  swept_by : (caller : EndpointRecord) (f : Floor) → reply ≡ (sweeping s caller f).0 → t ≡ (sweeping s caller f).1 → Learns s (known_after reply (raised_by s f)) t × (t ≡ takes_effect s (known_after reply (raised_by s f)))
+  swept_by caller f e g = by_cause (sweep_cause s caller f) refl e g
     where
       i : Item
       i = Floored f
 
+      LearnsEffect : List Item → Type 0
+      LearnsEffect items = Learns s items t × (t ≡ takes_effect s items)
+
       out : Option Cause → Reply × State
       out o = option_map_or {U = Reply × State} (λ cause. (sweep_answer cause, s)) o (Swept (length (puts_void_by f (changes_in (held s)))) (owed s (i ∷ [])), takes_effect s (i ∷ []))
 
-      told : (other : Reply) → reply ≡ other → Learns s (known_after other (i ∷ [])) t → Learns s (known_after reply (i ∷ [])) t
-      told other q l = subst (λ (x : Reply). Learns s (known_after x (i ∷ [])) t) (sym q) l
+      told : (other : Reply) → reply ≡ other → LearnsEffect (known_after other (raised_by s f)) → LearnsEffect (known_after reply (raised_by s f))
+      told other q l = subst (λ (x : Reply). LearnsEffect (known_after x (raised_by s f))) (sym q) l
 
-      by_cause : (o : Option Cause) → sweep_cause s caller f ≡ o → reply ≡ (out o).0 → t ≡ (out o).1 → Learns s (known_after reply (i ∷ [])) t
-      by_cause (Some causes.Known) q g h = told (Swept 0 0) g (learns_known s t i h (sweep_covered s f caller causes.Known q (inl refl)))
-      by_cause (Some (causes.Refused refusals.Stale)) q g h = told (Swept 0 0) g (learns_known s t i h (sweep_covered s f caller (causes.Refused refusals.Stale) q (inr refl)))
-      by_cause (Some (causes.Refused refusal)) q g h = told (Refused refusal) g (learns_none s t h)
-      by_cause None q g h = told (Swept (length (puts_void_by f (changes_in (held s)))) (owed s (i ∷ []))) g
-          (learns_news s t i r (news_floor s.feed.accepted r.owners f
-          (room_above (floor_at (held s) f.owner) (length (floors_in (held s))) f (sweep_is_free (floor_standing_of s f) caller f q).room)) h)
+      raises : (b : Bool) → on_floor (floor_at (held s) f.owner) (nat_le f.generation) ≡ b → LearnsEffect (cond b [] (i ∷ [])) → LearnsEffect (raised_by s f)
+      raises b q l = subst (λ (x : Bool). LearnsEffect (cond x [] (i ∷ []))) (sym q) l
+
+      nothing : t ≡ s → LearnsEffect []
+      nothing h = (learns_none s t h, h ∙ sym (effect_of_none s))
+
+      by_cause : (o : Option Cause) → sweep_cause s caller f ≡ o → reply ≡ (out o).0 → t ≡ (out o).1 → LearnsEffect (known_after reply (raised_by s f))
+      by_cause (Some causes.Known) q g h = told (Swept 0 0) g (raises true (sweep_as_high s f caller causes.Known q (inl refl)) (nothing h))
+      by_cause (Some (causes.Refused refusals.Stale)) q g h = told (Swept 0 0) g (raises true (sweep_as_high s f caller (causes.Refused refusals.Stale) q (inr refl)) (nothing h))
+      by_cause (Some (causes.Refused refusal)) q g h = told (Refused refusal) g (nothing h)
+      by_cause None q g h =
+          let room = (sweep_is_free (floor_standing_of s f) caller f q).room in
+          let n = news_floor s.feed.accepted r.owners f (room_above (floor_at (held s) f.owner) (length (floors_in (held s))) f room) in
+          told (Swept (length (puts_void_by f (changes_in (held s)))) (owed s (i ∷ []))) g
+          (raises false (not_as_high (floor_at (held s) f.owner) (length (floors_in (held s))) f room) (learns_news s t i r n h, h))
 
 -- ---- a Merge
 pub begun_went : (s : State) (items : List Item) → IsReached s → Went (begun s) items (course s items)
@@ -228,7 +243,7 @@ module _ (s t : State) (r : IsReached s) where
   by_outcome : (command : Command) (reply : Reply) → IsOutcome (outcome s command) reply t → Does s command reply t
   by_outcome (Publish caller key version value overwrite) reply is = by_learning (Publish caller key version value overwrite) reply (asked_learns s t r reply (published caller key version overwrite) (Put value) is.reply_is is.state_is)
   by_outcome (Delete caller key version) reply is = by_learning (Delete caller key version) reply (asked_learns s t r reply (deleted caller key version) Gone is.reply_is is.state_is)
-  by_outcome (Sweep caller owner generation) reply is = by_learning (Sweep caller owner generation) reply (swept_learns s t r reply caller (floor_of owner generation) is.reply_is is.state_is)
+  by_outcome (Sweep caller owner generation) reply is = by_learning (Sweep caller owner generation) reply (swept_by s t r reply caller (floor_of owner generation) is.reply_is is.state_is).0
   by_outcome (Retrieve key) reply is = by_reading (Retrieve key) reply refl is.state_is
   by_outcome (NameOf endpoint) reply is = by_reading (NameOf endpoint) reply refl is.state_is
   by_outcome (Subscribe sub query initial overwrite) reply is = record { effect = subscribe_effect s t r sub query initial overwrite (known_after reply []) is.state_is; holds = known_nothing (held t) reply }
@@ -262,3 +277,9 @@ does s t command reply r (inr wants) = wanting s t r command reply wants
 
 pub step_has_effect : StepHasEffect
 step_has_effect s t command reply r step = (does s t command reply r step).effect
+
+pub sweep_learns_effect : SweepLearnsEffect
+sweep_learns_effect s t caller owner generation reply r (inl (inl is)) = (swept_by s t r reply caller (floor_of owner generation) is.reply_is is.state_is).1
+sweep_learns_effect s t caller owner generation reply r (inl (inr wants)) =
+    subst (λ (x : Reply). t ≡ takes_effect s (learnt_by s (Sweep caller owner generation) x)) (sym wants.reply_is) (wants.state_is ∙ sym (effect_of_none s))
+sweep_learns_effect s t caller owner generation reply r (inr wants) = absurd wants

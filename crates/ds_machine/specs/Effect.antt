@@ -1,14 +1,18 @@
 -- What one step, or a run of steps, can do to the machine's state.
-use Rattle.std.specs.Prelude.{◌≡◌, ◌==◌, ℕ, ◌<◌, ◌≤◌, Bool, true, false, ◌⊎◌, List, [], ◌∷◌, ◌++◌, take, Contains}
+use Rattle.std.specs.Prelude.{◌≡◌, ◌==◌, ℕ, ◌<◌, ◌≤◌, Bool, true, false, ◌⊎◌, nat_le, cond, List, [], ◌∷◌, ◌++◌, take, Contains}
+use Rattle.ds_names.specs.Endpoint.{EndpointRecord}
 use Rattle.ds_entry.specs.ItemCovers.{covers}
 use Rattle.ds_entry.specs.declared.body.Body.TheVariants.{Put, Gone}
+use Rattle.ds_entry.specs.declared.floor.Floor.{Floor}
 use Rattle.ds_entry.specs.declared.item.Item.{Item}
 use Rattle.ds_entry.specs.declared.item.Item.TheVariants.{Change as Changed, Floor as Floored}
 use Rattle.ds_entry.specs.Floor.{floor_of}
 use Rattle.ds_held.specs.Limits.{LimitsRecord, IsLimits}
 use Rattle.ds_join.specs.ItemTop.{IsTop, IsPartOf, CoversAll, FitsOwners}
 use Rattle.ds_pattern.specs.declared.query.Query.{Query}
+use Rattle.ds_machine.specs.Parts.{floor_at}
 use Rattle.ds_machine.specs.State.{State, held, takes_effect, subscribes, opening}
+use Rattle.ds_machine.specs.Standing.{on_floor}
 use Rattle.ds_machine.specs.Asking.{published, deleted, asked_in}
 use Rattle.ds_machine.specs.Machine.{Step, Run}
 use Rattle.ds_machine.specs.Reached.{IsReached}
@@ -17,11 +21,15 @@ use Rattle.ds_machine.specs.declared.command.Command.TheVariants.{Publish, Delet
 use Rattle.ds_machine.specs.declared.reply.Reply.{Reply}
 use Rattle.ds_machine.specs.declared.reply.Reply.TheVariants.{Changed as Accepted, Known, Swept, Merged, MergeStopped}
 
--- The items that a command brings: the change asked for, a Sweep's floor, a Merge's items.
+-- The floor, if it raises its owner's: nothing if one as high is held.
+abbrev pub raised_by : State → Floor → List Item
+raised_by s f = cond (on_floor (floor_at (held s) f.owner) (nat_le f.generation)) [] (Floored f ∷ [])
+
+-- The items that a command brings: the change asked for, the floor that a Sweep raises, a Merge's items.
 abbrev pub brought_by : State → Command → List Item
 brought_by s (Publish caller key version value overwrite) = Changed (asked_in s (published caller key version overwrite) (Put value)) ∷ []
 brought_by s (Delete caller key version) = Changed (asked_in s (deleted caller key version) Gone) ∷ []
-brought_by s (Sweep caller owner generation) = Floored (floor_of owner generation) ∷ []
+brought_by s (Sweep caller owner generation) = raised_by s (floor_of owner generation)
 brought_by s (Merge items) = items
 brought_by s _ = []
 
@@ -89,6 +97,12 @@ RunsStayReached = (s t : State) (commands : List Command) (replies : List Reply)
 -- A law: every step makes learnt items take effect, or writes one subscription's place.
 abbrev pub StepHasEffect : Type 0
 StepHasEffect = (s t : State) (command : Command) (reply : Reply) → IsReached s → Step s command reply t → Effect s command reply t
+
+-- A law: a Sweep makes known exactly what took effect. So one that raises nothing makes no floor known.
+abbrev pub SweepLearnsEffect : Type 0
+SweepLearnsEffect =
+    (s t : State) (caller : EndpointRecord) (owner : List ℕ) (generation : ℕ) (reply : Reply) →
+    IsReached s → Step s (Sweep caller owner generation) reply t → t ≡ takes_effect s (learnt_by s (Sweep caller owner generation) reply)
 
 -- The state `new` is `old` or a later state of the same incarnation: its accepted list extends the old one.
 pub record GoesOn (old new : State) : Type 0 where

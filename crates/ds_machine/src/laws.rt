@@ -3,6 +3,7 @@
 ghost use Rattle.ds_machine.specs.Batches.{FreeAreTaken, FreeInParts, FreeAreAnswered, PlacesAreFree, OwedInParts};
 ghost use Rattle.ds_machine.specs.Effect.{OpeningIsReached, StepsStayReached, RunsStayReached, StepHasEffect, GoesOnSame};
 ghost use Rattle.ds_machine.specs.Effect.{GoesOnLater, StepsGoOn, RunsGoOn, HeldIsTop, LearntIsHeld, KnownStaysHeld};
+ghost use Rattle.ds_machine.specs.Effect.{SweepLearnsEffect};
 ghost use Rattle.ds_machine.specs.Examples.{PublishRow, SweepRow, RingRow, PageRow, ChangingPagesRow, LastPlaceRow};
 ghost use Rattle.ds_machine.specs.FloorLaws.{AcceptedFloorStands, FloorStandsOverRuns};
 ghost use Rattle.ds_machine.specs.Given.{GivenWasAccepted, FewAreDone};
@@ -34,9 +35,11 @@ pub fn limits_are_kept()
 
 /// A law: a step either makes some of its command's items take effect, each of them news when its turn comes, or writes
 /// the subscription that its command names. So the accepted list only grows; limits, incarnation, first position and
-/// ring never change. Everything learnt is held, or an item that covers it is; everything held was learnt.
+/// ring never change. Everything learnt is held, or an item that covers it is; everything held was learnt. A Sweep that
+/// raises no floor makes none known.
 pub fn steps_have_effects()
     ensures effect { StepHasEffect }
+    ensures raised { SweepLearnsEffect }
     ensures goes_on { StepsGoOn }
     ensures runs { RunsGoOn }
     ensures same { GoesOnSame }

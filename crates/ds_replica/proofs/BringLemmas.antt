@@ -11,7 +11,8 @@ use Rattle.ds_names.specs.declared.kind.Kind.{Kind}
 use Rattle.ds_names.specs.declared.kind.Kind.TheVariants as kinds
 use Rattle.ds_names.specs.declared.version.Version.{Version}
 use Rattle.ds_entry.specs.Change.{ChangeRecord, kind_of, IsOfKind, IsChange, IsLabelChange, IsLabelBody, IsBelowSweeps, KeepsRule, is_of_kind, is_label_body}
-use Rattle.ds_entry.specs.Floor.{floor_of}
+use Rattle.ds_entry.specs.Floor.{floor_of, IsFloor}
+use Rattle.ds_entry.specs.declared.floor.Floor.{Floor}
 use Rattle.ds_entry.specs.Item.{IsItem}
 use Rattle.ds_entry.specs.declared.body.Value.TheVariants as values
 use Rattle.ds_entry.specs.declared.body.Body.{Body}
@@ -21,13 +22,13 @@ use Rattle.ds_entry.specs.declared.item.Item.TheVariants.{Change as Changed, Flo
 use Rattle.ds_entry.proofs.Members.{Contains-nil, Contains-head, Contains-tail, Contains-single, Contains-map, Contains-from_take}
 use Rattle.ds_join.specs.Label.{names_endpoint}
 use Rattle.ds_replica.specs.Sent.{Sent}
-use Rattle.ds_machine.specs.Parts.{changes_in}
+use Rattle.ds_machine.specs.Parts.{changes_in, floor_at}
 use Rattle.ds_machine.specs.State.{State, held, takes_effect, owed}
 use Rattle.ds_machine.specs.Order.{by_command, by_version, by_room}
-use Rattle.ds_machine.specs.Standing.{standing_of}
+use Rattle.ds_machine.specs.Standing.{standing_of, on_floor}
 use Rattle.ds_machine.specs.Asking.{AskedChange, published, deleted, name_of, is_label_change, is_callers_version, against_asked, asked_in, cause_against}
 use Rattle.ds_machine.specs.Machine.{answer_for, Step}
-use Rattle.ds_machine.specs.Effect.{known_after, learnt_by}
+use Rattle.ds_machine.specs.Effect.{known_after, learnt_by, raised_by}
 use Rattle.ds_machine.specs.declared.refusal.Cause.{Cause}
 use Rattle.ds_machine.specs.declared.refusal.Cause.TheVariants as causes
 use Rattle.ds_machine.specs.declared.refusal.Refusal.{Refusal}
@@ -228,6 +229,14 @@ known_part _ items f = no_items
 refused_items : (reply : Reply) (refusal : Refusal) (items : List Item) → reply ≡ Refused refusal → AreItems (known_after reply items)
 refused_items reply refusal items e = subst (λ (x : Reply). AreItems (known_after x items)) (sym e) no_items
 
+-- a Sweep's floor, or nothing
+raised_items : (s : State) (f : Floor) → IsFloor f → AreItems (raised_by s f)
+raised_items s f p = by (on_floor (floor_at (held s) f.owner) (nat_le f.generation))
+  where
+    by : (b : Bool) → AreItems (cond b [] (Floored f ∷ []))
+    by true = no_items
+    by false = one_item (Floored f) p
+
 pub learnt_items : (s t : State) (command : Command) (reply : Reply) → AreItems (held s) → IsProper command → Step s command reply t → AreItems (learnt_by s command reply)
 learnt_items s t (Publish caller key version value overwrite) reply items p (inl (inl is)) = let a : AskedChange = published caller key version overwrite in
     asking_items s a (Put value) reply items p (cause_against s a (Put value)) refl is.reply_is
@@ -236,7 +245,7 @@ learnt_items s t (Publish caller key version value overwrite) reply items p (inr
 learnt_items s t (Delete caller key version) reply items p (inl (inl is)) = let a : AskedChange = deleted caller key version in asking_items s a Gone reply items p (cause_against s a Gone) refl is.reply_is
 learnt_items s t (Delete caller key version) reply items p (inl (inr w)) = refused_items reply refusals.NoRoom _ w.reply_is
 learnt_items s t (Delete caller key version) reply items p (inr w) = absurd w
-learnt_items s t (Sweep caller owner generation) reply items p step = known_part reply (Floored (floor_of owner generation) ∷ []) (one_item (Floored (floor_of owner generation)) p)
+learnt_items s t (Sweep caller owner generation) reply items p step = known_part reply (raised_by s (floor_of owner generation)) (raised_items s (floor_of owner generation) p)
 learnt_items s t (Merge group) reply items p step = known_part reply group p
 learnt_items s t command reply items p step = known_part reply [] no_items
 

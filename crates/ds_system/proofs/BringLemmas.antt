@@ -1,5 +1,5 @@
 -- What Asks bring in.
-use Rattle.std.proofs.Common.{◌≡◌, ℕ, Bool, true, false, cond, List, [], ◌∷◌, ◌++◌, map, Option, Some, None, is_none, refl, ap, sym, ◌∙◌, subst, inl, inr, ◌⊎◌, arith, Contains}
+use Rattle.std.proofs.Common.{◌≡◌, ℕ, nat_le, Bool, true, false, cond, List, [], ◌∷◌, ◌++◌, map, Option, Some, None, is_none, refl, ap, sym, ◌∙◌, subst, inl, inr, ◌⊎◌, arith, Contains}
 use Rattle.std.specs.List.{find}
 use Rattle.std.specs.Option.{option_map_or, unwrap_or}
 use Rattle.ds_names.specs.Endpoint.{EndpointRecord, endpoint_of}
@@ -16,10 +16,11 @@ use Rattle.ds_entry.specs.declared.item.Item.TheVariants.{Change as Changed, Flo
 use Rattle.ds_entry.proofs.Members.{In, Contains-nil, Contains-head, Contains-tail, Contains-cons, Contains-single, Contains-map, Contains-from_map, Contains-from_take}
 use Rattle.ds_machine.specs.State.{State, held, takes_effect, owed}
 use Rattle.ds_machine.specs.Order.{by_command, by_version, by_room}
-use Rattle.ds_machine.specs.Standing.{standing_of}
+use Rattle.ds_machine.specs.Standing.{standing_of, on_floor}
+use Rattle.ds_machine.specs.Parts.{floor_at}
 use Rattle.ds_machine.specs.Asking.{AskedChange, published, deleted, name_of, against_asked, asked_in, cause_against}
 use Rattle.ds_machine.specs.Machine.{answer_for, Step}
-use Rattle.ds_machine.specs.Effect.{known_after, learnt_by}
+use Rattle.ds_machine.specs.Effect.{known_after, learnt_by, raised_by}
 use Rattle.ds_machine.specs.declared.refusal.Cause.{Cause}
 use Rattle.ds_machine.specs.declared.refusal.Cause.TheVariants as causes
 use Rattle.ds_machine.specs.declared.refusal.Refusal.{Refusal}
@@ -113,7 +114,11 @@ offer_brings made x own there s t reply step c h =
     subst (Contains made) (sym (is ∙ same)) there
 
 sweep_brings : (made : List ChangeRecord) (f : Floor) (s : State) → BringsMade made s (Sweep (endpoint_of 0 2) f.owner f.generation)
-sweep_brings made f s t reply step c h = let e = Contains-single (Floored (floor_of f.owner f.generation)) (Changed c) (known_within reply (Floored (floor_of f.owner f.generation) ∷ []) (Changed c) h) in cc
+sweep_brings made f s t reply step c h = by (on_floor (floor_at (held s) f.owner) (nat_le f.generation)) (known_within reply (raised_by s (floor_of f.owner f.generation)) (Changed c) h)
+  where
+    by : (b : Bool) → Contains (cond b [] (Floored (floor_of f.owner f.generation) ∷ [])) (Changed c) → Contains made c
+    by true k = absurd (Contains-nil (Changed c) k)
+    by false k = let e = Contains-single (Floored (floor_of f.owner f.generation)) (Changed c) k in cc
 
 pub merge_brings : (made : List ChangeRecord) (x : ChangeRecord) → Contains made x → (s : State) → BringsMade made s (Merge (Changed x ∷ []))
 merge_brings made x there s t reply step c h = subst (Contains made) (sym (changed_same c x (Contains-single (Changed x) (Changed c) (known_within reply (Changed x ∷ []) (Changed c) h)))) there

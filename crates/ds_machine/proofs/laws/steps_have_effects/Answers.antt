@@ -1,9 +1,12 @@
-use Rattle.ds_machine.proofs.EffectLemmas.{step_has_effect}
+use Rattle.ds_machine.proofs.EffectLemmas.{step_has_effect, sweep_learns_effect}
 use Rattle.ds_machine.proofs.KnownLemmas.{goes_on_same, goes_on_later, steps_go_on, runs_go_on, learnt_is_held, known_stays_held}
 use Rattle.ds_machine.proofs.laws.steps_have_effects.Goals as goal
 
 pub returns-clause-effect : goal.returns-clause-effect
 returns-clause-effect c = step_has_effect
+
+pub returns-clause-raised : goal.returns-clause-raised
+returns-clause-raised c = sweep_learns_effect
 
 pub returns-clause-goes_on : goal.returns-clause-goes_on
 returns-clause-goes_on c = steps_go_on
