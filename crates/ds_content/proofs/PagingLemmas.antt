@@ -1,6 +1,6 @@
 -- Pages of what is held.
-use Rattle.std.proofs.Common.{◌≡◌, ℕ, zero, suc, ◌+◌, ◌-◌, ◌<◌, ◌≤◌, ◌==◌, nat_le, Bool, true, false, not, cond, List, [], ◌∷◌, ◌++◌, map, filter, take, drop, length, Option, Some, None, is_none}
-use Rattle.std.proofs.Common.{refl, ap, ap₂, sym, ◌∙◌, arith, append_assoc, append-nil, length-append, eqb-true}
+use Rattle.std.proofs.Common.{◌≡◌, ◌≢◌, ℕ, zero, suc, ◌+◌, ◌-◌, ◌<◌, ◌≤◌, ◌==◌, nat_le, Bool, true, false, not, cond, List, [], ◌∷◌, ◌++◌, map, filter, take, drop, length, Option, Some, None, is_none}
+use Rattle.std.proofs.Common.{refl, ap, ap₂, sym, ◌∙◌, inl, inr, ◌⊎◌, arith, append_assoc, append-nil, length-append, eqb-true}
 use Rattle.std.proofs.lemmas.Bool.{eqb-false, le-leb, lt-leb}
 use Rattle.std.proofs.lemmas.Option.{same_Some}
 use Rattle.std.proofs.lemmas.List.{map-append, take-append-drop, length-drop}
@@ -206,3 +206,36 @@ floors_more fs n f items more e at is =
 
 pub floors_all : (fs : List Floor) (n : ℕ) (items : List Item) → items ≡ map floored (take n fs) → slice_get fs n ≡ None → items ≡ map floored fs
 floors_all fs n items e none = e ∙ ap (map floored) (few_taken n fs (past_end fs n none))
+
+-- ---- something to give
+pub part_some : {X : Type 0} (xs ys : List X) → (xs ≢ []) ⊎ (ys ≢ []) → xs ++ ys ≢ []
+part_some [] ys (inl some) e = some refl
+part_some [] ys (inr some) e = some e
+part_some (x ∷ xs) ys some e = cc
+
+pub kept_some : {X : Type 0} (test : X → Bool) (xs : List X) (i : ℕ) (x : X) → slice_get xs i ≡ Some x → test x ≡ true → filter test xs ≢ []
+kept_some test [] i x here t e = cc
+kept_some test (y ∷ xs) zero x here t e = at (test y) (ap test (same_Some y x here) ∙ t) e
+  where
+    at : (b : Bool) → b ≡ true → cond b (y ∷ filter test xs) (filter test xs) ≢ []
+    at true t e = cc
+    at false t e = cc
+kept_some test (y ∷ xs) (suc i) x here t e = at (test y) (kept_some test xs i x here t) e
+  where
+    at : (b : Bool) → filter test xs ≢ [] → cond b (y ∷ filter test xs) (filter test xs) ≢ []
+    at true some e = cc
+    at false some e = some e
+
+pub taken_some : (max : ℕ) (cs : List ChangeRecord) → 0 < max → cs ≢ [] → map change_item (take max cs) ≢ []
+taken_some zero cs l some e = absurd (omega (arith, l))
+taken_some (suc max) [] l some e = some refl
+taken_some (suc max) (c ∷ cs) l some e = cc
+
+-- what a page gives, whatever its cursor
+pub page_gives : (keep : Key → Bool) (h : Holding) (after : Option Key) (max : ℕ) (cursor : Cursor)
+    → cond (is_none after) (map floored (held_floors h)) [] ++ map change_item (take max (to_come keep after (held_changes h))) ≡ (page_of (passes keep) after max (held_items h) cursor).items
+page_gives keep h after max cursor = ap (λ (p : Page). p.items) (page_is keep h after max cursor _ _ refl refl)
+
+pub mapped_some : {X A : Type 0} (f : X → A) (xs : List X) (i : ℕ) (x : X) → slice_get xs i ≡ Some x → map f xs ≢ []
+mapped_some f [] i x here e = cc
+mapped_some f (y ∷ xs) i x here e = cc

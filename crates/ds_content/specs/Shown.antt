@@ -37,6 +37,10 @@ pub record IsNext {X : Type 0} (test : X → Bool) (xs : List X) (from : ℕ) (f
 abbrev pub IsItemAdded : Holding → ℕ → (Item → Bool) → List Item → List Item → Type 0
 IsItemAdded held index test old new = (i : Item) → slice_get (held_items held) index ≡ Some i → new ≡ old ++ filter test (i ∷ [])
 
+-- The held item at the index passes the test.
+abbrev pub IsItemUnder : Holding → ℕ → (Item → Bool) → Type 0
+IsItemUnder held index test = (i : Item) × (slice_get (held_items held) index ≡ Some i) × (test i ≡ true)
+
 -- Whether the masks say that their item is still to be shown to the subscription.
 abbrev pub says_unseen : ℕ → Masks → Bool
 says_unseen sub m = slice_index_or m.unseen sub false

@@ -1,5 +1,6 @@
 -- What a journal keeps of a feed, and what is read of it.
-use Rattle.std.proofs.Common.{◌≡◌, ℕ, zero, suc, ◌<◌, ◌≤◌, ◌+◌, ◌-◌, min, Bool, true, false, cond, List, [], ◌∷◌, ◌++◌, length, drop, take, filter, Some, None, refl, sym, ap, ◌∙◌, arith, append_assoc, append-nil, length-append, length-drop}
+use Rattle.std.proofs.Common.{◌≡◌, ◌≢◌, ℕ, zero, suc, ◌<◌, ◌≤◌, ◌+◌, ◌-◌, min, Bool, true, false, cond, List, [], ◌∷◌, ◌++◌, length, drop, take, filter, Some, None}
+use Rattle.std.proofs.Common.{refl, sym, ap, ◌∙◌, arith, append_assoc, append-nil, length-append, length-drop}
 use Rattle.std.specs.List.{slice_get}
 use Rattle.std.proofs.lemmas.List.{drop-append-le, drop-drop}
 use Rattle.ds_entry.specs.declared.item.Item.{Item}
@@ -127,3 +128,12 @@ given_more test given new i rest all e h =
     one : (b : Bool) → cond b (i ∷ []) [] ++ filter test rest ≡ cond b (i ∷ filter test rest) (filter test rest)
     one true = refl
     one false = refl
+
+-- There is something to return if an item passes.
+pub some_given : (test : Item → Bool) (given rest : List Item) (i : Item) → test i ≡ true → given ++ filter test (i ∷ rest) ≢ []
+some_given test [] rest i t e = at (test i) t e
+  where
+    at : (b : Bool) → b ≡ true → cond b (i ∷ filter test rest) (filter test rest) ≢ []
+    at true t e = cc
+    at false t e = cc
+some_given test (x ∷ given) rest i t e = cc

@@ -1,9 +1,10 @@
 //! Journals.
 
-ghost use Rattle.std.specs.Prelude.{◌≡◌, ◌≤◌, ◌<◌, ◌+◌, ◌++◌, ◌∷◌, [], length, drop, take, filter, IfOk, IfErr, OnOk, Some, None};
+ghost use Rattle.std.specs.Prelude.{◌≡◌, ◌≢◌, ◌≤◌, ◌<◌, ◌+◌, ◌++◌, ◌∷◌, [], length, drop, take, filter, true};
+ghost use Rattle.std.specs.Prelude.{IfOk, IfErr, OnOk, OnErr, Some, None, Err};
 ghost use Rattle.ds_entry.specs.Item.{passes};
 ghost use Rattle.ds_feed.specs.Feed.{Feed, opening_feed, restarted, accepts, from, all_keys};
-ghost use Rattle.ds_feed.specs.Since.{place_fault, fault_at, IsGiven, IsSinceRefused};
+ghost use Rattle.ds_feed.specs.Since.{place_fault, fault_at, since_of, IsGiven, IsSinceRefused};
 ghost use Rattle.ds_feed.specs.Kept.{Keeps, IsJournal, IsStart, cursor_of, IsRing, IsJournalFault};
 ghost use Rattle.ds_names.specs.Limits.{last_place};
 
@@ -150,11 +151,12 @@ impl Journal {
     /// Returns the first `max` items from the cursor on, or all.
     ///
     /// Refuses a cursor of another incarnation as OldCursor, then one past the position of the next item as Ahead, then one
-    /// that the ring doesn't reach back to as Behind. Then reports NoRoom if memory runs out.
+    /// that the ring doesn't reach back to as Behind. Then reports NoRoom if memory runs out for an item that it returns.
     pub fn since(&self, alloc: Global, cursor: Cursor, max: u32) -> Result<Since, SinceFault>
         ensures given { (f : Feed) → Keeps self.now f → IfOk result (IsGiven f (passes all_keys) cursor max) }
         ensures items { (f : Feed) → Keeps self.now f → IfOk result (λ since. since.items ≡ take max (from f cursor.position)) }
         ensures refused { (f : Feed) → Keeps self.now f → IfErr result (λ fault. IsSinceRefused f cursor fault) }
+        ensures lacks { (f : Feed) → Keeps self.now f → result ≡ Err SinceFault.NoRoom → take max (from f cursor.position) ≢ [] }
     {
         self.since_under(alloc, &mut AllKeys, cursor, max)
     }
@@ -162,7 +164,8 @@ impl Journal {
     /// Like `since`, for the items under a scope, with the cursor after the last item looked at. A floor is under every
     /// scope.
     ///
-    /// Looks at no more items than it takes to find `max` of them, and copies only those that it returns.
+    /// Looks at no more items than it takes to find `max` of them, and copies only those that it returns. Nothing else
+    /// takes memory.
     pub fn since_under<S: KeyScope>(
         &self,
         alloc: Global,
@@ -172,6 +175,8 @@ impl Journal {
     ) -> Result<Since, SinceFault>
         ensures given { (f : Feed) → Keeps self.now f → IfOk result (IsGiven f (passes (S.keeps scope.old)) cursor max) }
         ensures refused { (f : Feed) → Keeps self.now f → IfErr result (λ fault. IsSinceRefused f cursor fault) }
+        ensures lacks { (f : Feed) → Keeps self.now f → result ≡ Err SinceFault.NoRoom
+            → (since_of f (passes (S.keeps scope.old)) cursor max).items ≢ [] }
         ensures scope { S.keeps scope.new ≡ S.keeps scope.old }
     {
         let start = self.start(cursor)?;
@@ -202,6 +207,7 @@ impl Journal {
         ensures within { IfOk result (λ i. i ≤ length self.now.items) }
         ensures room { IfOk result (λ i. cursor.position + length self.now.items ≤ last_place + i) }
         ensures refused { (f : Feed) → Keeps self.now f → IfErr result (λ fault. IsSinceRefused f cursor fault) }
+        ensures judged { IfErr result (λ fault. fault ≢ SinceFault.NoRoom) }
     {
         place(self.incarnation, self.position, self.items.len(), cursor)
     }
@@ -217,6 +223,7 @@ fn add<S: KeyScope>(
 ) -> Result<bool, NoRoom>
     ensures told { IfOk result (λ yes. yes ≡ passes (S.keeps scope.old) item.now) }
     ensures added { OnOk result (items.new ≡ items.old ++ filter (passes (S.keeps scope.old)) (item.now ∷ [])) }
+    ensures lacks { OnErr result (passes (S.keeps scope.old) item.now ≡ true) }
     ensures scope { S.keeps scope.new ≡ S.keeps scope.old }
 {
     match item {
@@ -237,6 +244,7 @@ fn place(incarnation: u64, position: u64, kept: usize, cursor: Cursor) -> Result
     ensures found { IfOk result (λ i. (place_fault incarnation position kept cursor ≡ None) × (cursor.position + kept ≡ position + i)) }
     ensures within { IfOk result (λ i. i ≤ kept) }
     ensures refused { IfErr result (λ fault. place_fault incarnation position kept cursor ≡ Some fault) }
+    ensures judged { IfErr result (λ fault. fault ≢ SinceFault.NoRoom) }
 {
     if cursor.incarnation != incarnation {
         return Err(SinceFault::OldCursor);

@@ -78,8 +78,8 @@ no_course s items = course_on (begun s) items (λ e. cc)
 
 -- ---- where a command with a scope may report it
 pub pattern_may : PatternMayLackRoom
-pattern_may All stands e = absurd e
-pattern_may (Under query) stands e = e
+pattern_may All stands given e = absurd e
+pattern_may (Under query) stands given e = e
 
 front : (a b c : Bool) (rest : Option Refusal)
     → cond a (Some refusals.BadSub) (cond b (Some refusals.TooMany) (cond c (Some refusals.TooLong) rest)) ≡ None → cond a (Some refusals.BadSub) (cond b (Some refusals.TooMany) (cond c (Some refusals.TooLong) None)) ≡ None
@@ -89,5 +89,5 @@ front false false true rest e = absurd (cc)
 front false false false rest e = refl
 
 pub behind_may : BehindMayLackRoom
-behind_may All stands e = e
-behind_may (Under query) stands e = front (stands refusals.BadSub) (stands refusals.TooMany) (stands refusals.TooLong) _ e
+behind_may All stands given e some = (e, some)
+behind_may (Under query) stands given e some = front (stands refusals.BadSub) (stands refusals.TooMany) (stands refusals.TooLong) _ e

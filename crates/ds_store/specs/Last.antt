@@ -30,6 +30,9 @@ use Rattle.ds_machine.specs.declared.command.Command.TheVariants.{Publish, Delet
 use Rattle.ds_machine.specs.declared.command.Command.TheVariants.{Check, Since, Snapshot, Page, Merge}
 use Rattle.ds_machine.specs.declared.reply.Reply.{Reply}
 use Rattle.ds_machine.specs.declared.reply.Reply.TheVariants.{MergeStopped, Refused}
+use Rattle.ds_machine.specs.Scope.{is_kept}
+use Rattle.ds_feed.specs.Since.{since_of}
+use Rattle.ds_store.specs.Reading.{page_in, snapshot_in}
 
 -- The refusals that are judged before a pattern is read. Reading a pattern may take memory.
 abbrev pub before_patterns : List Refusal
@@ -40,11 +43,16 @@ abbrev pub ReadsPattern : Scope → (Refusal → Bool) → Type 0
 ReadsPattern All stands = ⊥
 ReadsPattern (Under query) stands = find stands before_patterns ≡ None
 
--- A command with a scope may be refused for lack of memory: no refusal applies, or none judged before the scope's
--- pattern.
-abbrev pub MayLackFor : Scope → (Refusal → Bool) → Type 0
-MayLackFor All stands = first_refusal stands ≡ None
-MayLackFor (Under query) stands = find stands before_patterns ≡ None
+-- Whether giving these items under the scope takes memory: each item takes some, and so does a pattern.
+abbrev pub GivingTakesMemory : Scope → List Item → Type 0
+GivingTakesMemory All given = given ≢ []
+GivingTakesMemory (Under query) given = Unit {0}
+
+-- A command with a scope may be refused for lack of memory: no refusal applies and there is something to give, or no
+-- refusal that is judged before the scope's pattern applies.
+abbrev pub MayLackFor : Scope → (Refusal → Bool) → List Item → Type 0
+MayLackFor All stands given = (first_refusal stands ≡ None) × (given ≢ [])
+MayLackFor (Under query) stands given = find stands before_patterns ≡ None
 
 -- Whether values of the kind take no memory.
 abbrev pub IsKindInPlace : Kind → Type 0
@@ -80,9 +88,10 @@ MayLackRoom s (Subscribe sub query initial overwrite) =
     find (against_subscribe (subscribe_case s sub query overwrite)) before_patterns ≡ None
 MayLackRoom s (Check sub max) =
     let case = check_case s sub max (subscription_at s sub) in (first_refusal (against_check case) ≡ None) × (case.some ≡ true)
-MayLackRoom s (Since scope at max) = MayLackFor scope (against_since s.feed scope at max)
-MayLackRoom s (Snapshot scope) = MayLackFor scope (against_scope scope)
-MayLackRoom s (Page scope after max) = MayLackFor scope (against_page scope max)
+MayLackRoom s (Since scope at max) =
+    MayLackFor scope (against_since s.feed scope at max) (since_of s.feed (is_kept scope) at max).items
+MayLackRoom s (Snapshot scope) = MayLackFor scope (against_scope scope) (snapshot_in s scope).items
+MayLackRoom s (Page scope after max) = MayLackFor scope (against_page scope max) (page_in s scope after max).items
 MayLackRoom s (Merge items) = ⊥
 
 -- The item after the first `done` ones of a Merge takes effect and takes memory.
@@ -112,8 +121,12 @@ OutcomesAreLast = (s : State) (command : Command) → IsLast s command (outcome 
 
 -- A law: a command that reads a pattern may be out of memory.
 abbrev pub PatternMayLackRoom : Type 0
-PatternMayLackRoom = (scope : Scope) (stands : Refusal → Bool) → ReadsPattern scope stands → MayLackFor scope stands
+PatternMayLackRoom =
+    (scope : Scope) (stands : Refusal → Bool) (given : List Item) → ReadsPattern scope stands → MayLackFor scope stands given
 
--- A law: a command that no refusal applies to may be out of memory for what it returns.
+-- A law: a command that no refusal applies to may be out of memory for what it gives, and under the scope of all keys
+-- only if it gives something.
 abbrev pub BehindMayLackRoom : Type 0
-BehindMayLackRoom = (scope : Scope) (stands : Refusal → Bool) → first_refusal stands ≡ None → MayLackFor scope stands
+BehindMayLackRoom =
+    (scope : Scope) (stands : Refusal → Bool) (given : List Item) → first_refusal stands ≡ None → GivingTakesMemory scope given →
+    MayLackFor scope stands given

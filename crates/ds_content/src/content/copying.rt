@@ -1,10 +1,10 @@
 //! Copies of what is held.
 
-ghost use Rattle.std.specs.Prelude.{◌≡◌, ◌≤◌, None, filter, is_some, length, slice_get, IfOk, OnOk};
+ghost use Rattle.std.specs.Prelude.{◌≡◌, ◌≢◌, ◌≤◌, [], None, filter, is_some, length, slice_get, IfOk, OnOk, OnErr};
 ghost use Rattle.ds_entry.specs.Item.{passes};
 ghost use Rattle.ds_entry.specs.Lent.{item_lent};
 ghost use Rattle.ds_held.specs.Held.{held_items};
-ghost use Rattle.ds_content.specs.Shown.{IsItemAdded};
+ghost use Rattle.ds_content.specs.Shown.{IsItemAdded, IsItemUnder};
 
 use ds_entry::{Item, ItemRef, Items};
 use ds_feed::KeyScope;
@@ -44,6 +44,7 @@ fn add_at<S: KeyScope>(
     ensures there { IfOk result (λ there. there ≡ is_some (slice_get (held_items held.now) index)) }
     ensures added { OnOk result (IsItemAdded held.now index (passes (S.keeps scope.old)) items.old items.new) }
     ensures same { OnOk result (slice_get (held_items held.now) index ≡ None → items.new ≡ items.old) }
+    ensures lacks { OnErr result (IsItemUnder held.now index (passes (S.keeps scope.old))) }
     ensures scope { S.keeps scope.new ≡ S.keeps scope.old }
 {
     let Some(item) = held.item_at(index) else {
@@ -64,13 +65,15 @@ pub(super) fn few_items_proof(held: &Held)
     let _floors = held.floor_count();
 }
 
-/// Returns everything held under the scope, floors first, then changes in key order.
+/// Returns everything held under the scope, floors first, then changes in key order. Fails only if memory runs out for
+/// an item that it would return.
 pub(super) fn all_under<S: KeyScope>(
     alloc: Global,
     held: &Held,
     scope: &mut S,
 ) -> Result<Items, NoRoom>
     ensures items { IfOk result (λ items. items ≡ filter (passes (S.keeps scope.old)) (held_items held.now)) }
+    ensures lacks { OnErr result (filter (passes (S.keeps scope.old)) (held_items held.now) ≢ []) }
     ensures scope { S.keeps scope.new ≡ S.keeps scope.old }
 {
     few_items_proof(held);

@@ -1,6 +1,6 @@
 //! Pages of what is held.
 
-ghost use Rattle.std.specs.Prelude.{◌≡◌, ◌++◌, [], cond, drop, map, take, length, nat_le, is_none, IfOk, OnOk};
+ghost use Rattle.std.specs.Prelude.{◌≡◌, ◌≢◌, ◌<◌, ◌++◌, [], true, cond, drop, map, take, length, nat_le, is_none, IfOk, OnOk, OnErr};
 ghost use Rattle.std.specs.Option.{option_copied};
 ghost use Rattle.ds_entry.specs.Item.{passes};
 ghost use Rattle.ds_held.specs.Held.{change_item, held_changes, held_floors};
@@ -18,7 +18,8 @@ use std::alloc::Global;
 
 // Returns all held floors for the first page, and nothing for a later one.
 fn first_floors(alloc: Global, held: &Held, first: bool) -> Result<Items, NoRoom>
-    ensures { IfOk result (λ items. items ≡ cond first (map floored (held_floors held.now)) []) }
+    ensures value { IfOk result (λ items. items ≡ cond first (map floored (held_floors held.now)) []) }
+    ensures lacks { OnErr result (cond first (map floored (held_floors held.now)) [] ≢ []) }
 {
     let mut items = Items::new(alloc);
     if !first {
@@ -44,6 +45,7 @@ fn add_change<S: KeyScope>(
 ) -> Result<Option<u32>, NoRoom>
     ensures more { IfOk result (λ more. more ≡ more_after (S.keeps scope.old change.now.key) left) }
     ensures added { OnOk result (items.new ≡ items.old ++ given_items (S.keeps scope.old change.now.key) left change.now) }
+    ensures lacks { OnErr result ((S.keeps scope.old change.now.key ≡ true) × (0 < left)) }
     ensures scope { S.keeps scope.new ≡ S.keeps scope.old }
 {
     if !scope.admits(change.key()) {
@@ -67,6 +69,7 @@ fn add_changes<S: KeyScope>(
     items: &mut Items,
 ) -> Result<bool, NoRoom>
     ensures added { OnOk result (items.new ≡ items.old ++ items_from (S.keeps scope.old) first max (held_changes held.now)) }
+    ensures lacks { OnErr result (items_from (S.keeps scope.old) first max (held_changes held.now) ≢ []) }
     ensures last { IfOk result (λ last. last ≡ nat_le (length (admitted (S.keeps scope.old) (drop first (held_changes held.now)))) max) }
     ensures scope { S.keeps scope.new ≡ S.keeps scope.old }
 {
@@ -86,7 +89,7 @@ fn add_changes<S: KeyScope>(
 impl Content {
     /// Returns the first `max` changes after the key that are held under the scope, in key order; without a key, all
     /// floors come first. The page says whether it is the last, and has the cursor after everything that took effect.
-    /// One binary search finds its start.
+    /// One binary search finds its start. Fails only if memory runs out for an item that it would return.
     pub fn page<S: KeyScope>(
         &self,
         scope: &mut S,
@@ -95,6 +98,7 @@ impl Content {
     ) -> Result<Page, NoRoom>
         ensures given { IfOk result (λ page. page ≡ content_page self.now (passes (S.keeps scope.old)) after max) }
         ensures stands { InEachState self.now (λ s. IfOk result (λ page. page ≡ state_page s (passes (S.keeps scope.old)) after max)) }
+        ensures lacks { InEachState self.now (λ s. OnErr result ((state_page s (passes (S.keeps scope.old)) after max).items ≢ [])) }
         ensures scope { S.keeps scope.new ≡ S.keeps scope.old }
     {
         let held = self.held.held();

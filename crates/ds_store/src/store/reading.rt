@@ -1,11 +1,11 @@
 //! Since, Snapshot and Page.
 
-ghost use Rattle.std.specs.Prelude.{◌≡◌, IfOk, IfErr};
+ghost use Rattle.std.specs.Prelude.{◌≡◌, Err, IfOk, IfErr, OnErr};
 ghost use Rattle.ds_machine.specs.State.{State};
 ghost use Rattle.ds_machine.specs.Machine.{Answers, journaling, snapping, paging};
 ghost use Rattle.ds_machine.specs.Scope.{is_kept};
-ghost use Rattle.ds_feed.specs.Since.{IsGiven};
-ghost use Rattle.ds_store.specs.Last.{IsLast};
+ghost use Rattle.ds_feed.specs.Since.{since_of, IsGiven};
+ghost use Rattle.ds_store.specs.Last.{IsLast, GivingTakesMemory};
 ghost use Rattle.ds_store.specs.Refused.{IsJournalRefusal};
 ghost use Rattle.ds_store.specs.Scopes.{scope_of};
 ghost use Rattle.ds_content.specs.Stands.{ContentStands};
@@ -34,6 +34,8 @@ impl Store {
     fn give_since(&self, filter: &ScopeFilter, cursor: Cursor, max: u32) -> Result<Since, Refusal>
         ensures given { (s : State) → ContentStands self.now s → IfOk result (IsGiven s.feed (is_kept (scope_of filter.now)) cursor max) }
         ensures refused { (s : State) → ContentStands self.now s → IfErr result (IsJournalRefusal s.feed cursor) }
+        ensures lacks { (s : State) → ContentStands self.now s → result ≡ Err Refusal.NoRoom
+            → GivingTakesMemory (scope_of filter.now) (since_of s.feed (is_kept (scope_of filter.now)) cursor max).items }
     {
         let Ok(mut asker) = filter.asker(self.alloc) else {
             return Err(self.refusal_without_room(cursor));
@@ -61,7 +63,9 @@ impl Store {
 
     // Returns everything held under a scope that was read.
     fn give_snapshot(&self, filter: &ScopeFilter) -> Result<Snapshot, NoRoom>
-        ensures { (s : State) → ContentStands self.now s → IfOk result (λ snapshot. snapshot ≡ snapshot_in s (scope_of filter.now)) }
+        ensures value { (s : State) → ContentStands self.now s → IfOk result (λ snapshot. snapshot ≡ snapshot_in s (scope_of filter.now)) }
+        ensures lacks { (s : State) → ContentStands self.now s
+            → OnErr result (GivingTakesMemory (scope_of filter.now) (snapshot_in s (scope_of filter.now)).items) }
     {
         let mut asker = filter.asker(self.alloc)?;
         self.content.snapshot(&mut asker)
@@ -84,7 +88,9 @@ impl Store {
 
     // Returns a page under a scope that was read.
     fn give_page(&self, filter: &ScopeFilter, after: Option<Key>, max: u32) -> Result<Page, NoRoom>
-        ensures { (s : State) → ContentStands self.now s → IfOk result (λ page. page ≡ page_in s (scope_of filter.now) after max) }
+        ensures value { (s : State) → ContentStands self.now s → IfOk result (λ page. page ≡ page_in s (scope_of filter.now) after max) }
+        ensures lacks { (s : State) → ContentStands self.now s
+            → OnErr result (GivingTakesMemory (scope_of filter.now) (page_in s (scope_of filter.now) after max).items) }
     {
         let mut asker = filter.asker(self.alloc)?;
         self.content.page(&mut asker, after, max)

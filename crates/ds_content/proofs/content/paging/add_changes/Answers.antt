@@ -1,11 +1,13 @@
-use Rattle.std.proofs.Common.{◌≡◌, ◌+◌, ◌-◌, ◌<◌, ◌++◌, drop, length, map, Bool, Some, ap, sym, subst, ◌∙◌, arith}
+use Rattle.std.proofs.Common.{◌≡◌, ◌≢◌, ◌+◌, ◌-◌, ◌<◌, ◌++◌, [], take, drop, length, map, Bool, true, Some, ap, sym, subst, ◌∙◌, arith}
 use Rattle.std.proofs.lemmas.Option.{slice_get_within}
 use Rattle.std.specs.List.{slice_get}
 use Rattle.ds_names.specs.declared.key.Key.{Key}
 use Rattle.ds_held.specs.Held.{change_item, held_changes}
 use Rattle.ds_held.proofs.HeldLemmas.{count_is}
-use Rattle.ds_content.specs.Paging.{more_after, given_change, ChangesArePaged}
-use Rattle.ds_content.proofs.PagingLemmas.{from_there, past_all, paged_starts, paged_all, paged_full, paged_stops, paged_more}
+use Rattle.ds_content.specs.Paging.{admitted, more_after, given_change, ChangesArePaged}
+use Rattle.ds_entry.specs.Change.{ChangeRecord}
+use Rattle.ds_content.proofs.OpenLemmas.{on_err}
+use Rattle.ds_content.proofs.PagingLemmas.{from_there, past_all, paged_starts, paged_all, paged_full, paged_stops, paged_more, kept_some, taken_some}
 use Rattle.ds_content.proofs.content.paging.add_changes.Goals as goal
 
 pub loop-change-init : goal.loop-change-init
@@ -85,3 +87,17 @@ returns-clause-last g c =
     let cs = held_changes c.args.held.now in
     sym (paged_all (g.S.KeyScope.keeps c.args.scope.now) (drop c.args.first cs) c.args.max c.args.items.now (c.loop-change.index - c.args.first) c.loop-change.left c.loop-change.items
     c.loop-change.invariant.paged (past_all c.args.first c.loop-change.index cs c.loop-change.invariant.low (sym c.in_default.ensures.value))).1
+
+-- the change that memory runs out for is one to return
+pub returns-in_err-more-clause-lacks : goal.returns-in_err-more-clause-lacks
+returns-in_err-more-clause-lacks g c =
+    let keep = g.S.KeyScope.keeps c.args.scope.now in
+    let cs = held_changes c.args.held.now in
+    let all = drop c.args.first cs in
+    let seen = c.loop-change.index - c.args.first in
+    let change = c.in-Some.change.now in
+    let there : slice_get all seen ≡ Some change = from_there c.args.first c.loop-change.index cs c.loop-change.invariant.low ∙ sym c.in-Some.ensures.value in
+    let lack = c.in_err-more.ensures.lacks in
+    let kept : keep change.key ≡ true = ap (λ (k : Key → Bool). k change.key) (sym c.loop-change.invariant.same) ∙ lack.0 in
+    on_err c.from_residual.result (map change_item (take c.args.max (admitted keep all)) ≢ [])
+    (taken_some c.args.max (admitted keep all) (omega (arith, lack.1, c.loop-change.invariant.paged.count)) (kept_some (λ (x : ChangeRecord). keep x.key) all seen change there kept))

@@ -1,4 +1,4 @@
-use Rattle.std.proofs.Common.{rules, ◌≡◌, ◌+◌, ◌++◌, ◌∷◌, ◌-◌, [], length, drop, filter, Some, List, Bool, cond, ap, sym, ◌∙◌, subst, arith}
+use Rattle.std.proofs.Common.{rules, ◌≡◌, true, ◌+◌, ◌++◌, ◌∷◌, ◌-◌, [], length, drop, filter, Some, List, Bool, cond, ap, sym, ◌∙◌, subst, arith}
 use Rattle.std.specs.List.{slice_get}
 use Rattle.std.specs.Option.{option_copied}
 use Rattle.ds_names.specs.declared.key.Key.{Key}
@@ -7,7 +7,7 @@ use Rattle.ds_entry.specs.Item.{passes}
 use Rattle.ds_feed.specs.Since.{prefix}
 use Rattle.std.proofs.lemmas.Option.{slice_get_within}
 use Rattle.ds_feed.specs.Kept.{Kept}
-use Rattle.ds_feed.proofs.FeedLemmas.{prefix_next, given_more, nothing_wanted, nothing_left, all_given}
+use Rattle.ds_feed.proofs.FeedLemmas.{prefix_next, given_more, nothing_wanted, nothing_left, all_given, some_given}
 use Rattle.ds_feed.proofs.journal.Journal.since_under.Goals as goal
 use Rattle.ds_feed.proofs.journal.Journal.since_under.Goals.{then-branch, else-branch, else-loop-left-test, then-loop-left-test+in_default}
 
@@ -57,3 +57,29 @@ returns-clause-given g c = λ f k.
       | then-loop-left-test+in_default w ↦ nothing_left test c.loop-left.left kept next (sym w.get.ensures ∙ ap option_copied w.in_default.is)
     ] in
     all_given f test c.args.cursor c.args.max c.loop-left.items _ c.in_ok-start.start next kept (prefix test c.loop-left.left (drop next kept)) found.0 there none c.loop-left.invariant.items c.loop-left.invariant.reach (search rules)
+
+pub loop-left-smaller : goal.loop-left-smaller
+loop-left-smaller g c =
+    let kept = c.self.inside.items.items in
+    let x = c.in-Some.item.now in
+    let here : slice_get kept c.loop-left.next ≡ Some x = sym c.get.ensures ∙ ap option_copied c.in-Some.is in
+    let within = slice_get_within kept c.loop-left.next x here in
+    omega (arith, within)
+
+-- the item that memory runs out for is one to return
+pub returns-in_err-add-clause-lacks : goal.returns-in_err-add-clause-lacks
+returns-in_err-add-clause-lacks g c = λ f k _ none.
+    let test = passes (g.S.KeyScope.keeps c.args.scope.now) in
+    let kept = c.self.inside.items.items in
+    let next = c.loop-left.next in
+    let left = c.loop-left.left in
+    let x = c.in-Some.item.now in
+    let here : slice_get kept next ≡ Some x = sym c.get.ensures ∙ ap option_copied c.in-Some.is in
+    let kept_so : test x ≡ true = ap (λ (keeps : Key → Bool). passes keeps x) (sym c.loop-left.invariant.same) ∙ c.in_err-add.ensures.lacks in
+    let after = cond (test x) (left - 1) left in
+    let rest = prefix test after (drop (next + 1) kept) in
+    let first : prefix test left (drop next kept) ≡ x ∷ rest = prefix_next test left kept next x after (omega (arith, c.loop-left-test.true)) here (λ i. after) in
+    let found = c.in_ok-start.ensures.found f k in
+    let there = ap (λ (j : Kept). drop c.in_ok-start.start j.items) c.self.view_is ∙ found.1 in
+    let all = subst (λ (l : List Item). c.loop-left.items ++ filter test l ≡ filter test (prefix test c.args.max (drop c.in_ok-start.start kept))) first c.loop-left.invariant.items in
+    some_given test c.loop-left.items rest x kept_so (all ∙ ap (λ (l : List Item). filter test (prefix test c.args.max l)) there ∙ none)

@@ -16,7 +16,7 @@ use Rattle.ds_store.proofs.store.Store.since.Goals as goal
 pub returns-in-Err-clause-last : goal.returns-in-Err-clause-last
 returns-in-Err-clause-last c = λ s stands.
     refused_last s (commands.Since c.args.scope.now c.args.cursor c.args.max) c.in-Err.refusal
-    (λ e. pattern_may c.args.scope.now (against_since s.feed c.args.scope.now c.args.cursor c.args.max) (c.in-Err.ensures.last (ap Err e) s.feed c.args.cursor))
+    (λ e. pattern_may c.args.scope.now (against_since s.feed c.args.scope.now c.args.cursor c.args.max) _ (c.in-Err.ensures.last (ap Err e) s.feed c.args.cursor))
 
 pub returns-in-Ok-give_since-clause-answer : goal.returns-in-Ok-give_since-clause-answer
 returns-in-Ok-give_since-clause-answer c = λ s stands.

@@ -10,4 +10,4 @@ pub returns-in-Ok-give_snapshot-clause-answer : goal.returns-in-Ok-give_snapshot
 returns-in-Ok-give_snapshot-clause-answer c = λ s stands.
     free_answer s (first_refusal (against_scope c.args.scope.now)) (Snapped (snapshot_in s c.args.scope.now)) (Snapped c.in-Ok-give_snapshot.snapshot)
     c.in-Ok.ensures.none
-    (ap Snapped (c.in-Ok-give_snapshot.ensures s stands ∙ ap (snapshot_in s) c.in-Ok.ensures.read))
+    (ap Snapped (c.in-Ok-give_snapshot.ensures.value s stands ∙ ap (snapshot_in s) c.in-Ok.ensures.read))
