@@ -82,10 +82,10 @@ module _ (p q : PassRecord) (f : FollowerRecord) (stamp before after place : ℕ
         let legal = called.legal in
         let run = legal.legal legal.begun legal.stood in
         let at = checked_in p q f.sub f.map.query stamp after place items (mapped f) stood own_called legal.content legal.opened_with legal.begun run.0 legal.stood run.1 in
-        elim stopped.refused.2 [
+        elim stopped.refused [
           | inl r ↦
-              checks_fit at.mid run.0 f.sub f.map.query stamp most_items stamp after items f.map.held new.held stop.done stopped.refused.0 stop.fault at.reached at.within at.follows at.step
-              (record { sound = map.sound; limits = map.limits; top = top }) stopped.refused.1 r.1
+              checks_fit at.mid run.0 f.sub f.map.query stamp most_items stamp after items f.map.held new.held stop.done r.0 stop.fault at.reached at.within at.follows at.step
+              (record { sound = map.sound; limits = map.limits; top = top }) r.1 r.2.1
           | inr u ↦ u.noroom
         ]
 

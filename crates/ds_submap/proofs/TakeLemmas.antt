@@ -1,22 +1,25 @@
 -- Taking items in order.
-use Rattle.std.proofs.Common.{◌≡◌, ℕ, ◌+◌, ◌<◌, ◌≤◌, ◌^◌, Bool, true, false, cond, List, [], ◌∷◌, ◌++◌, All, length, filter, take, drop, zero, suc, Option, Some, None, Ok, IsFalse}
+use Rattle.std.proofs.Common.{◌≡◌, ℕ, ◌+◌, ◌<◌, ◌≤◌, ◌^◌, Bool, true, false, cond, List, [], ◌∷◌, ◌++◌, length, filter, take, drop, zero, suc, Option, Some, None, Ok, IsFalse, IsTrue}
 use Rattle.std.proofs.Common.{refl, sym, ap, ◌∙◌, subst, inl, inr, append-nil, length-append, length-drop, arith}
 use Rattle.std.proofs.lemmas.List.{take_more, take_all}
-use Rattle.std.proofs.lemmas.List.Elements.{All-nil, All-push, filter-append}
-use Rattle.std.proofs.lemmas.Option.{get_or_from_slice_get, slice_get_within}
-use Rattle.std.specs.List.{slice_get}
+use Rattle.std.proofs.lemmas.Bool.{or_parts}
+use Rattle.std.proofs.lemmas.List.Elements.{filter-append}
+use Rattle.std.proofs.lemmas.Option.{get_or_from_slice_get, same_Some, slice_get_within}
+use Rattle.std.specs.List.{list_any, slice_get}
+use Rattle.std.specs.Option.{IfSome, is_some}
 use Rattle.ds_entry.specs.declared.item.Item.{Item}
 use Rattle.ds_entry.specs.declared.item.Item.TheVariants.{Change as Changed, Floor as Floored}
 use Rattle.ds_join.specs.declared.merge.Merge.{Merge}
 use Rattle.ds_join.specs.declared.merge.Merge.TheVariants.{Taken, Known, Stale}
 use Rattle.ds_join.specs.declared.merge.JoinFault.{JoinFault}
+use Rattle.ds_join.specs.declared.merge.JoinFault.TheVariants.{NoRoom}
 use Rattle.ds_held.specs.Held.{Holding, IsSound}
 use Rattle.ds_held.specs.Join.{ItemAnswer, after_item}
 use Rattle.ds_pattern.specs.declared.query.Query.{Query}
 use Rattle.ds_join.specs.declared.count.Count.{Count}
 use Rattle.ds_join.specs.Count.{counted, none_counted, stop_after, CanCountOne}
 use Rattle.ds_join.specs.declared.merge.Stop.{Stop}
-use Rattle.ds_submap.specs.Take.{AreAnswered, AreCounted, IsFloorOrOther, IsItemTaken, IsRefusedOrUnasked, IsTakeStopped, needs_query, is_stale, is_taken}
+use Rattle.ds_submap.specs.Take.{AreAnswered, AreCounted, IsTesterFor, IsFloorOrOther, IsItemTaken, IsRefusedUnder, IsTakeStopped, needs_query, is_stale, is_taken}
 use Rattle.ds_pattern.specs.Under.{is_under}
 use Rattle.ds_entry.specs.Item.{passes}
 use Rattle.ds_entry.specs.Under.{under}
@@ -124,39 +127,32 @@ module _ (q : Query) (old : Holding) (items : List Item) where
           stale = few.2;
         })
 
+    pub taking_stops : (fault : JoinFault) → new ≡ mid → IsRefusedUnder q mid x fault → IsTakeStopped q old items new (record { done = n.done; fault = fault })
+    taking_stops fault e refused = rw (e, t.done) (record { front = t.counted_so.all; refused = inl (x, at, refused) })
+
   pub taking_ends : (i : ℕ) (mid : Holding) (n : Count) → Taking q old items i mid n → length items ≤ i → AreCounted q old items mid n
   taking_ends i mid n t l = subst (λ xs. AreCounted q old xs mid n) (take_all i items l) t.counted_so
 
--- And while the tester wasn't built, none of them needed it.
-pub record Asking (q : Query) (old : Holding) (items : List Item) (i : ℕ) (mid : Holding) (n : Count) (was_asked : Bool) : Type 0 where
-  pub taking : Taking q old items i mid n
-  pub unasked : was_asked ≡ false → All (λ j. IsFalse (needs_query q j)) (take i items)
+  -- no item was done without the tester that one needs
+  pub unasked_stops : (stop : Stop) → stop.done ≡ 0 → stop.fault ≡ NoRoom → IsTrue (list_any (needs_query q) items) → IsTakeStopped q old items old stop
+  unasked_stops stop none fault asked = record {
+    front = record { answers = []; answered = subst (λ n. AreAnswered old (under (is_under q) (take n items)) [] old) (sym none) refl };
+    refused = inr (record { noroom = fault; none_done = none; asked = asked });
+  }
 
-module _ (q : Query) (old : Holding) (items : List Item) where
-  pub asking_begins : (n : Count) → IsSound old → n ≡ none_counted → Asking q old items 0 old n false
-  asking_begins n sound e = record { taking = taking_begins q old items n sound e; unasked = λ _. All-nil (λ j. IsFalse (needs_query q j)) }
+-- ---- the tester
+none_needs : (q : Query) (items : List Item) (i : ℕ) (x : Item) → list_any (needs_query q) items ≡ false → slice_get items i ≡ Some x → needs_query q x ≡ false
+none_needs q [] i x none at = absurd (cc)
+none_needs q (y ∷ items) zero x none at = ap (needs_query q) (sym (same_Some y x at)) ∙ (or_parts (needs_query q y) (list_any (needs_query q) items) none).0
+none_needs q (y ∷ items) (suc i) x none at = none_needs q items i x (or_parts (needs_query q y) (list_any (needs_query q) items) none).1 at
 
-  module _ (i : ℕ) (mid : Holding) (n : Count) (was_asked : Bool) (x : Item) (new : Holding) (a : Asking q old items i mid n was_asked) (at : slice_get items i ≡ Some x) where
-    pub asking_goes_on : (is_asked : Bool) (answer : Option Merge) (m : Count) → IsItemTaken q mid x answer new → IsSound new → m ≡ counted n answer
-        → (is_asked ≡ false → (was_asked ≡ false) × IsFalse (needs_query q x)) → Asking q old items (i + 1) new m is_asked
-    asking_goes_on is_asked answer m h sound e unasked =
-        record {
-          taking = taking_goes_on q old items i mid n x new a.taking at answer m h sound e;
-          unasked = λ none. rw (front q old items i mid n x new a.taking at (slice_get_within items i x at)) (All-push (λ j. IsFalse (needs_query q j)) (take i items) x (a.unasked (unasked none).0) (unasked none).1);
-        }
+-- The tester is that of the query, or no item needs one.
+abbrev pub IsTesterForEach : Query → List Item → Option Query → Type 0
+IsTesterForEach q items o = (i : ℕ) (x : Item) → slice_get items i ≡ Some x → IsTesterFor q o x
 
-    pub asking_stops : (fault : JoinFault) → new ≡ mid → IsRefusedOrUnasked q was_asked mid x fault → IsTakeStopped q old items new (record { done = n.done; fault = fault })
-    asking_stops fault e refused = rw (e, a.taking.done) (record {
-      front = a.taking.counted_so.all;
-      refused = (
-        x,
-        at,
-        elim refused [
-          | inl r ↦ inl r
-          | inr c ↦ inr (record { noroom = c.noroom; none_before = a.unasked c.first; asked = c.asked })
-        ],
-      );
-    })
+pub asks_each : (q : Query) (items : List Item) (o : Option Query) (needed : Bool) → needed ≡ list_any (needs_query q) items → is_some o ≡ needed → IfSome o (λ a. a ≡ q) → IsTesterForEach q items o
+asks_each q items None needed e s h i x at = unasked_other q x (none_needs q items i x (sym e ∙ sym s) at)
+asks_each q items (Some a) needed e s h i x at = h
 
 -- ---- items that are left
 first_left : (n : ℕ) (items : List Item) → slice_get items n ≡ slice_get (drop n items) 0
@@ -170,33 +166,32 @@ others_left (suc n) [] = refl
 others_left (suc n) (x ∷ items) = others_left n items
 
 -- and these are left
-pub record AskingLeft (q : Query) (old : Holding) (items left : List Item) (mid : Holding) (n : Count) (was_asked : Bool) : Type 0 where
-  pub asking : Asking q old items n.done mid n was_asked
+pub record TakingLeft (q : Query) (old : Holding) (items left : List Item) (mid : Holding) (n : Count) : Type 0 where
+  pub taking : Taking q old items n.done mid n
   pub left_is : left ≡ drop n.done items
 
 module _ (q : Query) (old : Holding) (items : List Item) where
-  pub left_begins : (n : Count) → IsSound old → n ≡ none_counted → AskingLeft q old items items old n false
-  left_begins n sound e = rw e (record { asking = asking_begins q old items none_counted sound refl; left_is = refl })
+  pub left_begins : (n : Count) → IsSound old → n ≡ none_counted → TakingLeft q old items items old n
+  left_begins n sound e = rw e (record { taking = taking_begins q old items none_counted sound refl; left_is = refl })
 
-  pub left_ends : (left : List Item) (mid : Holding) (n : Count) (was_asked : Bool) → AskingLeft q old items left mid n was_asked → left ≡ [] → AreCounted q old items mid n
-  left_ends left mid n was_asked a e = taking_ends q old items n.done mid n a.asking.taking (omega (arith, length-drop n.done items, ap length (sym a.left_is ∙ e)))
+  pub left_ends : (left : List Item) (mid : Holding) (n : Count) → TakingLeft q old items left mid n → left ≡ [] → AreCounted q old items mid n
+  left_ends left mid n a e = taking_ends q old items n.done mid n a.taking (omega (arith, length-drop n.done items, ap length (sym a.left_is ∙ e)))
 
-  module _ (left : List Item) (mid : Holding) (n : Count) (was_asked : Bool) (a : AskingLeft q old items left mid n was_asked) (x : Item) (others : List Item) (e : left ≡ x ∷ others) where
-    there : slice_get items n.done ≡ Some x
-    there = first_left n.done items ∙ ap (λ is. slice_get is 0) (sym a.left_is ∙ e)
+  module _ (left : List Item) (mid : Holding) (n : Count) (a : TakingLeft q old items left mid n) (x : Item) (others : List Item) (e : left ≡ x ∷ others) where
+    pub left_there : slice_get items n.done ≡ Some x
+    left_there = first_left n.done items ∙ ap (λ is. slice_get is 0) (sym a.left_is ∙ e)
 
-    pub left_goes_on : (new : Holding) (is_asked : Bool) (answer : Option Merge) (m : Count) → IsItemTaken q mid x answer new → IsSound new → m ≡ counted n answer
-        → (is_asked ≡ false → (was_asked ≡ false) × IsFalse (needs_query q x)) → AskingLeft q old items others new m is_asked
-    left_goes_on new is_asked answer m h sound f unasked =
-        let done : m.done ≡ n.done + 1 = ap (λ (k : Count). k.done) f ∙ (few_after n answer n.done refl a.asking.taking.taken a.asking.taking.stale).0 in
+    pub left_goes_on : (new : Holding) (answer : Option Merge) (m : Count) → IsItemTaken q mid x answer new → IsSound new → m ≡ counted n answer → TakingLeft q old items others new m
+    left_goes_on new answer m h sound f =
+        let done : m.done ≡ n.done + 1 = ap (λ (k : Count). k.done) f ∙ (few_after n answer n.done refl a.taking.taken a.taking.stale).0 in
         let one_more_done : suc n.done ≡ m.done = omega (arith, done) in
         record {
-          asking = subst (λ i. Asking q old items i new m is_asked) (sym done) (asking_goes_on q old items n.done mid n was_asked x new a.asking there is_asked answer m h sound f unasked);
+          taking = subst (λ i. Taking q old items i new m) (sym done) (taking_goes_on q old items n.done mid n x new a.taking left_there answer m h sound f);
           left_is = ap (drop 1) (sym (sym a.left_is ∙ e)) ∙ sym (others_left n.done items) ∙ ap (λ i. drop i items) one_more_done;
         }
 
-    pub left_stops : (new : Holding) (fault : JoinFault) (stop : Stop) → new ≡ mid → IsRefusedOrUnasked q was_asked mid x fault → stop ≡ stop_after n fault → IsTakeStopped q old items new stop
-    left_stops new fault stop f refused g = rw g (asking_stops q old items n.done mid n was_asked x new a.asking there fault f refused)
+    pub left_stops : (new : Holding) (fault : JoinFault) (stop : Stop) → new ≡ mid → IsRefusedUnder q mid x fault → stop ≡ stop_after n fault → IsTakeStopped q old items new stop
+    left_stops new fault stop f refused g = rw g (taking_stops q old items n.done mid n x new a.taking left_there fault f refused)
 
     pub left_counts : length items < 2 ^ 64 → CanCountOne n
-    left_counts most = record { taken = a.asking.taking.taken; stale = a.asking.taking.stale; done = omega (arith, most, slice_get_within items n.done x there) }
+    left_counts most = record { taken = a.taking.taken; stale = a.taking.stale; done = omega (arith, most, slice_get_within items n.done x left_there) }

@@ -1,6 +1,7 @@
 -- What a map takes of items in order, and where it stops.
 use Rattle.std.specs.Prelude.{◌≡◌, ◌⊎◌, Bool, true, false, List, [], ◌∷◌, ◌++◌, All}
 use Rattle.std.specs.Prelude.{length, filter, take, slice_get, Option, Some, None, Result, Ok, Err, IsTrue, IsFalse}
+use Rattle.std.specs.List.{list_any}
 use Rattle.ds_names.specs.Kind.{names_kind}
 use Rattle.ds_entry.specs.declared.item.Item.{Item}
 use Rattle.ds_entry.specs.declared.item.Item.TheVariants.{Change as Changed, Floor as Floored}
@@ -64,31 +65,30 @@ abbrev pub IsFloorOrOther : Query → Item → Type 0
 IsFloorOrOther q (Changed c) = IsFalse (is_under q c.key)
 IsFloorOrOther q (Floored f) = Unit {0}
 
+-- Whether the tester is that of the query; without one, the item is a floor, or isn't under the query.
+abbrev pub IsTesterFor : Query → Option Query → Item → Type 0
+IsTesterFor q None i = IsFloorOrOther q i
+IsTesterFor q (Some asker) i = asker ≡ q
+
 -- Whether the item is under the query, and its merge, or its raised floor, is refused by this fault.
 abbrev pub IsRefusedUnder : Query → Holding → Item → JoinFault → Type 0
 IsRefusedUnder q held i fault = IsTrue (passes (is_under q) i) × IsItemRefused held i fault
 
--- Whether memory runs out for the tester of the query, which the item is the first to need.
-pub record CannotAsk (q : Query) (was_asked : Bool) (i : Item) (fault : JoinFault) : Type 0 where
-  pub noroom : fault ≡ NoRoom
-  pub first : was_asked ≡ false
-  pub asked : IsTrue (needs_query q i)
-
--- Whether the item is refused, or memory runs out for the tester of the query.
-abbrev pub IsRefusedOrUnasked : Query → Bool → Holding → Item → JoinFault → Type 0
-IsRefusedOrUnasked q was_asked held i fault = IsRefusedUnder q held i fault ⊎ CannotAsk q was_asked i fault
-
--- Whether memory runs out for the tester of the query, at the first item that needs it.
-pub record IsUnasked (q : Query) (front : List Item) (i : Item) (fault : JoinFault) : Type 0 where
-  pub noroom : fault ≡ NoRoom
-  pub none_before : All (λ j. IsFalse (needs_query q j)) front
-  pub asked : IsTrue (needs_query q i)
-
 -- Whether the first `done` items were taken, and the next one is refused.
+abbrev pub IsNextRefused : Query → List Item → Holding → Stop → Type 0
+IsNextRefused q items new stop =
+    (next : Item) × (slice_get items stop.done ≡ Some next) × IsRefusedUnder q new next stop.fault
+
+-- Whether memory ran out for the tester of the query, which some item needs, before any item was done.
+pub record IsUnasked (q : Query) (items : List Item) (stop : Stop) : Type 0 where
+  pub noroom : stop.fault ≡ NoRoom
+  pub none_done : stop.done ≡ 0
+  pub asked : IsTrue (list_any (needs_query q) items)
+
+-- Whether the first `done` items were taken, and then the next one is refused, or memory ran out for the tester.
 pub record IsTakeStopped (q : Query) (old : Holding) (items : List Item) (new : Holding) (stop : Stop) : Type 0 where
   pub front : AreTaken q old (take stop.done items) new
-  pub refused : (next : Item) × (slice_get items stop.done ≡ Some next) ×
-      (IsRefusedUnder q new next stop.fault ⊎ IsUnasked q (take stop.done items) next stop.fault)
+  pub refused : IsNextRefused q items new stop ⊎ IsUnasked q items stop
 
 -- Whether the new holding is the top of the old one and of the items under the query, floors among them.
 abbrev pub JoinsUnder : Query → Holding → List Item → Holding → Type 0

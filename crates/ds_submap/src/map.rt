@@ -71,8 +71,8 @@ impl SubMap {
     /// Stops at the first item that is refused, and keeps the items taken before it. Known, stale and skipped items count as
     /// done.
     ///
-    /// The first change of a kind that the query names takes memory for buffers that match names. A change is copied only
-    /// if it is taken.
+    /// If some item is a change of a kind that the query names, buffers that match names are allocated before the first
+    /// item: without memory for them, nothing is done. A change is copied only if it is taken.
     pub fn take(&mut self, alloc: Global, items: &Items) -> Result<Count, Stop>
         ensures joined { JoinsUnder self.old.query self.old.held (done_items result items.now) self.new.held }
         ensures counted { IfOk result (AreCounted self.old.query self.old.held items.now self.new.held) }

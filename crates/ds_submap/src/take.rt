@@ -1,10 +1,11 @@
 //! Taking items in order: a floor is raised; a change is merged if it is under the query, else skipped.
 
-ghost use Rattle.std.specs.Prelude.{◌≡◌, false, is_some, IfErr, IfOk, IfSome, IsFalse, OnErr, OnOk};
+ghost use Rattle.std.specs.Prelude.{◌≡◌, is_some, IfErr, IfOk, IfSome, IsTrue, OnErr};
+ghost use Rattle.std.specs.List.{list_any};
 ghost use Rattle.ds_held.specs.Held.{IsSound};
 ghost use Rattle.ds_pattern.specs.declared.query.Query.{Query};
-ghost use Rattle.ds_submap.specs.Take.{AreCounted, IsFloorOrOther, IsItemTaken, IsTakeStopped, needs_query};
-ghost use Rattle.ds_submap.specs.Take.{IsRefusedOrUnasked, IsRefusedUnder};
+ghost use Rattle.ds_submap.specs.Take.{AreCounted, IsTesterFor, IsFloorOrOther, IsItemTaken, IsTakeStopped, needs_query};
+ghost use Rattle.ds_submap.specs.Take.{IsRefusedUnder};
 
 use ds_entry::Item;
 use ds_held::Held;
@@ -13,7 +14,7 @@ use ds_packed::Unpacking;
 use ds_pattern::{Asker, Filter};
 use std::alloc::Global;
 
-// Takes items. The tester of names is built at the first change of a kind that the query names.
+// Takes items. The tester of names is built before the first of them if any needs it.
 pub(crate) fn take_items(
     alloc: Global,
     filter: &Filter,
@@ -25,10 +26,10 @@ pub(crate) fn take_items(
     ensures counted { IfOk result (AreCounted filter.now held.old items.now held.new) }
     ensures stopped { IfErr result (IsTakeStopped filter.now held.old items.now held.new) }
 {
-    let mut asker = None;
+    let mut asker = asker_if(alloc, filter, is_any_asked(filter, items))?;
     let mut count = Count::none();
     for item in items {
-        match take_next(alloc, filter, &mut asker, held, item) {
+        match take_next(alloc, &mut asker, held, item) {
             Ok(answer) => count.add(answer),
             Err(fault) => return Err(count.stop(fault)),
         }
@@ -48,11 +49,11 @@ pub(crate) fn take_packed(
     ensures counted { IfOk result (AreCounted filter.now held.old items.entry held.new) }
     ensures stopped { IfErr result (IsTakeStopped filter.now held.old items.entry held.new) }
 {
-    let mut asker = None;
+    let mut asker = asker_if(alloc, filter, is_any_packed_asked(filter, &items))?;
     let mut count = Count::none();
     let _most = items.len();
     while let Some(item) = items.next() {
-        let answer = take_next(alloc, filter, &mut asker, held, &item);
+        let answer = take_next(alloc, &mut asker, held, &item);
         drop(item);
         match answer {
             Ok(answer) => count.add(answer),
@@ -62,43 +63,18 @@ pub(crate) fn take_packed(
     Ok(count)
 }
 
-// Builds the tester of the query.
-fn asker_of(alloc: Global, filter: &Filter) -> Result<Asker<'_>, JoinFault>
-    ensures asker { IfOk result (λ asker. asker ≡ filter.now) }
-    ensures refused { IfErr result (λ fault. fault ≡ JoinFault.NoRoom) }
+// Builds the tester of the query if it is needed.
+fn asker_if(alloc: Global, filter: &Filter, needed: bool) -> Result<Option<Asker<'_>>, Stop>
+    ensures asker { IfOk result (λ asker. is_some asker ≡ needed) }
+    ensures query { IfOk result (λ asker. IfSome asker (λ a. a ≡ filter.now)) }
+    ensures refused { IfErr result (λ stop. (stop.done ≡ 0) × (stop.fault ≡ JoinFault.NoRoom) × IsTrue needed) }
 {
+    if !needed {
+        return Ok(None);
+    }
     match filter.asker(alloc) {
-        Ok(asker) => Ok(asker),
-        Err(_) => Err(JoinFault::NoRoom),
-    }
-}
-
-// Takes the next item. The tester is built when it is first needed.
-fn take_next<'f>(
-    alloc: Global,
-    filter: &'f Filter,
-    asker: &mut Option<Asker<'f>>,
-    held: &mut Held,
-    item: &Item,
-) -> Result<Option<Merge>, JoinFault>
-    requires sound { IsSound held.old }
-    requires query { IfSome asker.old (λ a. a ≡ filter.now) }
-    ensures query { IfSome asker.new (λ a. a ≡ filter.now) }
-    ensures sound { IsSound held.new }
-    ensures taken { IfOk result (λ answer. IsItemTaken filter.now held.old item.now answer held.new) }
-    ensures unasked { OnOk result (is_some asker.new ≡ false → (is_some asker.old ≡ false) × IsFalse (needs_query filter.now item.now)) }
-    ensures refused { IfErr result (IsRefusedOrUnasked filter.now (is_some asker.old) held.old item.now) }
-    ensures unchanged { OnErr result (held.new ≡ held.old) }
-{
-    if !is_asked(filter, item) {
-        return raise_or_pass(held, item);
-    }
-    if asker.is_none() {
-        *asker = Some(asker_of(alloc, filter)?);
-    }
-    match asker {
-        Some(asker) => take_one(alloc, asker, held, item),
-        None => unreachable!(),
+        Ok(asker) => Ok(Some(asker)),
+        Err(_) => Err(Count::none().stop(JoinFault::NoRoom)),
     }
 }
 
@@ -109,6 +85,49 @@ fn is_asked(filter: &Filter, item: &Item) -> bool
     match item {
         Item::Change(change) => filter.names(change.key().kind),
         Item::Floor(_) => false,
+    }
+}
+
+// Returns whether any of the items does.
+fn is_any_asked(filter: &Filter, items: &[Item]) -> bool
+    ensures { result ≡ list_any (needs_query filter.now) items.now }
+{
+    items.iter().any(|item| is_asked(filter, item))
+}
+
+// Returns whether any of the packed items does.
+fn is_any_packed_asked(filter: &Filter, items: &Unpacking<'_>) -> bool
+    ensures { result ≡ list_any (needs_query filter.now) items.now }
+{
+    let Some(mut rest) = items.first(items.len()) else {
+        unreachable!()
+    };
+    while let Some(item) = rest.next() {
+        if is_asked(filter, &item) {
+            return true;
+        }
+    }
+    false
+}
+
+// Takes the next item. Without a tester, it is a floor or isn't under the query.
+fn take_next(
+    alloc: Global,
+    asker: &mut Option<Asker<'_>>,
+    held: &mut Held,
+    item: &Item,
+) -> Result<Option<Merge>, JoinFault>
+    requires { IsSound held.old }
+    ensures asker { asker.new ≡ asker.old }
+    ensures sound { IsSound held.new }
+    ensures taken { IfOk result (λ answer. (q : Query) → IsTesterFor q asker.old item.now
+        → IsItemTaken q held.old item.now answer held.new) }
+    ensures refused { IfErr result (λ fault. (q : Query) → IsTesterFor q asker.old item.now → IsRefusedUnder q held.old item.now fault) }
+    ensures unchanged { OnErr result (held.new ≡ held.old) }
+{
+    match asker {
+        Some(asker) => take_one(alloc, asker, held, item),
+        None => raise_or_pass(held, item),
     }
 }
 

@@ -1,5 +1,6 @@
 -- That what a map takes is what the definitions of deliveries say.
-use Rattle.std.proofs.Common.{◌≡◌, ◌⊎◌, ℕ, ◌+◌, ◌≤◌, Bool, true, false, List, [], ◌∷◌, ◌++◌, length, filter, take, Option, Some, None, Ok, Err, refl, ap, sym, subst, inl, inr, arith}
+use Rattle.std.proofs.Common.{◌≡◌, ◌⊎◌, ℕ, ◌+◌, ◌≤◌, Bool, true, false, List, [], ◌∷◌, ◌++◌, length, filter, take, Option, Some, None, Ok, Err, IsTrue, refl, ap, sym, ◌∙◌, subst, inl, inr, arith}
+use Rattle.std.specs.List.{list_any, slice_get}
 use Rattle.std.proofs.lemmas.List.{take_all}
 use Rattle.ds_names.specs.declared.version.Version.{Version}
 use Rattle.ds_entry.specs.Change.{ChangeRecord}
@@ -21,7 +22,7 @@ use Rattle.ds_machine.specs.Stopped.{refusal_of_join}
 use Rattle.ds_machine.specs.declared.refusal.Refusal.TheVariants as refusals
 use Rattle.ds_join.specs.declared.count.Count.{Count}
 use Rattle.ds_submap.specs.Map.{SubMapRecord}
-use Rattle.ds_submap.specs.Take.{AreAnswered, is_taken, is_stale, AreCounted, IsTakeStopped, IsUnasked, IsRefusedUnder}
+use Rattle.ds_submap.specs.Take.{AreAnswered, is_taken, is_stale, AreCounted, IsNextRefused, IsTakeStopped, IsUnasked, needs_query}
 use Rattle.ds_replica.specs.Delivery.{ended, StandsAgainst, MapTakes}
 use Rattle.ds_world.specs.World.{map_state}
 use Rattle.ds_pattern.specs.Under.{is_under}
@@ -118,14 +119,21 @@ module _ (old new : SubMapRecord) (items : List Item) (query : new.query ≡ old
         top = top;
         counted = omega arith;
         owed = refl;
-        ends = (n.refused.0, n.refused.1, under_or_noroom n.refused.2, against n.refused.2);
+        ends = by n.refused;
       }
     where
-      under_or_noroom : (IsRefusedUnder old.query new.held n.refused.0 stop.fault ⊎ IsUnasked old.query (take stop.done items) n.refused.0 stop.fault)
-          → (passes (is_under new.query) n.refused.0 ≡ true) ⊎ (refusal_of_join stop.fault ≡ refusals.NoRoom)
-      under_or_noroom (inl r) = inl (subst (λ (q : Query). passes (is_under q) n.refused.0 ≡ true) (sym query) r.0)
-      under_or_noroom (inr u) = inr (ap refusal_of_join u.noroom)
+      -- some item is the next one, even if none was done
+      first_asked : (q : Query) (xs : List Item) → IsTrue (list_any (needs_query q) xs) → (i : Item) × (slice_get xs 0 ≡ Some i)
+      first_asked q [] e = absurd (cc)
+      first_asked q (i ∷ xs) e = (i, refl)
 
-      against : (IsRefusedUnder old.query new.held n.refused.0 stop.fault ⊎ IsUnasked old.query (take stop.done items) n.refused.0 stop.fault) → StandsAgainst (held_items new.held) n.refused.0 (refusal_of_join stop.fault)
-      against (inl r) = stands new.held sound n.refused.0 stop.fault r.1
-      against (inr u) = subst (λ (f : JoinFault). StandsAgainst (held_items new.held) n.refused.0 (refusal_of_join f)) (sym u.noroom) (wants_room (held_items new.held) n.refused.0)
+      by : IsNextRefused old.query items new.held stop ⊎ IsUnasked old.query items stop →
+          (i : Item) × (slice_get items stop.done ≡ Some i) × ((passes (is_under new.query) i ≡ true) ⊎ (refusal_of_join stop.fault ≡ refusals.NoRoom)) × StandsAgainst (held_items new.held) i (refusal_of_join stop.fault)
+      by (inl r) = (r.0, r.1, inl (subst (λ (q : Query). passes (is_under q) r.0 ≡ true) (sym query) r.2.0), stands new.held sound r.0 stop.fault r.2.1)
+      by (inr u) =
+          let i = first_asked old.query items u.asked in (
+            i.0,
+            ap (slice_get items) u.none_done ∙ i.1,
+            inr (ap refusal_of_join u.noroom),
+            subst (λ (f : JoinFault). StandsAgainst (held_items new.held) i.0 (refusal_of_join f)) (sym u.noroom) (wants_room (held_items new.held) i.0),
+          )

@@ -1,12 +1,11 @@
-use Rattle.std.proofs.Common.{◌≡◌, is_some, length}
-use Rattle.std.specs.Option.{IfSome}
-use Rattle.ds_submap.proofs.TakeLemmas.{AskingLeft}
+use Rattle.std.proofs.Common.{length}
+use Rattle.ds_submap.proofs.TakeLemmas.{IsTesterForEach, TakingLeft}
 use Rattle.ds_submap.proofs.take.take_packed.Given as goal
 
 abbrev pub invariant-loop-item : goal.invariant-loop-item
 invariant-loop-item l = record {
-  asking : AskingLeft l.filter l.fn.held l.fn.items l.items l.held l.count (is_some l.asker);
-  query : IfSome l.asker (λ a. a ≡ l.filter);
+  left : TakingLeft l.filter l.fn.held l.fn.items l.items l.held l.count;
+  asks : IsTesterForEach l.filter l.fn.items l.asker;
 }
 
 abbrev pub decreases-loop-item : goal.decreases-loop-item
