@@ -46,7 +46,7 @@ impl Model for Moves {
 
 impl Moves {
     /// Returns an empty list. It takes no memory.
-    pub(crate) fn new(alloc: Global) -> Moves
+    pub fn new(alloc: Global) -> Moves
         ensures { result ≡ [] }
     {
         Moves {

@@ -31,3 +31,4 @@ pub mod BringLemmas
 pub mod SeerLemmas
 pub mod ShowLemmas
 pub mod CheckLemmas
+pub mod PackLemmas

@@ -1,7 +1,11 @@
 //! The events of a world.
 
+ghost use Rattle.std.specs.Prelude.{◌≡◌, IfOk};
+
 use ds_machine::Command;
+use ds_names::NoRoom;
 use ds_pattern::Query;
+use std::alloc::Global;
 
 /// One of the two stores.
 #[derive(Clone, Copy, PartialEq, Eq)]
@@ -46,4 +50,35 @@ pub enum Event {
         side: Side,
         incarnation: u64,
     },
+}
+
+impl Event {
+    /// Returns a copy. Fails only if memory runs out for a command's or a query's copy.
+    pub fn copy(&self, alloc: Global) -> Result<Event, NoRoom>
+        ensures { IfOk result (λ copy. copy ≡ self.now) }
+    {
+        match self {
+            Event::Ask { side, command } => Ok(Event::Ask {
+                side: *side,
+                command: command.copy(alloc)?,
+            }),
+            Event::NewMap { query } => Ok(Event::NewMap {
+                query: query.copy(alloc)?,
+            }),
+            Event::Deliver {
+                message,
+                holder,
+                count,
+            } => Ok(Event::Deliver {
+                message: *message,
+                holder: *holder,
+                count: *count,
+            }),
+            Event::ClearMap { map } => Ok(Event::ClearMap { map: *map }),
+            Event::RestartStore { side, incarnation } => Ok(Event::RestartStore {
+                side: *side,
+                incarnation: *incarnation,
+            }),
+        }
+    }
 }

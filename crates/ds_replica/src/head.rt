@@ -1,6 +1,6 @@
 //! What a reply with items has besides its items.
 
-ghost use Rattle.std.specs.Prelude.{◌≡◌, IfSome};
+ghost use Rattle.std.specs.Prelude.{◌≡◌, None, IfNone, IfSome};
 ghost use Rattle.std.specs.Option.{option_copied};
 ghost use Rattle.ds_replica.specs.Happens.{items_given};
 ghost use Rattle.ds_replica.specs.Head.{reply_with, IsHead};
@@ -11,17 +11,22 @@ use ds_machine::Reply;
 
 /// What a reply with items has besides its items.
 #[derive(Clone, Copy)]
-pub(crate) enum Head {
+pub enum Head {
+    /// Of a Check: the subscription's stamps before and after it.
     Checked { before: u64, after: u64 },
+    /// Of a Since: the cursor after all that was looked at.
     Journaled { cursor: Cursor },
+    /// Of a Snapshot: the cursor after all that took effect.
     Snapped { cursor: Cursor },
+    /// Of a Page: whether it is the last one, and the cursor after all that took effect.
     Paged { last: bool, cursor: Cursor },
 }
 
 impl Head {
     // Returns what a reply has besides its items, or `None` if it has none.
     pub(crate) fn of(reply: &Reply) -> Option<Head>
-        ensures { IfSome result (λ head. IsHead head reply.now) }
+        ensures some { IfSome result (λ head. IsHead head reply.now) }
+        ensures none { IfNone result (items_given reply.now ≡ None) }
     {
         match reply {
             Reply::Checked { before, after, .. } => Some(Head::Checked {

@@ -25,6 +25,7 @@ mod seed;
 mod world;
 
 pub use event::{Event, Holder, Side};
+pub use head::Head;
 pub use laws::{
     agreement_laws, catch_up_laws, check_laws, label_laws, page_laws, taking_laws, turn_laws,
     whole_laws,

@@ -1,7 +1,8 @@
 //! Messages.
 
-ghost use Rattle.std.specs.Prelude.{◌≡◌, IfOk, IfSome, IfNone, None, Some};
+ghost use Rattle.std.specs.Prelude.{◌≡◌, true, is_some, IfOk, IfSome, IfNone, None, Some};
 ghost use Rattle.ds_replica.specs.Happens.{items_given};
+ghost use Rattle.ds_replica.specs.Head.{IsHead};
 ghost use Rattle.ds_replica.specs.Lent.{items_lent};
 
 use crate::head::{Head, items_of};
@@ -74,13 +75,27 @@ impl Message {
         }
     }
 
-    /// Returns the reply itself, or `None` if its items are packed.
+    /// Returns the reply itself, or `None` if its items are packed. A reply without a list of items never is.
+    #[tactic(auto, using(crate::proofs::PackLemmas::packed_has_items))]
     pub fn reply(&self) -> Option<&Reply>
-        ensures { IfSome result (λ reply. reply.now ≡ self.now) }
+        ensures some { IfSome result (λ reply. reply.now ≡ self.now) }
+        ensures none { IfNone result (is_some (items_given self.now) ≡ true) }
     {
         match &self.kept {
             Kept::Whole(reply) => Some(reply),
             Kept::Packed(_, _) => None,
+        }
+    }
+
+    /// Returns what the reply has besides its items, or `None` if this kind of reply has no list. Takes no memory.
+    #[tactic(auto, using(crate::proofs::PackLemmas::head_of_packed))]
+    pub fn head(&self) -> Option<Head>
+        ensures some { IfSome result (λ head. IsHead head self.now) }
+        ensures none { IfNone result (items_given self.now ≡ None) }
+    {
+        match &self.kept {
+            Kept::Whole(reply) => Head::of(reply),
+            Kept::Packed(head, _) => Some(*head),
         }
     }
 

@@ -8,7 +8,6 @@ pub mod WrongLemmas
 pub mod Kept
 pub mod NumberLemmas
 pub mod BringLemmas
-pub mod CopyLemmas
 pub mod AccountLemmas
 pub mod SingleLemmas
 pub mod ActLemmas

@@ -24,6 +24,15 @@ impl Model for SystemOutcomes {
 }
 
 impl SystemOutcomes {
+    /// Returns an empty list. It takes no memory.
+    pub fn new(alloc: Global) -> SystemOutcomes
+        ensures { result ≡ [] }
+    {
+        SystemOutcomes {
+            outcomes: Vec::new(alloc),
+        }
+    }
+
     /// Wraps a `Vec`, and takes no memory.
     pub(crate) fn of(outcomes: Vec<SystemOutcome>) -> SystemOutcomes
         ensures { result ≡ outcomes.items }

@@ -24,6 +24,15 @@ impl Model for Replies {
 }
 
 impl Replies {
+    /// Returns an empty list. It takes no memory.
+    pub fn new(alloc: Global) -> Replies
+        ensures { result ≡ [] }
+    {
+        Replies {
+            replies: Vec::new(alloc),
+        }
+    }
+
     /// Wraps a `Vec`, and takes no memory.
     pub(crate) fn of(replies: Vec<Reply>) -> Replies
         ensures { result ≡ replies.items }

@@ -25,7 +25,7 @@ impl Model for Rounds {
 
 impl Rounds {
     /// Returns an empty list. It takes no memory.
-    pub(crate) fn new(alloc: Global) -> Rounds
+    pub fn new(alloc: Global) -> Rounds
         ensures { result ≡ [] }
     {
         Rounds {

@@ -12,3 +12,4 @@ pub mod GivenLemmas
 pub mod PageLemmas
 pub mod LawLemmas
 pub mod AccountLemmas
+pub mod CopyLemmas

@@ -1,8 +1,9 @@
 //! Lists of events.
 
-ghost use Rattle.std.specs.Prelude.{◌≡◌, ◌++◌, ◌∷◌, [], length, slice_get, OnOk, IfErr, OnErr};
+ghost use Rattle.std.specs.Prelude.{◌≡◌, ◌≢◌, ◌++◌, ◌∷◌, [], length, slice_get, OnOk, IfErr, OnErr, IfOk};
 ghost use Rattle.std.specs.Option.{option_copied};
 
+use ds_names::NoRoom;
 use ds_replica::Event;
 use std::alloc::{AllocFailed, Global};
 use std::marker::Model;
@@ -60,5 +61,17 @@ impl Events {
         ensures { option_copied result ≡ slice_get self.now index }
     {
         self.events.get(index)
+    }
+
+    /// Returns a copy. A copy of no events takes no memory.
+    pub fn copy(&self, alloc: Global) -> Result<Events, NoRoom>
+        ensures same { IfOk result (λ copy. copy ≡ self.now) }
+        ensures room { OnErr result (self.now ≢ []) }
+    {
+        let mut events = Vec::new(alloc);
+        for event in &self.events {
+            events.push(event.copy(alloc)?)?;
+        }
+        Ok(Events { events })
     }
 }

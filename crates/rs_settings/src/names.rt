@@ -24,7 +24,7 @@ impl Model for Names {
 
 impl Names {
     /// Returns an empty list. Takes no memory.
-    pub(crate) fn new(alloc: Global) -> Names
+    pub fn new(alloc: Global) -> Names
         ensures { result ≡ [] }
     {
         Names {

@@ -25,7 +25,7 @@ impl Model for Services {
 
 impl Services {
     /// Returns an empty list. Takes no memory.
-    pub(crate) fn new(alloc: Global) -> Services
+    pub fn new(alloc: Global) -> Services
         ensures { result ≡ [] }
     {
         Services {

@@ -4,7 +4,7 @@ use crate::telling::tell;
 use ds_entry::Items;
 use ds_line::read_item;
 use ds_machine::{Command, Reply, Scope};
-use ds_replica::{Event, EventFault, Holder, Outcome, Seed, Side};
+use ds_replica::{Event, EventFault, Head, Holder, Outcome, Seed, Side};
 use ds_world::{Events, Outcomes, World};
 use std::alloc::Global;
 
@@ -30,9 +30,31 @@ fn seed(incarnation: u64) -> Seed {
 fn happen_in(alloc: Global, world: &mut World) -> Option<()> {
     let mut events = Events::new(alloc);
     add_events(alloc, &mut events)?;
-    let outcomes = world.run(events).ok()?;
+    let outcomes = world.run(events.copy(alloc).ok()?).ok()?;
+    let again = made_again(alloc, &outcomes.copy(alloc).ok()?)?;
     let is_held = world.store(Side::B).held().len() == 1;
-    (is_held && are_wanted(&outcomes)).then_some(())
+    (is_held && are_wanted(&again) && has_cursor(world)).then_some(())
+}
+
+// Returns a new list with copies of the outcomes.
+fn made_again(alloc: Global, outcomes: &Outcomes) -> Option<Outcomes> {
+    let mut again = Outcomes::new(alloc);
+    for index in 0..outcomes.len() {
+        let outcome = outcomes.get(index)?.copy(alloc).ok()?;
+        again.push(outcome).ok()?;
+    }
+    Some(again)
+}
+
+// Returns whether message 0 is a snapshot with the cursor after one change.
+fn has_cursor(world: &World) -> bool {
+    let Some(message) = world.message(0) else {
+        return false;
+    };
+    match message.head() {
+        Some(Head::Snapped { cursor }) => cursor.position == 1,
+        _ => false,
+    }
 }
 
 fn add_events(alloc: Global, events: &mut Events) -> Option<()> {

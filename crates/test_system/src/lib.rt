@@ -9,6 +9,7 @@
 //! lines of a section of RS are sent to RS one by one, as rs_session.rt describes.
 #![tactic(auto)]
 
+mod again;
 mod lines;
 mod part;
 mod rs_command;

@@ -1,5 +1,6 @@
 //! A system, and its events.
 
+use crate::again::made_again;
 use crate::lines::read_events;
 use crate::telling::{tell_entries, tell_outcome};
 use crate::words::tell;
@@ -112,7 +113,7 @@ fn answer_copy(
     }
 }
 
-// Appends a copy of the outcomes, likewise.
+// Appends a copy of the outcomes, whose lists are new ones with copies of what was in them.
 fn tell_copy(
     text: &mut Vec<u8>,
     alloc: Global,
@@ -120,7 +121,8 @@ fn tell_copy(
     outcomes: &SystemOutcomes,
 ) -> Result<(), NoRoom> {
     let copy = outcomes.copy(alloc)?;
-    tell_all(text, alloc, world, &copy)
+    let again = made_again(alloc, &copy)?;
+    tell_all(text, alloc, world, &again)
 }
 
 // Appends the outcome of each event, and then what the servers' maps hold.

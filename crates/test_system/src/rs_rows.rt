@@ -6,7 +6,7 @@
 use crate::words::tell_numbers;
 use driver_tables::{FileClass, FileTable};
 use ds_names::{Endpoint, Generation, Name, NoRoom};
-use rs_settings::{Settings, read};
+use rs_settings::{Names, Services, Settings, read};
 use std::alloc::Global;
 
 const ETH0: &[u8] =
@@ -30,15 +30,27 @@ pub(crate) fn tell_rows(text: &mut Vec<u8>, alloc: Global) -> Result<(), NoRoom>
 fn settings_row(alloc: Global) -> Option<u64> {
     let settings = read(alloc, ETH0).ok()?;
     match settings.copy(alloc) {
-        Ok(copy) => slots_of(&copy),
+        Ok(copy) => slots_of(alloc, &copy),
         Err(_) => None,
     }
 }
 
-// Returns how many slots there are, if the first service publishes two names.
-fn slots_of(settings: &Settings) -> Option<u64> {
-    let service = settings.services().get(0)?;
-    (service.publishes.len() == 2).then_some(u64::from(settings.slots()))
+// Returns how many slots there are, if the first service, in a new list, publishes two names, in a new list too.
+fn slots_of(alloc: Global, settings: &Settings) -> Option<u64> {
+    let mut services = Services::new(alloc);
+    services
+        .push(settings.services().get(0)?.copy(alloc).ok()?)
+        .ok()?;
+    let names = names_again(alloc, &services.get(0)?.publishes)?;
+    (names.len() == 2).then_some(u64::from(settings.slots()))
+}
+
+fn names_again(alloc: Global, names: &Names) -> Option<Names> {
+    let mut again = Names::new(alloc);
+    for index in 0..names.len() {
+        again.push(*names.get(index)?).ok()?;
+    }
+    Some(again)
 }
 
 fn newest_row(alloc: Global) -> Option<u64> {

@@ -24,6 +24,6 @@ pub returns-in_ok-copy-in-Put : goal.returns-in_ok-copy-in-Put
 returns-in_ok-copy-in-Put c =
     let p = c.in-Put in ap (λ v. Put p.label p.key v p.side) c.in_ok-copy-in-Put.ensures.same ∙ sym p.is
 
-pub returns-in_ok-world_event_again-in-World : goal.returns-in_ok-world_event_again-in-World
-returns-in_ok-world_event_again-in-World c =
-    let p = c.in-World in ap (λ e. World e) c.in_ok-world_event_again-in-World.ensures ∙ sym p.is
+pub returns-in_ok-copy-in-World : goal.returns-in_ok-copy-in-World
+returns-in_ok-copy-in-World c =
+    let p = c.in-World in ap (λ e. World e) c.in_ok-copy-in-World.ensures ∙ sym p.is

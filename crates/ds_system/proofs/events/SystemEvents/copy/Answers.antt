@@ -1,5 +1,5 @@
 use Rattle.std.proofs.Common.{arith}
-use Rattle.ds_system.proofs.CopyLemmas.{copied_more}
+use Rattle.ds_world.proofs.CopyLemmas.{copied_more}
 use Rattle.ds_system.proofs.events.SystemEvents.copy.Goals as goal
 
 pub loop-event-preserved : goal.loop-event-preserved

@@ -1,5 +1,5 @@
 use Rattle.std.proofs.Common.{arith}
-use Rattle.ds_system.proofs.CopyLemmas.{copied_more}
+use Rattle.ds_world.proofs.CopyLemmas.{copied_more}
 use Rattle.ds_system.proofs.outcomes.SystemOutcomes.copy.Goals as goal
 
 pub loop-outcome-preserved : goal.loop-outcome-preserved

@@ -1,5 +1,5 @@
 use Rattle.std.proofs.Common.{arith}
-use Rattle.ds_system.proofs.CopyLemmas.{copied_more}
+use Rattle.ds_world.proofs.CopyLemmas.{copied_more}
 use Rattle.ds_system.proofs.replies.Replies.copy.Goals as goal
 
 pub loop-reply-preserved : goal.loop-reply-preserved

@@ -1,5 +1,5 @@
 use Rattle.std.proofs.Common.{sym}
-use Rattle.ds_system.proofs.copying.world_event_again.Goals as goal
+use Rattle.ds_replica.proofs.event.Event.copy.Goals as goal
 
 pub returns-in-Deliver : goal.returns-in-Deliver
 returns-in-Deliver c = sym c.in-Deliver.is
