@@ -2,7 +2,7 @@
 use Rattle.std.specs.Prelude.{◌≡◌, ◌⊎◌, ℕ, nat_lt, cond, List, Option, None, Some, Ok, Err}
 use Rattle.rs_core.specs.State.{RsRecord}
 use Rattle.rs_settings.specs.Fault.{no_room}
-use Rattle.rs_settings.specs.Settings.{SettingsRecord, settings_of, MayTakeMemory}
+use Rattle.rs_settings.specs.Settings.{SettingsRecord, settings_of_any, MayTakeMemory}
 use Rattle.rs_settings.specs.declared.fault.SettingsFault.{SettingsFault}
 use Rattle.rs_settings.specs.declared.fault.SettingsCause.{SettingsCause}
 use Rattle.rs_settings.specs.declared.fault.SettingsCause.TheVariants.{NoRoom}
@@ -28,7 +28,7 @@ pub record TellsFault (text : List ℕ) (fault : SettingsFault) (told : Settings
 pub record TextBegins (text : List ℕ) (next first : ℕ) (before : SettingsRefusal) (word : ℕ)
     (fault : SettingsRefusal) (new : Option RsRecord) : Type 0 where
   pub settings : SettingsRecord
-  pub read : settings_of text ≡ Ok settings
+  pub read : settings_of_any text ≡ Ok settings
   pub reply : RsReply
   pub begins : BeginsFirst settings next first reply new
   pub word_is : word ≡ begun_word reply
@@ -37,7 +37,7 @@ pub record TextBegins (text : List ℕ) (next first : ℕ) (before : SettingsRef
 -- Whether the fault with this cause is the text's, or is that memory to read the text runs out.
 abbrev pub IsWhy : List ℕ → SettingsFault → SettingsCause → Type 0
 IsWhy text why NoRoom = MayTakeMemory text × (why ≡ no_room)
-IsWhy text why cause = settings_of text ≡ Err why
+IsWhy text why cause = settings_of_any text ≡ Err why
 
 -- Whether the text has a fault, or memory to read it runs out.
 pub record TextIsRefused (text : List ℕ) (word : ℕ) (fault : SettingsRefusal) (new : Option RsRecord) : Type 0 where

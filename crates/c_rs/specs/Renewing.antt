@@ -1,6 +1,6 @@
 -- Other settings for RS, from a text.
 use Rattle.std.specs.Prelude.{◌≡◌, ◌⊎◌, ℕ, List, Option, None, Some, Result, Ok, Err}
-use Rattle.rs_settings.specs.Settings.{SettingsRecord, settings_of}
+use Rattle.rs_settings.specs.Settings.{SettingsRecord, settings_of_any}
 use Rattle.rs_settings.specs.declared.fault.SettingsFault.{SettingsFault}
 use Rattle.rs_core.specs.State.{RsRecord}
 use Rattle.rs_core.specs.declared.fault.RenewFault.{RenewFault}
@@ -57,7 +57,7 @@ RestsAfter (Err fault) old new = IsKept old new
 pub record TextRenews (text : List ℕ) (rs : RsRecord) (old : RsSession) (before : SettingsRefusal) (word : ℕ) (fault : SettingsRefusal)
     (new : RsSession) : Type 0 where
   pub settings : SettingsRecord
-  pub read : settings_of text ≡ Ok settings
+  pub read : settings_of_any text ≡ Ok settings
   pub result : Result (Unit {0}) RenewFault
   pub takes : TakesSettings rs settings result new.services
   pub word_is : word ≡ renewed_word result

@@ -7,7 +7,7 @@ use crate::session::RsSession;
 use crate::telling::{begun_word, cause_number};
 use c_values::refusal_number;
 use ds_machine::Refusal;
-use rs_settings::read;
+use rs_settings::read_any;
 use rs_store::begin;
 use std::alloc::Global;
 
@@ -28,7 +28,7 @@ impl RsSession {
         if self.services.is_some() {
             return refusal_number(Refusal::Exists);
         }
-        match read(alloc, text) {
+        match read_any(alloc, text) {
             Ok(settings) => {
                 let reply = begin(alloc, &mut self.services, settings, next, first);
                 begun_word(&reply)

@@ -9,7 +9,7 @@ use crate::telling::cause_number;
 use c_values::{Answer, refusal_number};
 use ds_machine::Refusal;
 use rs_core::RenewFault;
-use rs_settings::read;
+use rs_settings::read_any;
 use rs_store::renew;
 use std::alloc::Global;
 
@@ -27,7 +27,7 @@ impl RsSession {
         if self.services.is_none() {
             return refusal_number(Refusal::NotFound);
         }
-        match read(alloc, text) {
+        match read_any(alloc, text) {
             Ok(settings) => match renew(&mut self.services, settings) {
                 Some(Ok(())) => {
                     self.forget_last();

@@ -1,11 +1,11 @@
 //! Shows a settings text, or its first fault.
 
 use dsctl_cli::{Failure, Greeting, Input, Terminals, greet};
-use rs_settings::{Settings, SettingsCause, SettingsFault, read};
+use rs_settings::{Settings, SettingsCause, SettingsFault, read_any};
 use std::io::{self, BufWriter, ErrorKind, Read};
 use std::process::ExitCode;
 use std::rt::Runtime;
-use typed_text::{explain_settings, script_line, write_settings};
+use typed_text::{ScriptLine, explain_settings, script_line, write_settings};
 
 /// Parses settings, and prints their services, or them as a line of a script, or their first fault. Nothing is printed
 /// before the whole text is judged.
@@ -32,7 +32,7 @@ pub(crate) fn show_input<R: Runtime + AllocGlobal>(
 
 // Prints the services of a settings text, or its first fault.
 fn show_text(rt: &(impl Runtime + AllocGlobal), text: &Vec<u8>) -> Result<ExitCode, Failure> {
-    match read(rt.alloc(), text.as_slice()) {
+    match read_any(rt.alloc(), text.as_slice()) {
         Ok(settings) => show(rt, &settings),
         Err(fault) => show_fault(rt, text.as_slice(), fault),
     }
@@ -40,7 +40,7 @@ fn show_text(rt: &(impl Runtime + AllocGlobal), text: &Vec<u8>) -> Result<ExitCo
 
 // Prints a settings text as a line of a script, or its first fault.
 fn show_text_as_line(rt: &(impl Runtime + AllocGlobal), text: &[u8]) -> Result<ExitCode, Failure> {
-    match read(rt.alloc(), text) {
+    match read_any(rt.alloc(), text) {
         Ok(settings) => show_line(rt, &settings),
         Err(fault) => show_fault(rt, text, fault),
     }
@@ -62,25 +62,35 @@ const LONGEST: usize = 4096;
 
 // Prints settings as a line of a script. Standard error says what isn't in it.
 fn show_line(rt: &(impl Runtime + AllocGlobal), settings: &Settings) -> Result<ExitCode, Failure> {
-    let Ok((line, left_out)) = script_line(rt.alloc(), settings) else {
+    let Ok(line) = script_line(rt.alloc(), settings) else {
         return Err(Failure::NoRoom);
     };
-    let count = line.len();
+    let count = line.text.len();
     if count > LONGEST {
         let _ = eprintln!(rt;
             "dsctl: the line would have {count} bytes, and a line of a script has at most 4096"
         );
         return Ok(ExitCode::from(1));
     }
-    if let Err(error) = rt.println(line.as_str()) {
+    if let Err(error) = rt.println(line.text.as_str()) {
         return Err(Failure::WriteFault(Some(error)));
     }
-    if let Some(slots) = left_out {
+    tell_left_out(rt, &line);
+    Ok(ExitCode::SUCCESS)
+}
+
+// Writes to standard error which settings a line of a script leaves out.
+fn tell_left_out(rt: &impl Runtime, line: &ScriptLine) {
+    if let Some(slots) = line.slots {
         let _ = eprintln!(rt;
             "dsctl: `slots = {slots}` is left out: a line has services or slots, and then 64 slots"
         );
     }
-    Ok(ExitCode::SUCCESS)
+    if line.is_short {
+        let _ = eprintln!(rt;
+            "dsctl: `complains`, `connects`, `forget` and `startup` are left out: a line is of format 1"
+        );
+    }
 }
 
 // Prints the fault of a text, and writes each of its faults to standard error. Out of memory isn't a fault of the text.

@@ -15,7 +15,7 @@ use Rattle.rs_settings.specs.Shared.{has_name}
 use Rattle.rs_settings.specs.Ascending.{AreAscending}
 
 -- two texts are the same where they compare alike
-is_same-cmp : (x y : List ℕ) → is_same x y ≡ is_eq (slice_cmp nat_cmp x y)
+pub is_same-cmp : (x y : List ℕ) → is_same x y ≡ is_eq (slice_cmp nat_cmp x y)
 is_same-cmp x y = sym (same_from_slice_cmp nat_cmp is_eq is_same refl (λ _ _. refl) (λ _ _. refl) (λ a b xs ys o h. grind (arith, nat_tests)) x y (slice_cmp nat_cmp x y) refl)
 
 -- a lower text doesn't compare greater

@@ -3,3 +3,4 @@ pub mod TableLemmas
 pub mod SharedLemmas
 pub mod AscendingLemmas
 pub mod ApartLemmas
+pub mod FormatLemmas

@@ -17,31 +17,32 @@ use Rattle.toml.specs.declared.value.Value.{Value}
 use Rattle.toml.specs.View.{view, items_view}
 use Rattle.toml.proofs.Views.{items_view-drop}
 use Rattle.rs_settings.specs.declared.fault.SettingsFault.{SettingsFault}
+use Rattle.rs_settings.specs.declared.format.Format.{Format}
 use Rattle.rs_settings.specs.declared.service.Service.{Service}
 use Rattle.rs_settings.specs.Values.{item_count}
 use Rattle.rs_settings.specs.Service.{service_from, services_in, go_on}
-use Rattle.rs_settings.specs.Settings.{document, settings_in, TakesMemory}
+use Rattle.rs_settings.specs.Settings.{SettingsRecord, document, MayTakeMemory, TakesMemory}
 use Rattle.rs_settings.proofs.ValueLemmas.{item_count-view}
 
-services_in-step : (before : List Service) (vs : List Value) (i : ℕ) (d : Value) → i < length vs →
-    services_in before (items_view (drop i vs)) ≡ go_on (λ s. services_in (before ++ s ∷ []) (items_view (drop (i + 1) vs)))
-    (service_from (length before) (as_table (view (get_or vs i d))))
-services_in-step before vs i d h = rw (items_view-drop vs i d h)
+services_in-step : (format : Format) (before : List Service) (vs : List Value) (i : ℕ) (d : Value) → i < length vs →
+    services_in format before (items_view (drop i vs)) ≡ go_on (λ s. services_in format (before ++ s ∷ []) (items_view (drop (i + 1) vs)))
+    (service_from format (length before) (as_table (view (get_or vs i d))))
+services_in-step format before vs i d h = rw (items_view-drop vs i d h)
 
 -- past the last table
-pub services_in-end : (before : List Service) (vs : List Value) (i : ℕ) → length vs ≤ i → services_in before (items_view (drop i vs)) ≡ Ok before
-services_in-end before vs i h = rw (drop_all i vs h)
+pub services_in-end : (format : Format) (before : List Service) (vs : List Value) (i : ℕ) → length vs ≤ i → services_in format before (items_view (drop i vs)) ≡ Ok before
+services_in-end format before vs i h = rw (drop_all i vs h)
 
 -- one more table that is a service
-pub services_in-more : (before : List Service) (vs : List Value) (i : ℕ) (d : Value) (s : Service) (r : Result (List Service) SettingsFault) → i < length vs →
-    services_in before (items_view (drop i vs)) ≡ r → service_from (length before) (as_table (view (get_or vs i d))) ≡ Ok s →
-    services_in (before ++ s ∷ []) (items_view (drop (i + 1) vs)) ≡ r
-services_in-more before vs i d s r l so e = sym (services_in-step before vs i d l ∙ rw e refl) ∙ so
+pub services_in-more : (format : Format) (before : List Service) (vs : List Value) (i : ℕ) (d : Value) (s : Service) (r : Result (List Service) SettingsFault) → i < length vs →
+    services_in format before (items_view (drop i vs)) ≡ r → service_from format (length before) (as_table (view (get_or vs i d))) ≡ Ok s →
+    services_in format (before ++ s ∷ []) (items_view (drop (i + 1) vs)) ≡ r
+services_in-more format before vs i d s r l so e = sym (services_in-step format before vs i d l ∙ rw e refl) ∙ so
 
 -- a table that has a fault
-pub services_in-fault : (before : List Service) (vs : List Value) (i : ℕ) (d : Value) (f : SettingsFault) (r : Result (List Service) SettingsFault) → i < length vs →
-    services_in before (items_view (drop i vs)) ≡ r → service_from (length before) (as_table (view (get_or vs i d))) ≡ Err f → r ≡ Err f
-services_in-fault before vs i d f r l so e = sym so ∙ services_in-step before vs i d l ∙ rw e refl
+pub services_in-fault : (format : Format) (before : List Service) (vs : List Value) (i : ℕ) (d : Value) (f : SettingsFault) (r : Result (List Service) SettingsFault) → i < length vs →
+    services_in format before (items_view (drop i vs)) ≡ r → service_from format (length before) (as_table (view (get_or vs i d))) ≡ Err f → r ≡ Err f
+services_in-fault format before vs i d f r l so e = sym so ∙ services_in-step format before vs i d l ∙ rw e refl
 
 table_first : (d : Data) (ds : Items) → is_some (as_table d) && are_tables ds ≡ are_tables (item d ds)
 table_first (string s) ds = refl
@@ -111,7 +112,19 @@ blank-document : (text : List ℕ) → IsBlank text → parse_document text ≡ 
 unfolding parse_document lines
 blank-document text blank = rw blank refl
 
-pub not-blank : (text : List ℕ) (doc : Members) → parse_document text ≡ Some doc → TakesMemory (settings_in doc) → ¬ IsBlank text
-not-blank text doc e takes = λ blank.
-    let same : no_members ≡ doc = let k = sym (blank-document text blank) ∙ e in cc in
-    (subst (λ (d : Members). TakesMemory (settings_in d)) (sym same) takes) refl
+not-blank : (text : List ℕ) (doc : Members) → parse_document text ≡ Some doc → doc ≢ no_members → ¬ IsBlank text
+not-blank text doc e some = λ blank. some (let k = sym e ∙ blank-document text blank in cc)
+
+parsed-of : (text : List ℕ) (doc : Members) → document text ≡ Some doc → IsUtf8 text × (parse_document text ≡ Some doc)
+unfolding document
+parsed-of text doc e = elim (cases_Bool (is_utf8 text)) [
+  | inl t ↦ (IsUtf8-from_is_utf8 text t, (let f = rw t at e in f))
+  | inr f ↦ absurd (let g = rw f at e in cc)
+]
+
+-- a document whose settings take memory isn't empty
+pub may-take : (read : Members → Result SettingsRecord SettingsFault) (text : List ℕ) (doc : Members) → (TakesMemory (read no_members) → ⊥) →
+    document text ≡ Some doc → TakesMemory (read doc) → MayTakeMemory text
+may-take read text doc empty e takes =
+    let (utf8, parsed) = parsed-of text doc e in
+    (utf8, not-blank text doc parsed (λ same. empty (subst (λ (d : Members). TakesMemory (read d)) same takes)))

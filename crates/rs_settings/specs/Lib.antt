@@ -7,3 +7,4 @@ pub mod Apart
 pub mod Draft
 pub mod Ascending
 pub mod Dealing
+pub mod Formats

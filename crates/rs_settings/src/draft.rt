@@ -12,6 +12,7 @@ ghost use Rattle.rs_settings.specs.Draft.{service_of_draft};
 
 use crate::class::Class;
 use crate::fault::{SettingsCause, SettingsFault};
+use crate::format::Format;
 use crate::value::{
     class, field, has_service_fields, label, names_field, names_if_field, number_field, unit_field,
 };
@@ -98,19 +99,19 @@ fn label_field(table: &Table) -> Option<Name>
 }
 
 // Returns the service that the table's fields describe, if each value is in its range.
-fn values(table: &Table) -> Option<Draft<'_>>
-    ensures value { option_map service_of_draft result ≡ values_in (table_view table.now) }
+fn values(format: Format, table: &Table) -> Option<Draft<'_>>
+    ensures value { option_map service_of_draft result ≡ values_in format (table_view table.now) }
     ensures service { IfSome result (λ draft. IsService (service_of_draft draft)) }
 {
     let label = label_field(table)?;
     let class = class_field(table)?;
     let unit = unit_field(table, "unit", class)?;
     let period = number_field(table, "period", 0, 0, 1000000)?;
-    let limit = number_field(table, "limit", 0, 0, 1000)?;
+    let limit = number_field(table, "limit", format.usual_limit(), 0, 1000)?;
     let publishes = names_field(table, "publishes")?;
     let complains = names_if_field(table, "complains")?;
     let connects = names_if_field(table, "connects")?;
-    let forget = number_field(table, "forget", 0, 0, 1000000000)?;
+    let forget = number_field(table, "forget", format.usual_forget(), 0, 1000000000)?;
     let startup = number_field(table, "startup", 0, 0, 1000000)?;
     Some(Draft {
         label,
@@ -127,52 +128,55 @@ fn values(table: &Table) -> Option<Draft<'_>>
 }
 
 // Returns the service that a table describes, or the table's first fault.
-fn draft_of(table: &Table) -> Result<Draft<'_>, SettingsCause>
-    ensures read { IfOk result (λ draft. service_in (table_view table.now) ≡ Ok (service_of_draft draft)) }
-    ensures refused { IfErr result (λ cause. service_in (table_view table.now) ≡ Err cause) }
+fn draft_of(format: Format, table: &Table) -> Result<Draft<'_>, SettingsCause>
+    ensures read { IfOk result (λ draft. service_in format (table_view table.now) ≡ Ok (service_of_draft draft)) }
+    ensures refused { IfErr result (λ cause. service_in format (table_view table.now) ≡ Err cause) }
     ensures other { IfErr result (λ cause. cause ≢ SettingsCause.NoRoom) }
     ensures service { IfOk result (λ draft. IsService (service_of_draft draft)) }
 {
-    if !has_service_fields(table) {
+    if !has_service_fields(format, table) {
         return Err(SettingsCause::UnknownField);
     }
     if lacks_field(table) {
         return Err(SettingsCause::Missing);
     }
-    match values(table) {
+    match values(format, table) {
         Some(draft) => Ok(draft),
         None => Err(SettingsCause::OutOfRange),
     }
 }
 
 // Returns the service that an item of the array describes, or its first fault, with the item's index.
-fn draft_at(index: usize, item: &Value) -> Result<Draft<'_>, SettingsFault>
-    ensures read { IfOk result (λ draft. service_from index (as_table (view item.now)) ≡ Ok (service_of_draft draft)) }
-    ensures refused { IfErr result (λ fault. service_from index (as_table (view item.now)) ≡ Err fault) }
+fn draft_at(format: Format, index: usize, item: &Value) -> Result<Draft<'_>, SettingsFault>
+    ensures read { IfOk result (λ draft. service_from format index (as_table (view item.now)) ≡ Ok (service_of_draft draft)) }
+    ensures refused { IfErr result (λ fault. service_from format index (as_table (view item.now)) ≡ Err fault) }
     ensures other { IfErr result (λ fault. fault.cause ≢ SettingsCause.NoRoom) }
     ensures service { IfOk result (λ draft. IsService (service_of_draft draft)) }
 {
     let Some(table) = item.as_table() else {
         return Err(SettingsFault::at_top(SettingsCause::OutOfRange));
     };
-    match draft_of(table) {
+    match draft_of(format, table) {
         Ok(draft) => Ok(draft),
         Err(cause) => Err(SettingsFault::at_service(cause, index)),
     }
 }
 
 // Returns the services of the items, or the fault of the first bad one.
-pub(crate) fn drafts(items: &[Value]) -> Result<ArrayVec<Draft<'_>, 64>, SettingsFault>
+pub(crate) fn drafts(
+    format: Format,
+    items: &[Value],
+) -> Result<ArrayVec<Draft<'_>, 64>, SettingsFault>
     requires { length items.now ≤ 64 }
-    ensures read { IfOk result (λ drafts. services_in [] (items_view items.now) ≡ Ok (map service_of_draft drafts.items)) }
-    ensures refused { IfErr result (λ fault. services_in [] (items_view items.now) ≡ Err fault) }
+    ensures read { IfOk result (λ drafts. services_in format [] (items_view items.now) ≡ Ok (map service_of_draft drafts.items)) }
+    ensures refused { IfErr result (λ fault. services_in format [] (items_view items.now) ≡ Err fault) }
     ensures other { IfErr result (λ fault. fault.cause ≢ SettingsCause.NoRoom) }
     ensures each { IfOk result (λ drafts. All IsService (map service_of_draft drafts.items)) }
     ensures count { IfOk result (λ drafts. length drafts.items ≤ 64) }
 {
     let mut drafts: ArrayVec<Draft<'_>, 64> = ArrayVec::new();
     for item in items {
-        match draft_at(drafts.len(), item) {
+        match draft_at(format, drafts.len(), item) {
             Ok(draft) => drafts.push(draft),
             Err(fault) => return Err(fault),
         }

@@ -8,6 +8,7 @@
 mod class;
 mod draft;
 mod fault;
+mod format;
 mod law;
 mod names;
 mod seen;
@@ -19,8 +20,8 @@ mod value;
 
 pub use class::Class;
 pub use fault::{SettingsCause, SettingsFault};
-pub use law::services_are_apart;
+pub use law::{formats_agree, services_are_apart};
 pub use names::Names;
 pub use service::Service;
 pub use services::Services;
-pub use settings::{Settings, read, read_table};
+pub use settings::{Settings, read, read_any, read_any_table, read_table};

@@ -1,7 +1,7 @@
 //! Settings, and the functions that read them.
 
 ghost use Rattle.std.specs.Prelude.{◌≡◌, ◌≢◌, ◌≤◌, ◌&&◌, All, IsTrue, IsOk, IfOk, IfErr, OnErr};
-ghost use Rattle.std.specs.Prelude.{IfSome, Ok, Err, [], nat_le, length, map, option_map};
+ghost use Rattle.std.specs.Prelude.{IfSome, Some, Ok, Err, [], nat_le, length, map, option_map};
 ghost use Rattle.std.specs.Option.{option_and_then};
 ghost use Rattle.toml.specs.Data.{get_member, as_array};
 ghost use Rattle.toml.specs.View.{view, table_view, array_view, items_view};
@@ -9,17 +9,21 @@ ghost use Rattle.toml.specs.Text.{are_tables};
 ghost use Rattle.ds_names.specs.Name.{IsName};
 ghost use Rattle.rs_settings.specs.Values.{item_count};
 ghost use Rattle.rs_settings.specs.Fault.{no_room};
-ghost use Rattle.rs_settings.specs.Settings.{settings_in, settings_of, settings_from, tables_of, IsService, IsSettings};
+ghost use Rattle.rs_settings.specs.Settings.{document, settings_by, settings_in, settings_in_any, settings_of, settings_of_any};
+ghost use Rattle.rs_settings.specs.Settings.{settings_from, tables_of, IsNoDocument, IsService, IsSettings};
 ghost use Rattle.rs_settings.specs.Settings.{TakesMemory, TablesTakeMemory, MayTakeMemory};
 ghost use Rattle.rs_settings.specs.Draft.{service_of_draft, text_in_value};
 
 use crate::draft::{Draft, drafts};
 use crate::fault::{SettingsCause, SettingsFault};
+use crate::format::Format;
 use crate::names::Names;
 use crate::service::Service;
 use crate::services::Services;
 use crate::shared::shared_fault;
-use crate::value::{field, has_top_fields, number_field, text_of};
+use crate::value::{
+    field, format_field, has_any_top_fields, has_top_fields, number_field, text_of,
+};
 use ds_names::{Name, NoRoom};
 use std::alloc::Global;
 use std::marker::Model;
@@ -177,18 +181,23 @@ fn services(alloc: Global, drafts: &[Draft<'_>]) -> Result<Services, NoRoom>
 }
 
 // Reads settings with these slots and the services in the tables. Judges every fault before it takes memory.
-fn of_tables(alloc: Global, slots: u32, tables: &[Value]) -> Result<Settings, SettingsFault>
+fn of_tables(
+    alloc: Global,
+    format: Format,
+    slots: u32,
+    tables: &[Value],
+) -> Result<Settings, SettingsFault>
     requires some { 1 ≤ slots }
     requires slots { slots ≤ 1008 }
     requires count { length tables.now ≤ 64 }
-    ensures read { IfOk result (λ settings. settings_from slots (items_view tables.now) ≡ Ok settings) }
-    ensures refused { IfErr result (λ fault. fault.cause ≢ SettingsCause.NoRoom → settings_from slots (items_view tables.now) ≡ Err fault) }
-    ensures last { IfErr result (λ fault. fault.cause ≡ SettingsCause.NoRoom → IsOk (settings_from slots (items_view tables.now))) }
-    ensures memory { IfErr result (λ fault. fault.cause ≡ SettingsCause.NoRoom → TablesTakeMemory slots (items_view tables.now)) }
+    ensures read { IfOk result (λ settings. settings_from format slots (items_view tables.now) ≡ Ok settings) }
+    ensures refused { IfErr result (λ fault. fault.cause ≢ SettingsCause.NoRoom → settings_from format slots (items_view tables.now) ≡ Err fault) }
+    ensures last { IfErr result (λ fault. fault.cause ≡ SettingsCause.NoRoom → IsOk (settings_from format slots (items_view tables.now))) }
+    ensures memory { IfErr result (λ fault. fault.cause ≡ SettingsCause.NoRoom → TablesTakeMemory format slots (items_view tables.now)) }
     ensures room { IfErr result (λ fault. fault.cause ≡ SettingsCause.NoRoom → fault ≡ no_room) }
     ensures settings { IfOk result IsSettings }
 {
-    let drafts = drafts(tables)?;
+    let drafts = drafts(format, tables)?;
     if let Some(fault) = shared_fault(drafts.as_slice()) {
         return Err(fault);
     }
@@ -198,8 +207,29 @@ fn of_tables(alloc: Global, slots: u32, tables: &[Value]) -> Result<Settings, Se
     }
 }
 
-/// Reads the settings of a TOML document, or returns its first fault. Returns NoRoom, without an index, only if the
-/// document has no other fault and at least one service.
+// Reads the settings of a document of this format whose fields are known, or returns its first fault.
+fn of_format(alloc: Global, format: Format, table: &Table) -> Result<Settings, SettingsFault>
+    ensures read { IfOk result (λ settings. settings_by format (table_view table.now) ≡ Ok settings) }
+    ensures refused { IfErr result (λ fault. fault.cause ≢ SettingsCause.NoRoom → settings_by format (table_view table.now) ≡ Err fault) }
+    ensures last { IfErr result (λ fault. fault.cause ≡ SettingsCause.NoRoom → IsOk (settings_by format (table_view table.now))) }
+    ensures memory { IfErr result (λ fault. fault.cause ≡ SettingsCause.NoRoom → TakesMemory (settings_by format (table_view table.now))) }
+    ensures room { IfErr result (λ fault. fault.cause ≡ SettingsCause.NoRoom → fault ≡ no_room) }
+    ensures settings { IfOk result IsSettings }
+{
+    let Some(slots) = number_field(table, "slots", 64, 1, 1008) else {
+        return Err(SettingsFault::at_top(SettingsCause::OutOfRange));
+    };
+    let Some(value) = field(table, "service") else {
+        return of_tables(alloc, format, slots, &[]);
+    };
+    let Some(items) = tables(value) else {
+        return Err(SettingsFault::at_top(SettingsCause::OutOfRange));
+    };
+    of_tables(alloc, format, slots, items)
+}
+
+/// Reads the settings of a TOML document of format 1, or returns its first fault. Returns NoRoom, without an index, only
+/// if the document has no other fault and at least one service.
 pub fn read_table(alloc: Global, table: &Table) -> Result<Settings, SettingsFault>
     ensures read { IfOk result (λ settings. settings_in (table_view table.now) ≡ Ok settings) }
     ensures refused { IfErr result (λ fault. fault.cause ≢ SettingsCause.NoRoom → settings_in (table_view table.now) ≡ Err fault) }
@@ -211,28 +241,37 @@ pub fn read_table(alloc: Global, table: &Table) -> Result<Settings, SettingsFaul
     if !has_top_fields(table) {
         return Err(SettingsFault::at_top(SettingsCause::UnknownField));
     }
-    let Some(slots) = number_field(table, "slots", 64, 1, 1008) else {
-        return Err(SettingsFault::at_top(SettingsCause::OutOfRange));
-    };
-    let Some(value) = field(table, "service") else {
-        return of_tables(alloc, slots, &[]);
-    };
-    let Some(items) = tables(value) else {
-        return Err(SettingsFault::at_top(SettingsCause::OutOfRange));
-    };
-    of_tables(alloc, slots, items)
+    of_format(alloc, Format::First, table)
 }
 
-// Reads the settings of a UTF-8 text, or returns its first fault.
-fn read_text(alloc: Global, text: &str) -> Result<Settings, SettingsFault>
-    ensures read { IfOk result (λ settings. settings_of text.now ≡ Ok settings) }
-    ensures refused { IfErr result (λ fault. fault.cause ≢ SettingsCause.NoRoom → settings_of text.now ≡ Err fault) }
-    ensures memory { IfErr result (λ fault. fault.cause ≡ SettingsCause.NoRoom → MayTakeMemory text.now) }
+/// Reads the settings of a TOML document of format 1 or 2, or returns its first fault. A document of format 2 has
+/// `format = 2` at its top; without that field it is of format 1. NoRoom is as in `read_table`.
+pub fn read_any_table(alloc: Global, table: &Table) -> Result<Settings, SettingsFault>
+    ensures read { IfOk result (λ settings. settings_in_any (table_view table.now) ≡ Ok settings) }
+    ensures refused { IfErr result (λ fault. fault.cause ≢ SettingsCause.NoRoom → settings_in_any (table_view table.now) ≡ Err fault) }
+    ensures last { IfErr result (λ fault. fault.cause ≡ SettingsCause.NoRoom → IsOk (settings_in_any (table_view table.now))) }
+    ensures memory { IfErr result (λ fault. fault.cause ≡ SettingsCause.NoRoom → TakesMemory (settings_in_any (table_view table.now))) }
     ensures room { IfErr result (λ fault. fault.cause ≡ SettingsCause.NoRoom → fault ≡ no_room) }
     ensures settings { IfOk result IsSettings }
 {
+    if !has_any_top_fields(table) {
+        return Err(SettingsFault::at_top(SettingsCause::UnknownField));
+    }
+    let Some(format) = format_field(table, "format") else {
+        return Err(SettingsFault::at_top(SettingsCause::OutOfRange));
+    };
+    of_format(alloc, format, table)
+}
+
+// Parses a UTF-8 text, or returns why it is no document.
+fn parsed(alloc: Global, text: &str) -> Result<Table, SettingsFault>
+    ensures document { IfOk result (λ table. document text.now ≡ Some (table_view table)) }
+    ensures refused { IfErr result (λ fault. fault.cause ≢ SettingsCause.NoRoom → IsNoDocument text.now fault) }
+    ensures memory { IfErr result (λ fault. fault.cause ≡ SettingsCause.NoRoom → MayTakeMemory text.now) }
+    ensures room { IfErr result (λ fault. fault.cause ≡ SettingsCause.NoRoom → fault ≡ no_room) }
+{
     match toml::table_from_str(alloc, text) {
-        Ok(table) => read_table(alloc, &table),
+        Ok(table) => Ok(table),
         Err(fault) => {
             if fault.is_memory() {
                 return Err(SettingsFault::at_top(SettingsCause::NoRoom));
@@ -242,7 +281,20 @@ fn read_text(alloc: Global, text: &str) -> Result<Settings, SettingsFault>
     }
 }
 
-/// Reads the settings of a text, or returns its first fault.
+// Returns the document of a text, or why it is none.
+fn document(alloc: Global, text: &[u8]) -> Result<Table, SettingsFault>
+    ensures document { IfOk result (λ table. document text.now ≡ Some (table_view table)) }
+    ensures refused { IfErr result (λ fault. fault.cause ≢ SettingsCause.NoRoom → IsNoDocument text.now fault) }
+    ensures memory { IfErr result (λ fault. fault.cause ≡ SettingsCause.NoRoom → MayTakeMemory text.now) }
+    ensures room { IfErr result (λ fault. fault.cause ≡ SettingsCause.NoRoom → fault ≡ no_room) }
+{
+    match std::str::from_utf8(text) {
+        Ok(text) => parsed(alloc, text),
+        Err(_) => Err(SettingsFault::at_top(SettingsCause::BadToml)),
+    }
+}
+
+/// Reads the settings of a text of format 1, or returns its first fault. `format` isn't a field of it.
 ///
 /// The text must be one TOML document in UTF-8. Memory may run out while the TOML is read, before any fault is judged,
 /// or for the settings, after every other fault. NoRoom has no index. Bytes that aren't UTF-8 never run out of memory,
@@ -254,8 +306,23 @@ pub fn read(alloc: Global, text: &[u8]) -> Result<Settings, SettingsFault>
     ensures room { IfErr result (λ fault. fault.cause ≡ SettingsCause.NoRoom → fault ≡ no_room) }
     ensures settings { IfOk result IsSettings }
 {
-    match std::str::from_utf8(text) {
-        Ok(text) => read_text(alloc, text),
-        Err(_) => Err(SettingsFault::at_top(SettingsCause::BadToml)),
+    match document(alloc, text) {
+        Ok(table) => read_table(alloc, &table),
+        Err(fault) => Err(fault),
+    }
+}
+
+/// Reads the settings of a text of format 1 or 2, or returns its first fault. A text of format 2 has `format = 2` at its
+/// top; without that field it is read as by `read`. NoRoom is as in `read`.
+pub fn read_any(alloc: Global, text: &[u8]) -> Result<Settings, SettingsFault>
+    ensures read { IfOk result (λ settings. settings_of_any text.now ≡ Ok settings) }
+    ensures refused { IfErr result (λ fault. fault.cause ≢ SettingsCause.NoRoom → settings_of_any text.now ≡ Err fault) }
+    ensures memory { IfErr result (λ fault. fault.cause ≡ SettingsCause.NoRoom → MayTakeMemory text.now) }
+    ensures room { IfErr result (λ fault. fault.cause ≡ SettingsCause.NoRoom → fault ≡ no_room) }
+    ensures settings { IfOk result IsSettings }
+{
+    match document(alloc, text) {
+        Ok(table) => read_any_table(alloc, &table),
+        Err(fault) => Err(fault),
     }
 }

@@ -6,11 +6,12 @@ ghost use Rattle.toml.specs.View.{view, table_view, items_view, array_view};
 ghost use Rattle.ds_names.specs.Name.{IsName, rs_name};
 ghost use Rattle.rs_settings.specs.Values.{keys_pass, within, number_in, number_or, name_read, name_in, label_in_data};
 ghost use Rattle.rs_settings.specs.Values.{each_of, names_of, names_or, names_if, class_named, class_in, unit_in, is_server};
-ghost use Rattle.rs_settings.specs.Service.{is_service_field};
-ghost use Rattle.rs_settings.specs.Settings.{is_top_field, HasUnit, ArePublished};
+ghost use Rattle.rs_settings.specs.Service.{is_first_field, is_second_field, is_service_field};
+ghost use Rattle.rs_settings.specs.Settings.{is_any_top_field, is_top_field, format_in, HasUnit, ArePublished};
 ghost use Rattle.rs_settings.specs.Draft.{text_in_value};
 
 use crate::class::Class;
+use crate::format::Format;
 use ds_names::Name;
 use toml::value::Array;
 use toml::{Table, Value};
@@ -22,22 +23,28 @@ pub(crate) fn field<'a>(table: &'a Table, name: &str) -> Option<&'a Value>
     table.get(name)
 }
 
-fn is_service_field(key: &str) -> bool
-    ensures { result ≡ is_service_field key.now }
+fn is_first_field(key: &str) -> bool
+    ensures { result ≡ is_first_field key.now }
 {
     matches!(
         key,
-        "label"
-            | "class"
-            | "unit"
-            | "period"
-            | "limit"
-            | "publishes"
-            | "complains"
-            | "connects"
-            | "forget"
-            | "startup"
+        "label" | "class" | "unit" | "period" | "limit" | "publishes"
     )
+}
+
+fn is_second_field(key: &str) -> bool
+    ensures { result ≡ is_second_field key.now }
+{
+    matches!(key, "complains" | "connects" | "forget" | "startup")
+}
+
+fn is_service_field(format: Format, key: &str) -> bool
+    ensures { result ≡ is_service_field format key.now }
+{
+    match format {
+        Format::First => is_first_field(key),
+        Format::Second => is_first_field(key) || is_second_field(key),
+    }
 }
 
 fn is_top_field(key: &str) -> bool
@@ -46,18 +53,33 @@ fn is_top_field(key: &str) -> bool
     key == "slots" || key == "service"
 }
 
-// Returns whether a service may have every field of the table.
-pub(crate) fn has_service_fields(table: &Table) -> bool
-    ensures { result ≡ keys_pass is_service_field (table_view table.now) }
+fn is_any_top_field(key: &str) -> bool
+    ensures { result ≡ is_any_top_field key.now }
 {
-    table.keys().all(|key| is_service_field(key.as_str()))
+    key == "format" || is_top_field(key)
 }
 
-// Returns whether each of the fields may be at the top of the document.
+// Returns whether a service of the format may have every field of the table.
+pub(crate) fn has_service_fields(format: Format, table: &Table) -> bool
+    ensures { result ≡ keys_pass (is_service_field format) (table_view table.now) }
+{
+    table
+        .keys()
+        .all(|key| is_service_field(format, key.as_str()))
+}
+
+// Returns whether each of the fields may be at the top of a document of format 1.
 pub(crate) fn has_top_fields(table: &Table) -> bool
     ensures { result ≡ keys_pass is_top_field (table_view table.now) }
 {
     table.keys().all(|key| is_top_field(key.as_str()))
+}
+
+// Returns whether each of the fields may be at the top of a document that may name its format.
+pub(crate) fn has_any_top_fields(table: &Table) -> bool
+    ensures { result ≡ keys_pass is_any_top_field (table_view table.now) }
+{
+    table.keys().all(|key| is_any_top_field(key.as_str()))
 }
 
 fn number_within(number: i64, low: u32, high: u32) -> Option<u32>
@@ -98,6 +120,19 @@ pub(crate) fn number_field(
     match field(table, name) {
         Some(value) => number(value, low, high),
         None => Some(missing),
+    }
+}
+
+// Returns the format that a field names, if it names one. Without the field it is the first.
+pub(crate) fn format_field(table: &Table, name: &str) -> Option<Format>
+    ensures { result ≡ format_in (get_member name.now (table_view table.now)) }
+{
+    match field(table, name) {
+        Some(value) => match number(value, 2, 2) {
+            Some(_) => Some(Format::Second),
+            None => None,
+        },
+        None => Some(Format::First),
     }
 }
 

@@ -7,7 +7,7 @@ use crate::words::{tell, tell_index, tell_number, tell_numbers};
 use ds_line::append_all;
 use ds_names::{Name, NoRoom};
 use rs_core::{Actions, Event, Numberer, Rs};
-use rs_settings::read;
+use rs_settings::read_any;
 use script_answers::{append_action, append_action_count, append_rs_fault, append_settings};
 use std::alloc::Global;
 use test_kit::Failure;
@@ -114,7 +114,7 @@ impl Session {
 
     // Begins RS anew. If that is refused, the RS from before continues.
     fn begin(&mut self, text: &mut Vec<u8>, next: u32) -> Result<(), NoRoom> {
-        let settings = match read(self.alloc, self.settings.as_bytes()) {
+        let settings = match read_any(self.alloc, self.settings.as_bytes()) {
             Ok(settings) => settings,
             Err(fault) => return tell_settings_fault(text, &fault),
         };

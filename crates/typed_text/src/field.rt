@@ -5,10 +5,13 @@ use ds_names::Name;
 use toml::{Table, Value};
 
 /// The fields at the top.
-pub(crate) const AT_TOP: [&str; 2] = ["slots", "service"];
+const AT_TOP: [&str; 3] = ["format", "slots", "service"];
+
+/// How many of a service's fields format 1 has: the first ones.
+const OF_FORMAT_1: usize = 6;
 
 /// The fields of a service, in the order in which they are judged.
-pub(crate) const OF_SERVICE: [&str; 10] = [
+const OF_SERVICE: [&str; 10] = [
     "label",
     "class",
     "unit",
@@ -27,17 +30,25 @@ pub(crate) const CLASSES: [&str; 4] = ["block", "character", "network", "server"
 /// The most services, and the most names in a field of one.
 pub(crate) const MOST: usize = 64;
 
-/// Returns the fields that exist: a service's if a service is named, else those at the top.
-pub(crate) fn fields_known(service: Option<usize>) -> &'static [&'static str] {
+/// Returns the fields that exist in a document: a service's if a service is named, else those at the top. The fields of
+/// format 2 exist if the document names a format.
+pub(crate) fn fields_known(table: &Table, service: Option<usize>) -> &'static [&'static str] {
     match service {
-        Some(_) => &OF_SERVICE,
+        Some(_) if table.get("format").is_some() => &OF_SERVICE,
+        Some(_) => &OF_SERVICE[..OF_FORMAT_1],
         None => &AT_TOP,
     }
+}
+
+/// Whether only format 2 has a field of this name.
+pub(crate) fn is_of_format_2(field: &str) -> bool {
+    OF_SERVICE[OF_FORMAT_1..].iter().any(|it| *it == field)
 }
 
 /// Returns what a field may have.
 pub(crate) fn wanted_in(field: &str) -> &'static str {
     match field {
+        "format" => "the number 2",
         "slots" => "a number from 1 to 1008",
         "service" => "an array of at most 64 tables",
         "label" => "1 to 64 letters, digits, `.`, `_` and `-`, and not `rs`,",
@@ -65,6 +76,7 @@ pub(crate) fn is_valid(fields: &Table, field: &str) -> bool {
         return true;
     };
     match field {
+        "format" => is_number(value, 2, 2),
         "slots" => is_number(value, 1, 1008),
         "service" => is_short_array(value),
         "label" => is_label(value),

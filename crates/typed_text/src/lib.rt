@@ -18,7 +18,7 @@ mod settings_lines;
 mod shared;
 mod shown;
 
-pub use as_line::script_line;
+pub use as_line::{ScriptLine, script_line};
 pub use kind::TextKind;
 pub use known::{IfNear, Search, nearest};
 pub use meant::{COMMANDS, Meant};

@@ -2,7 +2,7 @@
 //! what was expected.
 
 use crate::faults::Faults;
-use crate::field::{OF_SERVICE, fields_known, is_needed, is_valid, wanted_in};
+use crate::field::{fields_known, is_needed, is_of_format_2, is_valid, wanted_in};
 use crate::given::{Given, service_at, service_count, text_in};
 use crate::kind::{TextKind, is_note};
 use crate::known::{IfNear, nearest};
@@ -76,7 +76,7 @@ fn begins_at(text: &[u8], line: usize) -> bool {
 // Adds each fault of a document.
 fn add_document(faults: &mut Faults, document: Document<'_>) -> Result<(), NoRoom> {
     add_unknown(faults, document, None, document.table)?;
-    for field in fields_known(None) {
+    for field in fields_known(document.table, None) {
         add_value(faults, document, None, document.table, field)?;
     }
     for index in 0..service_count(document.table) {
@@ -93,7 +93,7 @@ fn add_service(faults: &mut Faults, document: Document<'_>, index: usize) -> Res
     };
     add_unknown(faults, document, Some(index), fields)?;
     add_missing(faults, document, index, fields)?;
-    for field in OF_SERVICE {
+    for field in fields_known(document.table, Some(index)) {
         add_value(faults, document, Some(index), fields, field)?;
     }
     Ok(())
@@ -106,7 +106,7 @@ fn add_missing(
     index: usize,
     fields: &Table,
 ) -> Result<(), NoRoom> {
-    for field in OF_SERVICE {
+    for field in fields_known(document.table, Some(index)) {
         if is_needed(fields, field) && fields.get(field).is_none() {
             let wanted = wanted_in(field);
             let said = format_args!("`{field}` is missing; {wanted} was expected");
@@ -123,16 +123,23 @@ fn add_unknown(
     service: Option<usize>,
     fields: &Table,
 ) -> Result<(), NoRoom> {
-    let known = fields_known(service);
+    let known = fields_known(document.table, service);
     for key in fields.keys() {
         let key = key.as_str();
         if known.iter().any(|it| *it == key) {
             continue;
         }
+        let place = document.place(service, key);
+        if service.is_some() && is_of_format_2(key) {
+            faults.add(
+                place,
+                format_args!("`{key}` is a field of format 2: begin with `format = 2`"),
+            )?;
+            continue;
+        }
         let shown = Plain(key.as_bytes());
         let near = IfNear(nearest(key.as_bytes(), known));
-        let said = format_args!("`{shown}` isn't a field{near}");
-        faults.add(document.place(service, key), said)?;
+        faults.add(place, format_args!("`{shown}` isn't a field{near}"))?;
     }
     Ok(())
 }

@@ -1,9 +1,13 @@
-use Rattle.std.proofs.Common.{Err, sym, ap}
-use Rattle.rs_settings.specs.declared.fault.SettingsFault.{SettingsFault}
-use Rattle.rs_settings.proofs.TableLemmas.{document-refused}
+use Rattle.std.proofs.Common.{◌≡◌, Ok, Err, IfErr, refl}
+use Rattle.toml.specs.View.{table_view}
+use Rattle.rs_settings.specs.Settings.{settings_in, TakesMemory, MayTakeMemory}
+use Rattle.rs_settings.specs.declared.fault.SettingsCause.TheVariants.{NoRoom}
+use Rattle.rs_settings.proofs.TableLemmas.{may-take}
 use Rattle.rs_settings.proofs.settings.read.Goals as goal
 
-pub returns-in-Err-clause-refused : goal.returns-in-Err-clause-refused
-returns-in-Err-clause-refused c = λ _.
-    let e = document-refused c.args.text.now (λ utf8. absurd (c.in-Err.ensures.cases.0 utf8)) in
-    rw e (ap (λ (f : SettingsFault). Err f) (sym c.at_top.ensures))
+pub returns-in-Ok-clause-memory : goal.returns-in-Ok-clause-memory
+returns-in-Ok-clause-memory c =
+    elim c.read_table.result as (λ r. IfErr r (λ f. f.cause ≡ NoRoom → TakesMemory (settings_in (table_view c.in-Ok.table))) → IfErr r (λ f. f.cause ≡ NoRoom → MayTakeMemory c.args.text.now)) [
+      | Ok s ↦ λ h. tt
+      | Err f ↦ λ h e. may-take settings_in c.args.text.now (table_view c.in-Ok.table) (λ takes. takes refl) c.in-Ok.ensures.document (h e)
+    ] c.read_table.ensures.memory
