@@ -9,6 +9,7 @@
 #include <string.h>
 
 static const char settings[] =
+    "format = 2\n"
     "[[service]]\n"
     "label = \"disk\"\n"
     "class = \"block\"\n"

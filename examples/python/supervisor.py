@@ -6,6 +6,7 @@ It needs the package `pengtawis`: PYTHONPATH=python in the repository, or docs/g
 from pengtawis import Cause, Endpoint, GiveUp, Kill, NotFound, Ping, Rs, Start
 
 SETTINGS = """
+format = 2
 [[service]]
 label = "disk"
 class = "block"

@@ -7,6 +7,7 @@
 use pengtawis::{Acted, Action, Cause, Endpoint, Error, Rs};
 
 const SETTINGS: &str = r#"
+format = 2
 [[service]]
 label = "disk"
 class = "block"

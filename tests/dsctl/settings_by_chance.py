@@ -15,8 +15,11 @@ OF_TOML_1_1 = re.compile(rb"\{[^{}]*\n[^{}]*\}|\\[ex]")
 def text_of(seed):
     """Returns the settings text of a seed."""
     chance = random.Random(seed)
-    settings = {"slots": chance.choice([1, 8, 64, 1008, 1009])} if chance.random() < 0.5 else {}
-    services = [service_by_chance(chance, unit) for unit in range(chance.randrange(6))]
+    settings = {"format": 2 if chance.random() < 0.97 else chance.choice(ODD)} if chance.random() < 0.7 else {}
+    if chance.random() < 0.5:
+        settings["slots"] = chance.choice([1, 8, 64, 1008, 1009])
+    of_second = 0.02 if "format" not in settings else 1
+    services = [service_by_chance(chance, unit, of_second) for unit in range(chance.randrange(6))]
     for service in services:
         if chance.random() < 0.15:
             service[chance.choice([*restarts.FIELDS, "units"])] = chance.choice(ODD)
@@ -24,24 +27,25 @@ def text_of(seed):
             service.pop(chance.choice(list(service)), None)
     settings["service"] = services
     if chance.random() < 0.03:
-        settings[chance.choice(["slots", "service", "services"])] = chance.choice(ODD)
+        settings[chance.choice(["slots", "service", "services", "format"])] = chance.choice(ODD)
     text = restarts.written(settings).encode()
     return text if chance.random() < 0.7 else spoilt(chance, text)
 
 
-def service_by_chance(chance, unit):
-    """Returns a service, nearly always a sound one."""
+def service_by_chance(chance, unit, of_second):
+    """Returns a service, nearly always a sound one. Each field of format 2 is as likely as it says."""
     kind = chance.choice(restarts.CLASSES)
     service = {"label": chance.choice(LABELS), "class": kind}
     if kind != "server":
         service["unit"] = unit if chance.random() < 0.9 else 0
-    for field, values in (("period", (0, 1, 1000000)), ("limit", (0, 3, 1000)), ("forget", (0, 60, 1000000000)), ("startup", (0, 5, 1000000))):
-        if chance.random() < 0.6:
+    numbers = (("period", (0, 1, 1000000), 1), ("limit", (0, 3, 1000), 1), ("forget", (0, 60, 1000000000), of_second), ("startup", (0, 5, 1000000), of_second))
+    for field, values, likely in numbers:
+        if chance.random() < 0.6 * likely:
             service[field] = chance.choice(values)
     if chance.random() < 0.4:
         service["publishes"] = [f"{name}.{unit // 2}" for name in chance.sample(["mtu", "mac", "id"], 2)]
     for field in ("complains", "connects"):
-        if chance.random() < 0.3:
+        if chance.random() < 0.3 * of_second:
             service[field] = chance.choices(LABELS, k=chance.randrange(3))
     return service
 
@@ -56,7 +60,7 @@ def spoilt(chance, text):
 def wanted(text):
     """Returns what the program must print for a settings text, and its status."""
     try:
-        slots, services = restarts.judged(session.document(text))
+        slots, services = restarts.judged(session.document(text), True)
     except restarts.Bad as bad:
         return f"bad {bad}\n".encode(), 1
     return b"".join(line_of(it) for it in services) + b"services %d slots %d\n" % (len(services), slots), 0

@@ -3,8 +3,10 @@
 MOST_GENERATION = 2097151
 LAST_TICK = 2**62
 CLASSES = ("block", "character", "network", "server")
-FIELDS = ("label", "class", "unit", "period", "limit", "publishes", "complains", "connects", "forget", "startup")
-OPTIONAL = {"unit": None, "period": 0, "limit": 0, "publishes": [], "complains": None, "connects": None, "forget": 0, "startup": 0}
+FIRST_FIELDS = ("label", "class", "unit", "period", "limit", "publishes")  # of format 1
+FIELDS = FIRST_FIELDS + ("complains", "connects", "forget", "startup")  # of format 2
+FIRST_DEFAULTS = {"unit": None, "period": 0, "limit": 0, "publishes": [], "complains": None, "connects": None, "forget": 0, "startup": 0}
+DEFAULTS = {**FIRST_DEFAULTS, "limit": 5, "forget": 6000}
 REFUSALS = ("tickback", "worn", "unknownlabel", "badcause", "alreadyup", "notup", "oldendpoint", "generationsspent", "noslot")
 
 
@@ -41,24 +43,28 @@ def are_names(it):
     return isinstance(it, list) and len(it) <= 64 and all(is_name(name) for name in it)
 
 
-def judged(settings):
-    """Returns the slots and the services, with each field, of what a TOML document has at the top. Raises Bad with the first fault."""
+def judged(settings, may_be_second):
+    """Returns the slots and the services, with each field, of what a TOML document has at the top. Raises Bad with the first fault. Unless the
+    document may be of format 2, `format` isn't a field."""
     services = settings.get("service", [])
     slots = settings.get("slots", 64)
-    if set(settings) - {"slots", "service"}:
+    if set(settings) - {"slots", "service"} - ({"format"} if may_be_second else set()):
         raise Bad("unknownfield")
+    is_second = "format" in settings
+    if is_second and not is_number(settings["format"], 2, 2):
+        raise Bad("outofrange")
     if not (is_number(slots, 1, 1008) and isinstance(services, list) and len(services) <= 64 and all(isinstance(it, dict) for it in services)):
         raise Bad("outofrange")
     for index, service in enumerate(services):
-        judge_service(index, service)
+        judge_service(index, service, FIELDS if is_second else FIRST_FIELDS)
     repeated(services, "twolabels", lambda service: [service["label"]])
     repeated(services, "twounits", lambda it: [(it["class"] == "network", it["unit"])] if "unit" in it else [])
     repeated(services, "sharedname", lambda service: service.get("publishes", []))
-    return slots, [{**OPTIONAL, **service} for service in services]
+    return slots, [{**(DEFAULTS if is_second else FIRST_DEFAULTS), **service} for service in services]
 
 
-def judge_service(index, service):
-    if set(service) - set(FIELDS):
+def judge_service(index, service, fields):
+    if set(service) - set(fields):
         raise Bad("unknownfield", index)
     needed = ("label", "class") + (() if service.get("class") == "server" else ("unit",))
     if set(needed) - set(service):
@@ -112,8 +118,8 @@ class Rs:
     """The state of RS. The state of a service is ("down",), ("gaveup",), ("waiting", until, failures) or
     ("up", endpoint, beat, ping, failures, since)."""
 
-    def __init__(self, settings, next, first=16):
-        self.slots, services = judged(settings)
+    def __init__(self, settings, next, first=16, may_be_second=False):
+        self.slots, services = judged(settings, may_be_second)
         if not (1 <= next <= MOST_GENERATION + 1 and 16 <= first <= 1024 - self.slots):
             raise Refused("outofrange")
         self.services = {service["label"]: service for service in services}
@@ -326,7 +332,7 @@ class Session:
 
     def _answers(self, verb, args):
         if verb == "settings":
-            self.rs = Rs(args[1], args[0])
+            self.rs = Rs(args[1], args[0], may_be_second=True)
             return [f"services {len(self.rs.services)} slots {self.rs.slots}"]
         if verb == "numbers":
             self.numbers = list(args)

@@ -20,6 +20,7 @@ class Script(demos.Script):
         super().__init__(seed, Session)
         self.now = 0
         self.old = [(1, 16)]  # endpoints that were started
+        self.format = {"format": 2} if seed % 3 else {}
 
     def ask(self, *command):
         answers = super().ask(*command)
@@ -37,7 +38,7 @@ class Script(demos.Script):
         count = self.random.randint(1, most)
         slots = self.random.choice([None, 1008, count, max(1, count - 1), 1])
         services = [self.service(n) for n in range(count)]
-        settings = {**({} if slots is None else {"slots": slots}), "service": services}
+        settings = {**self.format, **({} if slots is None else {"slots": slots}), "service": services}
         self.ask("settings", self.random.choice([1, 1, 1, 7, 2097152 - self.random.randint(0, 12)]), settings)
         self.now = 0
 
@@ -54,11 +55,11 @@ class Script(demos.Script):
         if drawn.random() < 0.5:
             service["publishes"] = [f"name{n}.{k}" for k in range(drawn.randint(0, 3))]
         for field in ("complains", "connects"):
-            if drawn.random() < 0.4:
+            if self.format and drawn.random() < 0.4:
                 service[field] = [f"service{drawn.randint(0, 7)}" for _ in range(drawn.randint(0, 4))]
-        if drawn.random() < 0.4:
+        if self.format and drawn.random() < 0.4:
             service["forget"] = drawn.choice([0, 1, 2, 10, 40, 1000000000])
-        if drawn.random() < 0.4:
+        if self.format and drawn.random() < 0.4:
             service["startup"] = drawn.choice([0, 1, 5, 30, 1000000])
         return service
 
@@ -169,7 +170,7 @@ def faults():
         script = Script(5000 + seed)
         for _ in range(5):
             services = [script.service(n) for n in range(script.random.randint(1, 5))]
-            settings = {"service": services}
+            settings = {**script.format, "service": services}
             for _ in range(script.random.randint(1, 3)):
                 spoil(script.random, settings)
             script.ask("settings", 1, settings)
@@ -184,7 +185,7 @@ def spoil(drawn, settings):
     other = drawn.choice(services)
     way = drawn.randrange(9)
     if way == 0:
-        settings[drawn.choice(["slots", "slots", "slot", "colour"])] = drawn.choice([0, 1, 1008, 1009, -1, "64", True, []])
+        settings[drawn.choice(["slots", "slots", "slot", "colour", "format"])] = drawn.choice([0, 1, 2, 3, 1008, 1009, -1, "2", True, []])
     elif way == 1:
         one[drawn.choice(["colour", "Label", "units"])] = 1
     elif way == 2:

@@ -222,7 +222,7 @@ static void lines(void) {
 /* Prints which service may complain of which, and connect to which: by class, and by lists. vfs has no lists; mfs and disk have. */
 static void dealings(void) {
     static const char some[] =
-        "service = [{label = \"vfs\", class = \"server\"}, {label = \"disk\", class = \"block\", unit = 3, complains = [\"vfs\"], connects = []},"
+        "format = 2\nservice = [{label = \"vfs\", class = \"server\"}, {label = \"disk\", class = \"block\", unit = 3, complains = [\"vfs\"], connects = []},"
         " {label = \"mfs\", class = \"server\", complains = [], connects = [\"disk\", \"nobody\"]}, {label = \"tty\", class = \"character\", unit = 4}]";
     static const char *const labels[] = {"vfs", "disk", "mfs", "tty", "nobody", "di sk", ""};
     static const char *const up[] = {"vfs", "disk", "mfs", "tty"};
@@ -243,7 +243,7 @@ static void dealings(void) {
 /* Tries `forget` and `startup` from C: an instance that was up for 10 ticks leaves no failures, and has 20 ticks to start. */
 static void forgetting(void) {
     static const char one[] =
-        "service = [{label = \"disk\", class = \"block\", unit = 3, period = 5, limit = 1, forget = 10, startup = 20}]";
+        "format = 2\nservice = [{label = \"disk\", class = \"block\", unit = 3, period = 5, limit = 1, forget = 10, startup = 20}]";
     rs_open("RS that forgets", one, sizeof one - 1, 1, 16);
     report("up", of_label(DS_RS_UP, "disk", 0));
     report("a death after 9 ticks", of_instance(DS_RS_DEATH, 1, 16, DS_RS_EXIT, 9));

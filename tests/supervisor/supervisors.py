@@ -86,9 +86,12 @@ def build(library, room, *flags, folder=ROOT / "rs"):
     return pathlib.Path(room)
 
 
+SECOND_FIELDS = {"complains", "connects", "forget", "startup"}
+
+
 def toml(services):
-    """Returns the settings of services, each a label with its fields."""
-    text = ""
+    """Returns the settings of services, each a label with its fields. They are of format 2 if a field asks for it."""
+    text = "format = 2\n" if any(set(fields) & SECOND_FIELDS for fields in services.values()) else ""
     for unit, (label, fields) in enumerate(services.items()):
         fields = {"class": "block", **fields}
         if fields["class"] != "server":

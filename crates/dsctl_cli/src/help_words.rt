@@ -115,11 +115,12 @@ being that of the service, from 0, and left out if the fault isn't a service's;
 standard error has a sentence for each fault, with its line.
 
 With `--line` the output is one line, `settings service = [{..}, ..]`, for a
-script. It has no `slots` beside services, and then standard error says which
-number is left out; a line that would be above 4096 bytes isn't printed, with
-status 1.
+script. It has no `slots` beside services, and no field of format 2; standard
+error says what is left out. A line that would be above 4096 bytes isn't
+printed, with status 1.
 
 At the top:
+  format     2 for a text of format 2; without it a text is of format 1
   slots      process slots that RS may use, 1 to 1008; 64 by default
   [[service]]  up to 64 services
 
@@ -131,14 +132,16 @@ Of a service:
   period     ticks from one ping to the next, 0 to 1000000; 0, for none, by
              default
   limit      how many failures in a row RS answers by another start, 0 to 1000;
-             0 by default
+             0 by default, and 5 in format 2
   publishes  the names that it may publish in the data store, 64 at most
+
+Of a service, in format 2 only:
   complains  the labels of the services that it may complain of, 64 at most; by
              default a server may complain of every other class of service
   connects   the labels of the services that it may connect to, 64 at most; by
              default all
   forget     after how many ticks of one instance the failures before it no
-             longer count, 0 to 1000000000; 0, for never, by default
+             longer count, 0 to 1000000000, with 0 for never; 6000 by default
   startup    ticks that an instance has to start, 0 to 1000000: its first period
              counts from then on, or from its first heartbeat; 0 by default
 

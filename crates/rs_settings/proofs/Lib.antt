@@ -4,3 +4,4 @@ pub mod SharedLemmas
 pub mod AscendingLemmas
 pub mod ApartLemmas
 pub mod FormatLemmas
+pub mod PlainLemmas

@@ -20,7 +20,7 @@ mod value;
 
 pub use class::Class;
 pub use fault::{SettingsCause, SettingsFault};
-pub use law::{formats_agree, services_are_apart};
+pub use law::{first_is_plain, formats_agree, services_are_apart};
 pub use names::Names;
 pub use service::Service;
 pub use services::Services;

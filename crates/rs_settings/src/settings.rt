@@ -191,7 +191,8 @@ fn of_tables(
     requires slots { slots ≤ 1008 }
     requires count { length tables.now ≤ 64 }
     ensures read { IfOk result (λ settings. settings_from format slots (items_view tables.now) ≡ Ok settings) }
-    ensures refused { IfErr result (λ fault. fault.cause ≢ SettingsCause.NoRoom → settings_from format slots (items_view tables.now) ≡ Err fault) }
+    ensures refused { IfErr result (λ fault. fault.cause ≢ SettingsCause.NoRoom →
+        settings_from format slots (items_view tables.now) ≡ Err fault) }
     ensures last { IfErr result (λ fault. fault.cause ≡ SettingsCause.NoRoom → IsOk (settings_from format slots (items_view tables.now))) }
     ensures memory { IfErr result (λ fault. fault.cause ≡ SettingsCause.NoRoom → TablesTakeMemory format slots (items_view tables.now)) }
     ensures room { IfErr result (λ fault. fault.cause ≡ SettingsCause.NoRoom → fault ≡ no_room) }
@@ -263,7 +264,7 @@ pub fn read_any_table(alloc: Global, table: &Table) -> Result<Settings, Settings
     of_format(alloc, format, table)
 }
 
-// Parses a UTF-8 text, or returns why it is no document.
+// Parses a UTF-8 text, or returns why it isn't a document.
 fn parsed(alloc: Global, text: &str) -> Result<Table, SettingsFault>
     ensures document { IfOk result (λ table. document text.now ≡ Some (table_view table)) }
     ensures refused { IfErr result (λ fault. fault.cause ≢ SettingsCause.NoRoom → IsNoDocument text.now fault) }
@@ -281,7 +282,7 @@ fn parsed(alloc: Global, text: &str) -> Result<Table, SettingsFault>
     }
 }
 
-// Returns the document of a text, or why it is none.
+// Returns the document of a text, or why there is none.
 fn document(alloc: Global, text: &[u8]) -> Result<Table, SettingsFault>
     ensures document { IfOk result (λ table. document text.now ≡ Some (table_view table)) }
     ensures refused { IfErr result (λ fault. fault.cause ≢ SettingsCause.NoRoom → IsNoDocument text.now fault) }

@@ -130,6 +130,10 @@ fn add_unknown(
             continue;
         }
         let place = document.place(service, key);
+        if service.is_some() && key == "format" {
+            faults.add(place, "`format` belongs above the first service")?;
+            continue;
+        }
         if service.is_some() && is_of_format_2(key) {
             faults.add(
                 place,

@@ -3,6 +3,7 @@
 use pengtawis::{Acted, Action, Cause, Class, Endpoint, Error, Kind, Kinds, Refusal, Rs, Scope, Service, SettingsFault, State, Store, Version, RS};
 
 const SETTINGS: &str = r#"
+format = 2
 slots = 2
 [[service]]
 label = "eth0"

@@ -3,6 +3,7 @@ import fcntl
 import os
 import pathlib
 import pty
+import re
 import select
 import shutil
 import struct
@@ -15,7 +16,7 @@ import harness
 import terminal
 
 NEEDED = ("sh", "stty", "dirname")  # what dsctl-prompt starts, beside dsctl and perhaps rlwrap
-LISTS = ("publishes", "complains", "connects")
+OF_FORMAT_2 = re.compile(rb" (complains|connects|forget|startup) \d+")  # at the end of a service's line
 LONGEST = 4096
 
 
@@ -58,7 +59,8 @@ def prompted(script, environment, typed):
 
 
 def prints_settings_as_a_line(program):
-    """`settings --line` prints a line of at most 4096 bytes that gives a script's RS the text's services; standard error names slots beside them."""
+    """`settings --line` prints a line of at most 4096 bytes that gives a script's RS the text's services, as far as format 1 can; standard error
+    names what it leaves out."""
     cases = [it for it in harness.all_cases() if it.args == ["settings"] and not it.status]
     assert len(cases) > 10, cases
     for case in cases:
@@ -67,18 +69,19 @@ def prints_settings_as_a_line(program):
         if ran.status:
             assert ran.output == b"" and b"at most 4096" in ran.error and len(given) > LONGEST // 2, f"{case.name}: {ran}"
             continue
-        line, services = ran.output.rstrip(b"\n"), case.output.splitlines()[:-1]
+        line, services = ran.output.rstrip(b"\n"), [OF_FORMAT_2.sub(b"", it) for it in case.output.splitlines()[:-1]]
+        is_short = any(OF_FORMAT_2.search(it) for it in case.output.splitlines())
         slots = int(case.output.split()[-1])
         assert ran.output == line + b"\n" and line.startswith(b"settings ") and len(line) <= LONGEST, f"{case.name}: {ran}"
         assert (b"`slots = %d` is left out" % slots in ran.error) == bool(services and slots != 64), f"{case.name}: {ran}"
+        assert (b"are left out: a line is of format 1" in ran.error) == is_short, f"{case.name}: {ran}"
         wanted = b"services %d slots %d\n" % (len(services), 64 if services else slots)
         assert harness.run([program], ran.output).output == wanted, f"{case.name}: {line}"
         rest = line.removeprefix(b"settings ")
         assert harness.run([program, "settings"], rest).output == b"".join(it + b"\n" for it in services) + wanted, f"{case.name}: {line}"
-        assert lists_of(rest) == lists_of(given), f"{case.name}: {line}"
+        assert published(rest) == published(given), f"{case.name}: {line}"
 
 
-def lists_of(text):
-    """Returns the names in the lists of each service of a settings text; an empty `publishes` counts as none."""
-    services = tomllib.loads(text.decode("utf-8-sig")).get("service", [])
-    return [{name: it[name] for name in LISTS if it.get(name) or name in it and name != "publishes"} for it in services]
+def published(text):
+    """Returns the names that each service of a settings text publishes."""
+    return [it.get("publishes", []) for it in tomllib.loads(text.decode("utf-8-sig")).get("service", [])]
