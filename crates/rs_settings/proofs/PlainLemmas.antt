@@ -19,7 +19,7 @@ use Rattle.rs_settings.specs.Shared.{shared_fault}
 use Rattle.rs_settings.specs.Values.{keys_pass, number_or, label_in_data, names_or, names_if, class_in, unit_in}
 use Rattle.rs_settings.specs.Service.{is_service_field, lacks_field, service_of, service_in, service_from, indexed, go_on, services_in}
 use Rattle.rs_settings.specs.Settings.{SettingsRecord, settings, is_top_field, with_top, with_services, unless_shared, tables_or}
-use Rattle.rs_settings.specs.Formats.{IsPlain, FirstIsPlain}
+use Rattle.rs_settings.specs.Formats.{HasFirstFieldsAlone, FirstIsPlain}
 use Rattle.rs_settings.proofs.TableLemmas.{each-last}
 
 -- a table whose keys pass a test has no field that fails it
@@ -40,7 +40,7 @@ absent test sought (member key value rest) other pass =
 
 plain_of : (label : Option (List ℕ)) (class : Option Class) (unit : Option (Option ℕ)) (period limit : Option ℕ)
     (publishes : Option (List (List ℕ))) (s : Service) →
-    service_of label class unit period limit publishes (Some None) (Some None) (Some 0) (Some 0) ≡ Some s → IsPlain s
+    service_of label class unit period limit publishes (Some None) (Some None) (Some 0) (Some 0) ≡ Some s → HasFirstFieldsAlone s
 plain_of None class unit period limit publishes s h = absurd (cc)
 plain_of (Some l) None unit period limit publishes s h = absurd (cc)
 plain_of (Some l) (Some c) None period limit publishes s h = absurd (cc)
@@ -79,7 +79,7 @@ module _ (fields : Members) (s : Service) where
   by_keys true r h = (refl, h)
   by_keys false r h = absurd (cc)
 
-  plain_service : service_in First fields ≡ Ok s → IsPlain s
+  plain_service : service_in First fields ≡ Ok s → HasFirstFieldsAlone s
   plain_service h =
       let (pass, rest) = by_keys (keys_pass (is_service_field First) fields) _ h in
       let none : (sought : List ℕ) → is_service_field First sought ≡ false → get_member sought fields ≡ None =
@@ -92,7 +92,7 @@ module _ (fields : Members) (s : Service) where
       ∙ ap (λ o. looked_up None None o (get_member (codes "startup") fields)) (none (codes "forget") refl)
       ∙ ap (λ o. looked_up None None None o) (none (codes "startup") refl)) ∙ e)
 
-plain_from : (index : ℕ) (o : Option Members) (s : Service) → service_from First index o ≡ Ok s → IsPlain s
+plain_from : (index : ℕ) (o : Option Members) (s : Service) → service_from First index o ≡ Ok s → HasFirstFieldsAlone s
 plain_from index None s h = absurd (cc)
 plain_from index (Some fields) s h = plain_service fields s (unindexed (service_in First fields) h)
   where
@@ -102,31 +102,31 @@ plain_from index (Some fields) s h = plain_service fields s (unindexed (service_
 
 -- ---- all services
 
-plain_services : (before after : List Service) (items : Items) → All IsPlain before → services_in First before items ≡ Ok after → All IsPlain after
-plain_services before after no_items all h = subst (λ l. All IsPlain l) (let e : before ≡ after = cc in e) all
+plain_services : (before after : List Service) (items : Items) → All HasFirstFieldsAlone before → services_in First before items ≡ Ok after → All HasFirstFieldsAlone after
+plain_services before after no_items all h = subst (λ l. All HasFirstFieldsAlone l) (let e : before ≡ after = cc in e) all
 plain_services before after (item value rest) all h =
     by_first (service_from First (length before) (as_table value)) refl h (λ s more l. plain_services (before ++ s ∷ []) after rest more l)
   where
     by_first : (r : Result Service SettingsFault) → service_from First (length before) (as_table value) ≡ r →
         go_on (λ s. services_in First (before ++ s ∷ []) rest) r ≡ Ok after →
-        ((s : Service) → All IsPlain (before ++ s ∷ []) → services_in First (before ++ s ∷ []) rest ≡ Ok after → All IsPlain after) →
-        All IsPlain after
+        ((s : Service) → All HasFirstFieldsAlone (before ++ s ∷ []) → services_in First (before ++ s ∷ []) rest ≡ Ok after → All HasFirstFieldsAlone after) →
+        All HasFirstFieldsAlone after
     by_first (Ok s) e g others =
-        others s (each-last IsPlain before (before ++ s ∷ []) s refl all (plain_from (length before) (as_table value) s e)) g
+        others s (each-last HasFirstFieldsAlone before (before ++ s ∷ []) s refl all (plain_from (length before) (as_table value) s e)) g
     by_first (Err f) e g others = absurd (cc)
 
-plain_top : (slots : Option ℕ) (tables : Option Items) (s : SettingsRecord) → with_top First slots tables ≡ Ok s → All IsPlain s.services
+plain_top : (slots : Option ℕ) (tables : Option Items) (s : SettingsRecord) → with_top First slots tables ≡ Ok s → All HasFirstFieldsAlone s.services
 plain_top None tables s h = absurd (cc)
 plain_top (Some n) None s h = absurd (cc)
 plain_top (Some n) (Some items) s h = by_services (services_in First [] items) refl h
   where
-    by_shared : (services : List Service) (o : Option SettingsFault) → All IsPlain services → unless_shared n services o ≡ Ok s → All IsPlain s.services
+    by_shared : (services : List Service) (o : Option SettingsFault) → All HasFirstFieldsAlone services → unless_shared n services o ≡ Ok s → All HasFirstFieldsAlone s.services
     by_shared services None all g =
         let e : settings n services ≡ s = cc in
-        subst (λ (z : SettingsRecord). All IsPlain z.services) e all
+        subst (λ (z : SettingsRecord). All HasFirstFieldsAlone z.services) e all
     by_shared services (Some f) all g = absurd (cc)
 
-    by_services : (r : Result (List Service) SettingsFault) → services_in First [] items ≡ r → with_services n r ≡ Ok s → All IsPlain s.services
+    by_services : (r : Result (List Service) SettingsFault) → services_in First [] items ≡ r → with_services n r ≡ Ok s → All HasFirstFieldsAlone s.services
     by_services (Ok services) e g = by_shared services (shared_fault services) (plain_services [] services items (λ k d l. absurd (omega arith)) e) g
     by_services (Err f) e g = absurd (cc)
 

@@ -10,7 +10,7 @@ abbrev pub FormatsAgree : Type 0
 FormatsAgree = (doc : Members) → get_member (codes "format") doc ≡ None → settings_in_any doc ≡ settings_in doc
 
 -- Whether the service has nothing that only format 2 can give it.
-pub record IsPlain (s : Service) : Type 0 where
+pub record HasFirstFieldsAlone (s : Service) : Type 0 where
   pub complains : s.complains ≡ None
   pub connects : s.connects ≡ None
   pub forget : s.forget ≡ 0
@@ -18,4 +18,4 @@ pub record IsPlain (s : Service) : Type 0 where
 
 -- A law: a service of format 1 has nothing of format 2.
 abbrev pub FirstIsPlain : Type 0
-FirstIsPlain = (doc : Members) (s : SettingsRecord) → settings_in doc ≡ Ok s → All IsPlain s.services
+FirstIsPlain = (doc : Members) (s : SettingsRecord) → settings_in doc ≡ Ok s → All HasFirstFieldsAlone s.services
