@@ -10,6 +10,10 @@
 //   REFUSE_AGAIN=k   each of these reads and writes fails k times with EINTR before it succeeds
 //   REFUSE_STACK=F   the file F gets, at the refused growth, the address that the program is loaded at and the words of the
 //                    stack up to main, which show which function asked (tests/kit/askers.py)
+//   REFUSE_EACH=D    growths are refused by copies of the process: at the n-th, from REFUSE_FROM to REFUSE_TO, a copy goes on without the memory
+//                    to its end, and then the process with it. D/n.out and D/n.error get what was written before, and what the copy
+//                    writes; D/n.stack is as REFUSE_STACK; D/n.status has the copy's status as `waitpid` gives it. Standard input, output
+//                    and error must be files, and the program must have no other thread
 //   REFUSE_TALLY=F   the file F, four 64-bit words, gets the number of growths, reads and writes, and of bytes read
 //
 // Calls are counted from the start of the program's `main`, over all its threads. What the loader and the C library take
@@ -27,14 +31,16 @@
 #include <stdatomic.h>
 #include <stddef.h>
 #include <stdint.h>
+#include <stdio.h>
 #include <stdlib.h>
 #include <sys/mman.h>
 #include <sys/syscall.h>
 #include <sys/uio.h>
+#include <sys/wait.h>
 #include <unistd.h>
 
 enum call { GROWTH, READ, WRITE, BYTES, WORDS };
-enum { MOST_STACK = 8 << 20 };
+enum { MOST_STACK = 8 << 20, MOST_PATH = 4096, SECONDS = 120 };
 
 static _Atomic uint64_t *tally; // NULL until main begins
 static uint64_t refused[WORDS]; // which call of each kind fails; 0 for none
@@ -45,6 +51,9 @@ static uint64_t interruptions;   // of each read and write before it succeeds
 static _Atomic uint64_t interrupted; // how many the next one has had
 static uint64_t refused_thread;  // which thread can't start; 0 for none
 static _Atomic uint64_t threads; // how many were started
+static const char *copies;       // the folder of what copies of the process write; NULL for none
+static uint64_t first_copy, last_copy; // the growths that copies are refused
+static _Atomic uint64_t own_tally[WORDS]; // a copy's
 static int stack_file = -1; // none
 static char *main_frame;
 
@@ -76,6 +85,9 @@ static void begin(void) {
     interruptions = number_of("REFUSE_AGAIN");
     refused_thread = number_of("REFUSE_THREAD");
     stack_file = opened("REFUSE_STACK");
+    copies = getenv("REFUSE_EACH");
+    first_copy = number_of("REFUSE_FROM");
+    last_copy = number_of("REFUSE_TO");
     tally = words;
 }
 
@@ -119,9 +131,76 @@ static void tell_stack(char *frame) {
     syscall(SYS_write, stack_file, frame, main_frame - frame);
 }
 
+// ---- copies of the process ----
+
+static int file_of_copy(uint64_t number, const char *part) {
+    char path[MOST_PATH];
+    snprintf(path, sizeof path, "%s/%llu.%s", copies, (unsigned long long)number, part);
+    int file = open(path, O_RDWR | O_CREAT | O_TRUNC, 0600);
+    if (file < 0)
+        _exit(99);
+    return file;
+}
+
+// Gives a copy an output of its own, with what was written before.
+static void own_output(int file, uint64_t number, const char *part) {
+    char path[32], block[4096];
+    snprintf(path, sizeof path, "/proc/self/fd/%d", file);
+    int from = open(path, O_RDONLY), to = file_of_copy(number, part);
+    long done;
+    while ((done = syscall(SYS_read, from, block, sizeof block)) > 0)
+        syscall(SYS_write, to, block, done);
+    dup2(to, file);
+    close(from);
+    close(to);
+}
+
+// Gives a copy an input of its own, at the same place.
+static void own_input(void) {
+    int from = open("/proc/self/fd/0", O_RDONLY);
+    lseek(from, lseek(STDIN_FILENO, 0, SEEK_CUR), SEEK_SET);
+    dup2(from, STDIN_FILENO);
+    close(from);
+}
+
+static void become_copy(uint64_t number) {
+    own_input();
+    own_output(STDOUT_FILENO, number, "out");
+    own_output(STDERR_FILENO, number, "error");
+    stack_file = file_of_copy(number, "stack");
+    for (size_t at = 0; at < WORDS; at++)
+        atomic_store(&own_tally[at], atomic_load(&tally[at]));
+    tally = own_tally;
+    copies = NULL;
+    alarm(SECONDS);
+}
+
+// Returns whether this is the copy that the growth of this number is refused to. The process itself waits for its end.
+static int is_copy(uint64_t number) {
+    if (!copies || number < first_copy || number > last_copy)
+        return 0;
+    pid_t copy = fork();
+    if (copy == 0) {
+        become_copy(number);
+        return 1;
+    }
+    int status, file = file_of_copy(number, "status");
+    if (copy < 0 || waitpid(copy, &status, 0) != copy)
+        _exit(99);
+    syscall(SYS_write, file, &status, sizeof status);
+    close(file);
+    return 0;
+}
+
 static int refuses_growth(void) {
     if (!tally || atomic_load(&tally[WRITE]) < writes_before)
         return 0;
+    if (is_copy(atomic_load(&tally[GROWTH]) + 1)) {
+        atomic_fetch_add(&tally[GROWTH], 1);
+        tell_stack(__builtin_frame_address(0));
+        errno = ENOMEM;
+        return 1;
+    }
     int is_later = later && refused[GROWTH] && atomic_load(&tally[GROWTH]) >= refused[GROWTH];
     if (!refuses(GROWTH) && !is_later)
         return 0;

@@ -1,8 +1,10 @@
 """Runs a program under tests/kit/refuse.c, which refuses it one growth of memory, one read or one write."""
 import os
+import pathlib
 import re
 import struct
 import subprocess
+import tempfile
 
 import askers
 import harness
@@ -33,22 +35,39 @@ class Refuser:
         self.program = program
         self.askers = askers.Askers(program)
         self.room = room
+        self.stack = b""  # at the growth that was refused last
         self.library = os.path.join(room, "refuse.so")
         words = [os.environ.get("CC", "cc"), "-O2", "-shared", "-fPIC", "-o", self.library, str(harness.TESTS / "kit" / "refuse.c"), "-ldl"]
         subprocess.run(words, check=True)
 
     def run(self, case, **refused):
         """Runs a case with `growth=n`, `read=n` or `write=n` refused, or with `short=k` or `again=k`."""
-        tally, stack = self.file("tally"), self.file("stack")
-        for path, empty in ((tally, bytes(32)), (stack, b"")):
-            with open(path, "wb") as words:
-                words.write(empty)
-        named = {f"REFUSE_{name.upper()}": str(number) for name, number in refused.items()}
-        environment = {**os.environ, "LD_PRELOAD": self.library, "REFUSE_TALLY": tally, "REFUSE_STACK": stack, **named}
+        stack = pathlib.Path(self.room, f"stack-{os.getpid()}")
+        stack.write_bytes(b"")
+        environment = self.environment(REFUSE_STACK=stack, **{f"REFUSE_{name.upper()}": number for name, number in refused.items()})
         ran = harness.run_case(self.program, case, environment)
-        with open(tally, "rb") as words:
-            counts = struct.unpack("4Q", words.read())
+        counts = struct.unpack("4Q", pathlib.Path(environment["REFUSE_TALLY"]).read_bytes())
+        self.stack = stack.read_bytes()
         return ran, dict(zip((*CALLS, "bytes"), counts))
+
+    def environment(self, **words):
+        """Returns the environment of a run, with these words more, and makes the file that gets its tally."""
+        tally = pathlib.Path(self.room, f"tally-{os.getpid()}")
+        tally.write_bytes(bytes(32))
+        named = {name: str(word) for name, word in words.items()}
+        return {**os.environ, "LD_PRELOAD": self.library, "REFUSE_TALLY": str(tally), **named}
+
+    def copies(self, case, first, last):
+        """Runs a case once, and refuses each growth from `first` to `last` to a copy of the process. Yields each copy's run, in order."""
+        with tempfile.TemporaryDirectory(dir=self.room) as folder:
+            room = pathlib.Path(folder)
+            environment = self.environment(REFUSE_EACH=folder, REFUSE_FROM=first, REFUSE_TO=last)
+            with case.input.open("rb") as given, open(room / "out", "wb") as out, open(room / "error", "wb") as error:
+                words = [self.program, *case.args]
+                subprocess.run(words, stdin=given, stdout=out, stderr=error, env=environment, timeout=10 * harness.SECONDS)
+            for number in range(first, last + 1):
+                output, error, self.stack, status = [(room / f"{number}.{part}").read_bytes() for part in ("out", "error", "stack", "status")]
+                yield harness.Ran(output, os.waitstatus_to_exitcode(*struct.unpack("i", status)), error)
 
     def counted(self, case):
         """Runs a case with ample memory. Returns what is wrong, or None, and the number of growths."""
@@ -69,16 +88,11 @@ class Refuser:
                 return f"growth {n}: {wrong}"
         return None
 
-    def file(self, word):
-        """Returns the path of a file that only this process uses."""
-        return os.path.join(self.room, f"{word}-{os.getpid()}")
-
     def unseen_fault(self, output=b""):
         """Returns what is wrong if the last refused growth changed nothing in the output, or None if its asker can do without it."""
-        with open(self.file("stack"), "rb") as words:
-            stack = words.read()
-        asker = self.askers.asker(stack)
-        does_without = DOES_WITHOUT.search(asker) or asker == SEARCH and CURSOR_REFUSED.search(output) or self.askers.is_within(stack, EXPLAINS)
+        asker = self.askers.asker(self.stack)
+        is_explained = self.askers.is_within(self.stack, EXPLAINS)
+        does_without = DOES_WITHOUT.search(asker) or asker == SEARCH and CURSOR_REFUSED.search(output) or is_explained
         return None if does_without else f"no answer reports it, and {asker} asked for it"
 
     def names_passed_by(self):
