@@ -58,7 +58,8 @@ class Refuser:
         return {**os.environ, "LD_PRELOAD": self.library, "REFUSE_TALLY": str(tally), **named}
 
     def copies(self, case, first, last):
-        """Runs a case once, and refuses each growth from `first` to `last` to a copy of the process. Yields each copy's run, in order."""
+        """Runs a case once, and refuses each growth from `first` to `last` to a copy of the process. Yields each copy's run, in order, up to the
+        first growth that wasn't made."""
         with tempfile.TemporaryDirectory(dir=self.room) as folder:
             room = pathlib.Path(folder)
             environment = self.environment(REFUSE_EACH=folder, REFUSE_FROM=first, REFUSE_TO=last)
@@ -66,6 +67,8 @@ class Refuser:
                 words = [self.program, *case.args]
                 subprocess.run(words, stdin=given, stdout=out, stderr=error, env=environment, timeout=10 * harness.SECONDS)
             for number in range(first, last + 1):
+                if not (room / f"{number}.status").exists():
+                    return
                 output, error, self.stack, status = [(room / f"{number}.{part}").read_bytes() for part in ("out", "error", "stack", "status")]
                 yield harness.Ran(output, os.waitstatus_to_exitcode(*struct.unpack("i", status)), error)
 
