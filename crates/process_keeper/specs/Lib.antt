@@ -1,0 +1,5 @@
+pub mod Inputs
+pub mod Sight
+pub mod Doing
+pub mod Order
+pub mod Happening

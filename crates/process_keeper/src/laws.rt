@@ -1,0 +1,14 @@
+//! Laws: inputs and tasks are events of the rule.
+
+ghost use Rattle.process_keeper.specs.Happening.{InputsAreEvents, TasksMayBeDone, TruthStays};
+
+/// Laws: each accepted input that is true is an event of the rule, and each task may be done.
+pub fn inputs_are_events()
+    ensures inputs { InputsAreEvents }
+    ensures tasks { TasksMayBeDone }
+{}
+
+/// A law: what a label saw stays true, whatever the kernel and other labels do.
+pub fn truth_stays()
+    ensures { TruthStays }
+{}
