@@ -2,6 +2,7 @@
 import re
 
 BROKEN = re.compile(r"(?:\./)?(proofs/\S+/Answers\.antt):(\d+):\d+: error: (.*)")
+CONTINUED = (" ", "}", ")", "]")  # how a line begins that belongs to the definition above
 WORD = re.compile(r"[^\s(){}\[\],;]+")
 
 
@@ -9,7 +10,7 @@ def blocks(text):
     """Returns the parts of a file of answers: each with its name, empty for what isn't a definition, and its first and last line."""
     found = []
     for at, line in enumerate(text.split("\n"), 1):
-        if line.startswith(" ") and found:
+        if line.startswith(CONTINUED) and found:
             found[-1][2] = at
             continue
         words = [it for it in line.split(" ") if it not in ("pub", "abbrev")]
