@@ -310,6 +310,37 @@ def a_daemon_ends_before_the_next_instance(host):
     host.end()
 
 
+# A marked process, whose parent hides for a while whose it is. So it becomes a child of the supervisor after the end of its instance.
+LATE = "#!/bin/sh\nsetsid sh -c 'setsid sh -c \"echo \\$\\$ > late; exec sleep 1000\" & echo $$ > parent; exec env -i sleep SECONDS' &\nexec sleep 1000\n"
+
+
+def late_stray(host, seconds):
+    """Starts a service with a process like that, kills the service once they are there, and returns the process after its parent has ended."""
+    host.start({"a": ({}, LATE.replace("SECONDS", str(seconds))), "b": ({}, SLEEPS)})
+    folder = host.home / "services" / "a"
+    late, parent = (int(until(lambda: (folder / it).exists() and (folder / it).read_text(), f"{it} is there")) for it in ("late", "parent"))
+    os.kill(host.pid("a"), signal.SIGKILL)
+    host.logged("gone a")
+    until(lambda: not lives(parent), "its parent ends")
+    return late
+
+
+@scene
+def a_late_stray_is_killed(host):
+    """A process that becomes a child of the supervisor after the end of its instance is killed within a second."""
+    pid = late_stray(host, 1)
+    until(lambda: not lives(pid), "it is killed", 5)
+    host.logged(f"stray pid {pid} is killed")
+    host.end()
+
+
+@scene
+def a_late_stray_ends_before_the_supervisor(host):
+    """The supervisor is told to end before it looks for strays again."""
+    late_stray(host, 0.4)
+    host.end()
+
+
 # ---- how often it looks ----
 
 
@@ -337,8 +368,9 @@ def read_calls(pid):
 
 @scene
 def descendants_that_print_without_end_hold_up_no_reload(host):
-    """A service is left out of the settings, and processes that it started in sessions of their own print without end."""
-    prints = "#!/bin/sh\nsetsid sh -c 'setsid sh -c \"setsid sh -c \\\"setsid yes & exec sleep 1000\\\" & exec sleep 1000\" & exec sleep 1000' &\nexec sleep 1000\n"
+    """A service is left out of the settings, and processes that it started, and that hide whose they are, print without end."""
+    chain = "setsid sh -c 'setsid sh -c \"setsid yes & exec sleep 30\" & exec sleep 30'"
+    prints = f"#!/bin/sh\nenv -i {chain} &\nexec sleep 1000\n"
     host.start({"keep": ({"limit": 9}, SLEEPS), "leave": ({}, prints)}, options=("--grace", "300"))
     until(lambda: "leave: y\n" in host.log()[-100:], "it prints")
     kept = (host.home / "settings.toml").read_text().split("[[service]]")[1]
