@@ -336,7 +336,7 @@ def a_late_stray_is_killed(host):
 
 @scene
 def a_late_stray_ends_before_the_supervisor(host):
-    """The supervisor is told to end before it looks for strays again."""
+    """The supervisor gets its signal before it looks for strays again."""
     late_stray(host, 0.4)
     host.end()
 
