@@ -107,7 +107,7 @@ fn add_missing(
     fields: &Table,
 ) -> Result<(), NoRoom> {
     for field in fields_known(document.table, Some(index)) {
-        if is_needed(fields, field) && fields.get(field).is_none() {
+        if is_needed(fields, field) && fields.get(*field).is_none() {
             let wanted = wanted_in(field);
             let said = format_args!("`{field}` is missing; {wanted} was expected");
             faults.add(document.header(index), said)?;
