@@ -31,7 +31,10 @@ bool peers_write(const struct peers *peers, unsigned long long beat, char text[D
     return true;
 }
 
-void peers_forget_own(struct peers *peers) { peers->own_count = 0; }
+void peers_forget_own(struct peers *peers) {
+    peers->own_count = 0;
+    peers->apart = NO_ENTRY;
+}
 
 /* Reads `2-DIGEST-BEAT-FIRST-SECOND`. */
 static bool read_digest(const char *text, struct digest *digest, unsigned long long *beat) {
@@ -57,14 +60,21 @@ static struct peer *peer_of(struct peers *peers, const char *id) {
     return peer;
 }
 
-/* Compares a peer's digest with the own one of the same entry. If there is none, the last result stays. */
-static void judge_digest(const struct peers *peers, struct peer *peer, const struct digest *theirs) {
+/* Returns the digest of one's own at an entry, or NULL. */
+static const struct digest *own_digest(const struct peers *peers, struct entry_id at) {
     unsigned long kept = peers->own_count < OWN_DIGESTS ? peers->own_count : OWN_DIGESTS;
     for (unsigned long i = 0; i < kept; i++) {
-        const struct digest *own = &peers->own[i];
-        if (!is_same_entry(own->at, theirs->at)) continue;
-        peer->differs = own->value == theirs->value ? 0 : peer->differs + 1;
+        if (is_same_entry(peers->own[i].at, at)) return &peers->own[i];
     }
+    return NULL;
+}
+
+/* Compares a peer's digest with the own one of the same entry. If there is none, the last result stays. */
+static void judge_digest(struct peers *peers, struct peer *peer) {
+    const struct digest *own = own_digest(peers, peer->newest.at);
+    if (!own) return;
+    peer->differs = own->value == peer->newest.value ? 0 : peer->differs + 1;
+    if (peer->differs && is_above(own->at, peers->apart)) peers->apart = own->at;
 }
 
 static void compare_digest(struct peers *peers, const char *me, const char *id, const char *text) {
@@ -74,12 +84,23 @@ static void compare_digest(struct peers *peers, const char *me, const char *id, 
     struct peer *peer = peer_of(peers, id);
     if (!peer) return;
     peer->there = true;
+    peer->newest = theirs;
     peer->still = peer->beat == beat ? peer->still + 1 : 0;
     peer->beat = beat;
-    if (!peer->still) judge_digest(peers, peer, &theirs);
-    if (peer->still >= DEAD) return;
-    peers->differing += peer->differs >= DIFFERS;
-    if (!peer->differs && strcmp(id, me) < 0) peers->is_first = false;
+    if (!peer->still) judge_digest(peers, peer);
+    peers->differing += peer->still < DEAD && peer->differs >= DIFFERS;
+}
+
+/* Whether no other one is to tell all in place of this one: of those that hold the same at the last entry at which others
+ * differ, the first by name does. Who waits has a digest of an earlier entry. */
+static bool is_first(const struct peers *peers, const char *me) {
+    const struct digest *own = own_digest(peers, peers->apart);
+    for (size_t i = 0; own && i < peers->count; i++) {
+        const struct peer *peer = &peers->peer[i];
+        bool is_same = is_same_entry(peer->newest.at, own->at) && peer->newest.value == own->value;
+        if (is_same && peer->still < DEAD && strcmp(peer->id, me) < 0) return false;
+    }
+    return true;
 }
 
 /* Forgets peers whose digests are gone. */
@@ -93,13 +114,13 @@ static void forget_gone(struct peers *peers) {
 
 void peers_compare(struct peers *peers, const char *me, const redisReply *digests) {
     peers->differing = 0;
-    peers->is_first = true;
     for (size_t i = 0; i < peers->count; i++) peers->peer[i].there = false;
     for (size_t i = 0; i + 1 < digests->elements; i += 2) {
         const redisReply *id = digests->element[i], *text = digests->element[i + 1];
         if (is_text(id) && is_text(text)) compare_digest(peers, me, id->str, text->str);
     }
     forget_gone(peers);
+    peers->is_first = is_first(peers, me);
 }
 
 const char *peers_gone(const struct peers *peers) {

@@ -23,7 +23,8 @@ struct peer {
     unsigned long long beat; /* which rises with each comparing of its own */
     unsigned still;          /* comparings since it last rose */
     unsigned differs;        /* digests at the same entry that differed, without one between that didn't */
-    bool there;              /* it is in the answer that is being read */
+    bool there;              /* it is in the answer that is being read, */
+    struct digest newest;    /* and has this digest */
 };
 
 struct peers {
@@ -31,8 +32,9 @@ struct peers {
     unsigned long own_count;
     struct peer peer[PEERS];
     size_t count;
-    unsigned differing; /* others that hold something else */
-    bool is_first;      /* no other one that holds the same has a lesser name */
+    unsigned differing;    /* others that hold something else */
+    struct entry_id apart; /* the last entry at which one of them does */
+    bool is_first;         /* no other one that holds the same at that entry has a lesser name */
 };
 
 /* Keeps a digest of one's own. */

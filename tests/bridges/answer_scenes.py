@@ -51,6 +51,39 @@ def known_after_a_look(fleet, draw):
         assert client.answer() == ["known"]
 
 
+def who_waits_is_not_first(fleet, draw):
+    """Of the bridges that agree at the entry where others differ, the first by name sends everything; one whose digest is of an earlier entry isn't."""
+    script = fleet.adopt(Scripted(fleet.port))
+    bridge, beats = fleet.start(url=script.url()), itertools.count(1)
+
+    def own():
+        """Returns the digest of the bridge, and the two numbers of its entry."""
+        return next((it.split(b"-")[1::2][0:1] + it.split(b"-")[3:] for it in fleet.ask("HVALS", "ds:digests")), None)
+
+    def with_peers(first):
+        """Returns a function that adds a peer with the least name and this digest, or the bridge's own, and one that differs."""
+
+        def made(raw):
+            value, *entry = own()
+            peers = {b"0" * 32: (first or [value, *entry]), b"f" * 32: [b"0123456789abcdef", *entry]}
+            count = int(raw[1 : raw.index(b"\r\n")])
+            words = [it for name, (digest, *at) in peers.items() for it in (name, b"-".join((b"2", digest, b"%d" % next(beats), *at)))]
+            return b"*%d%s" % (count + len(words), raw[raw.index(b"\r\n") :]) + b"".join(b"$%d\r\n%s\r\n" % (len(it), it) for it in words)
+
+        return made
+
+    offer(bridge, number("a", 1, 1))
+    earlier = until(own, "it has a digest", 5)
+    offer(bridge, number("b", 1, 1))
+    until(lambda: own() != earlier, "it has a later one", 5)
+    agrees = script.script("HGETALL ds:digests", with_peers(None), 5)
+    until(agrees.is_used, "it compares", 10)
+    assert bridge.state()["differing"] == "1" and fleet.entries() == 2, "it sends what the first of its kind sends"
+    waits = script.script("HGETALL ds:digests", with_peers(earlier), 1 << 30)
+    until(lambda: fleet.entries() > 2, "it sends everything, as the other one waits", 10)
+    waits.left = 0
+
+
 def three_owners_of_a_key(fleet, draw):
     """An item that neither a store nor the one beside it can hold isn't compacted away, whatever refused it."""
     bridge = fleet.start()
