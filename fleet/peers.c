@@ -92,7 +92,7 @@ static void compare_digest(struct peers *peers, const char *me, const char *id, 
 }
 
 /* Whether no other one is to tell all in place of this one: of those that hold the same at the last entry at which others
- * differ, the first by name does. Who waits has a digest of an earlier entry. */
+ * differ, the first by name does. A bridge that waits has a digest of an earlier entry. */
 static bool is_first(const struct peers *peers, const char *me) {
     const struct digest *own = own_digest(peers, peers->apart);
     for (size_t i = 0; own && i < peers->count; i++) {
