@@ -35,6 +35,7 @@ struct server {
     struct master master;
     struct link teller, listener;                  /* open in CALLED and MET */
     enum ds_fleet_word parted;                     /* in AWAY: AWAY, or why there is no connection by choice */
+    bool is_one;                                   /* in MET: the listener has shown that it is at the teller's server, too */
     bool logs_meeting;                             /* the next meeting is logged: the log's last word on the server is that it went */
     char run[DS_FLEET_ID], history[DS_FLEET_ID];   /* of the server that was met last, or nothing */
     uint64_t pause;                                /* milliseconds of the last pause; 0: the server was of use since */
@@ -48,9 +49,12 @@ void server_close(struct server *server);
 bool server_is_connected(const struct server *server);
 /* Calls a server if there is none. Returns INSTEP if both connections are open, else why not. */
 enum ds_fleet_word server_call(struct ds_fleet *fleet);
-/* Opens the listener's connection anew: a reading may wait there for what comes after an entry that is no longer the
- * last one read. */
-void server_reopen_listener(struct server *server);
+/* Makes both connections anew, to the same address, which may lead to another server by now: what was read and judged may be
+ * another one's, and a reading may wait for what comes after an entry of it. Returns LATE, or AWAY. */
+enum ds_fleet_word server_call_again(struct ds_fleet *fleet);
+/* The listener's first round, which shows at which server it is. */
+void server_ask_listener(struct server *server);
+enum ds_fleet_word server_hear_listener(struct ds_fleet *fleet);
 
 /* Both connections end. What got no answer is sent to the next server. */
 enum ds_fleet_word server_hang_up(struct ds_fleet *fleet, enum ds_fleet_word word, const char *why);

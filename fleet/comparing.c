@@ -132,7 +132,7 @@ static bool lacks_witness(const struct comparing *comparing, const redisReply *t
 
 /* A stream that lost something is read again, and the bridge tells what isn't there: one of another history, one that
  * lacks a witness, one that ends before what was read, and one that has less than before. */
-static void look_for_loss(struct ds_fleet *fleet, const struct stock *stock, bool has_less) {
+static enum ds_fleet_word look_for_loss(struct ds_fleet *fleet, const struct stock *stock, bool has_less) {
     struct comparing *comparing = &fleet->comparing;
     struct reading *reading = &fleet->reading;
     bool is_behind = !is_same_entry(reading->last, NO_ENTRY) && stock->newest.first > reading->last.first;
@@ -141,13 +141,13 @@ static void look_for_loss(struct ds_fleet *fleet, const struct stock *stock, boo
         items_say(&fleet->items, "lost: the server no longer has what it had, which is told again");
         fleet->telling.owes_all = true;
         bridge_begin_anew(fleet, stock);
-        server_reopen_listener(&fleet->server);
-        return;
+        return server_call_again(fleet);
     }
     comparing->stock = *stock;
     trail_looked(&fleet->telling.trail);
     trail_looked(&reading->trail);
     if (!is_above(stock->newest, reading->last)) reading->read_up_to = stock->generated;
+    return DS_FLEET_INSTEP;
 }
 
 /* Whether an entry that was in the stream a second ago hasn't arrived: the listener's connection may be dead without an
@@ -165,7 +165,8 @@ static enum ds_fleet_word look_at_stream(struct ds_fleet *fleet, struct redisRep
     if (is_error(looked[LOOKED_ENTRIES])) return server_denied(fleet, looked[LOOKED_ENTRIES]);
     bool has_less = server_changed_history(&fleet->server, replication);
     has_less |= lacks_witness(&fleet->comparing, looked[LOOKED_ENTRIES], &stock);
-    look_for_loss(fleet, &stock, has_less);
+    word = look_for_loss(fleet, &stock, has_less);
+    if (word != DS_FLEET_INSTEP) return word; /* the answers are gone with the connection */
     const redisReply *scope = looked[LOOK_SNAPSHOT]->element[LOOK_SCOPE];
     return server_has_other_scope(fleet, scope) ? server_refuse_scope(fleet, scope) : DS_FLEET_INSTEP;
 }
@@ -242,8 +243,7 @@ static enum ds_fleet_word comparing_answered(struct ds_fleet *fleet) {
     fleet->server.pause = 0;
     if (!items_may_regain(&fleet->items)) return DS_FLEET_INSTEP;
     bridge_read_from_start(fleet);
-    server_reopen_listener(&fleet->server);
-    return DS_FLEET_INSTEP;
+    return server_call_again(fleet);
 }
 
 const struct round comparing_round = {is_comparing_due, ask_to_compare, comparing_answered};

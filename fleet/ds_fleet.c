@@ -116,16 +116,17 @@ static enum ds_fleet_word turn_teller(struct ds_fleet *fleet) {
 
 static enum ds_fleet_word turn_listener(struct ds_fleet *fleet) {
     enum ds_fleet_word word = DS_FLEET_INSTEP;
-    bool may_read = fleet->server.state == SERVER_MET && fleet->reading.state != READING_GAP;
+    bool may_read = fleet->server.state == SERVER_MET && (!fleet->server.is_one || fleet->reading.state != READING_GAP);
     switch (link_turn(&fleet->server.listener, clock_now())) {
     case LINK_LOST: return server_went(fleet, fleet->server.listener.said);
     case LINK_WAITS: return DS_FLEET_INSTEP;
     case LINK_IDLE:
         if (!may_read || clock_now() < fleet->server.ask_at) return DS_FLEET_INSTEP;
-        reading_ask(fleet);
+        if (fleet->server.is_one) reading_ask(fleet);
+        else server_ask_listener(&fleet->server);
         return DS_FLEET_LATE;
     case LINK_ANSWERED:
-        word = reading_answered(fleet);
+        word = fleet->server.is_one ? reading_answered(fleet) : server_hear_listener(fleet);
         link_done(&fleet->server.listener);
     }
     return word == DS_FLEET_INSTEP ? DS_FLEET_LATE : word;

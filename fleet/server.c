@@ -9,6 +9,8 @@
  *   CALLED      | .. with another scope              | AWAY: badscope
  *   CALLED      | .. by a cluster, keys on many nodes| AWAY: badname
  *   CALLED      | .. by a replica, others are listed | AWAY: denied
+ *   MET         | the listener is at another server  | AWAY
+ *   MET         | a loss, or all is read once more   | CALLED: both connections are made anew
  *   CALLED, MET | an error                           | unchanged: denied, asked again after PATIENCE
  *   CALLED, MET | an error of a demoted server       | AWAY: denied
  *   CALLED, MET | MOVED                              | AWAY: denied, and the node that it names is called
@@ -24,6 +26,8 @@ enum {
     LATEST = 1000, /* and then twice as long each time, up to this */
     PATIENCE = 100 /* before another try of what was denied */
 };
+
+static const char unnamed[] = "unknown"; /* the run of a server that names none */
 
 bool server_is_connected(const struct server *server) { return link_is_open(&server->teller) && link_is_open(&server->listener); }
 
@@ -42,6 +46,14 @@ static void lengthen_pause(struct server *server) {
     server->call_at = clock_now() + server->pause - chance % (server->pause / 2);
 }
 
+/* What got no answer is asked again. */
+static void cut_rounds(struct ds_fleet *fleet) {
+    fleet->server.round = NULL;
+    telling_cut(&fleet->telling);
+    reading_cut(&fleet->reading);
+    fleet->compacting.state = COMPACTING_RESTS;
+}
+
 /* The same reason is logged again only after a server was of use. */
 enum ds_fleet_word server_hang_up(struct ds_fleet *fleet, enum ds_fleet_word word, const char *why) {
     struct server *server = &fleet->server;
@@ -54,11 +66,8 @@ enum ds_fleet_word server_hang_up(struct ds_fleet *fleet, enum ds_fleet_word wor
     link_close(&server->listener);
     master_failed(&server->master);
     server->state = SERVER_AWAY;
-    server->round = NULL;
     server->parted = word;
-    telling_cut(&fleet->telling);
-    reading_cut(&fleet->reading);
-    fleet->compacting.state = COMPACTING_RESTS;
+    cut_rounds(fleet);
     lengthen_pause(server);
     return word;
 }
@@ -119,7 +128,29 @@ enum ds_fleet_word server_call(struct ds_fleet *fleet) {
     return DS_FLEET_INSTEP;
 }
 
-void server_reopen_listener(struct server *server) { link_open(&server->listener, &server->master.call, clock_now()); }
+enum ds_fleet_word server_call_again(struct ds_fleet *fleet) {
+    struct server *server = &fleet->server;
+    uint64_t time = clock_now();
+    server->state = SERVER_CALLED;
+    cut_rounds(fleet);
+    bool is_open = link_open(&server->teller, &server->master.call, time) && link_open(&server->listener, &server->master.call, time);
+    const struct link *lost = link_is_open(&server->teller) ? &server->listener : &server->teller;
+    return is_open ? DS_FLEET_LATE : server_went(fleet, lost->said);
+}
+
+void server_ask_listener(struct server *server) { link_ask(&server->listener, "INFO"); }
+
+enum ds_fleet_word server_hear_listener(struct ds_fleet *fleet) {
+    struct server *server = &fleet->server;
+    const redisReply *info = server->listener.answers[0];
+    char run[DS_FLEET_ID], history[DS_FLEET_ID];
+    if (is_error(info)) return server_denied(fleet, info);
+    copy_hex_of(info, "run_id:", run);
+    copy_hex_of(info, "master_replid:", history);
+    bool is_named = *run && strcmp(server->run, unnamed);
+    server->is_one = (!is_named || !strcmp(run, server->run)) && !strcmp(history, server->history);
+    return server->is_one ? DS_FLEET_INSTEP : server_went(fleet, "the two connections lead to two servers");
+}
 
 /* ---- meeting ---- */
 
@@ -159,7 +190,7 @@ static bool note_server(struct ds_fleet *fleet, const redisReply *info) {
     if (!is_another) return false;
     server->logs_meeting = true;
     fleet->telling.owes_all |= *server->run != '\0'; /* the first one gets only what is untold */
-    snprintf(server->run, sizeof server->run, "%s", *run ? run : "unknown");
+    snprintf(server->run, sizeof server->run, "%s", *run ? run : unnamed);
     return true;
 }
 
@@ -207,6 +238,7 @@ static enum ds_fleet_word meeting_answered(struct ds_fleet *fleet) {
     if (server_has_other_scope(fleet, scope)) return server_refuse_scope(fleet, scope);
     if (!is_text(scope) && is_error(answers[MEETING_CLAIM])) return server_denied(fleet, answers[MEETING_CLAIM]);
     server->state = SERVER_MET;
+    server->is_one = false;
     server->parted = DS_FLEET_AWAY;
     master_worked(&server->master);
     fleet->state.connections++;

@@ -111,7 +111,7 @@ bool telling_has_news(const struct ds_fleet *fleet) { return fleet->telling.owes
 
 /* If everything held has yet to be gathered, news waits for that. */
 static bool is_telling_due(const struct ds_fleet *fleet) {
-    return has_untold(fleet) && !(fleet->telling.owes_all && bridge_is_at_end(fleet));
+    return fleet->server.is_one && has_untold(fleet) && !(fleet->telling.owes_all && bridge_is_at_end(fleet));
 }
 
 /* What isn't sent yet will be a later write by itself. */

@@ -2,7 +2,7 @@
 import itertools
 import time
 
-from fleets import until
+from fleets import Fleet, Proxy, until
 from scenes import number, numbers, offer, shows
 from state_scenes import in_step
 from scripted import Scripted
@@ -49,6 +49,30 @@ def known_after_a_look(fleet, draw):
         assert not client.has_answer(1.5), "it is answered without a server"
         fleet.start_server()
         assert client.answer() == ["known"]
+
+
+class Moving(Proxy):
+    """A balancer that moves to another server once a bridge has made its first connection."""
+
+    def __init__(self, first, second):
+        super().__init__(first)
+        self.second = second
+
+    def join(self, near):
+        super().join(near)
+        self.port = self.second
+
+
+def two_servers_at_one_address(fleet, draw):
+    """An address moves to another server between the two connections of a bridge: both are made anew, before it tells anything."""
+    with Fleet([]) as other:
+        moving, line = fleet.adopt(Moving(fleet.port, other.port)), number("a", 1, 1)
+        bridge = fleet.start(url=moving.url())
+        offer(bridge, line)
+        assert line.encode() in other.told(), "it is answered by the server from which the address has moved"
+        assert "lead to two servers" in bridge.said() and bridge.state()["server"].encode() in other.ask("INFO", "server")
+        bridge.kill()
+        fleet.bridges.remove(bridge)
 
 
 def who_waits_is_not_first(fleet, draw):

@@ -88,7 +88,7 @@ def states_of_the_server(fleet, draw):
 
         offer(bridge, *(kept := [next(line) for _ in range(3)]))
         entries = fleet.entries()
-        script.script("INFO", of_another_run, whole=True)
+        script.script("INFO", of_another_run, 2, whole=True)
         reconnects(bridge, script.cut)
         says(bridge, "event=met", 2)
         assert fleet.entries() == entries, "what is there is sent again"
@@ -122,6 +122,17 @@ def states_of_the_server(fleet, draw):
         script.script_and_wait("INFO replication", ERROR)
         in_step(bridge)
         walk("MET | an error")
+
+        before = connections(bridge)
+        fleet.ask("DEL", "ds:items")
+        says(bridge, "event=lost")
+        until(lambda: connections(bridge) > before, "both connections are made anew", 10)
+        told(fleet, *kept)
+        walk("MET | a loss, or all is read once more")
+        script.script("INFO", bytes, whole=True)  # the teller's
+        script.script("INFO", of_another_run, whole=True)
+        reconnects(bridge, lambda: says(bridge, "lead to two servers") if not script.cut() else None)
+        walk("MET | the listener is at another server")
 
         for event, answer in (("an error of a demoted server", DEMOTED), ("a connection is lost, or is silent", CUT)):
             script.script("INFO", answer, whole=True)
@@ -332,7 +343,7 @@ def states_of_reading(fleet, draw):
             in_step(bridge)
             walk(f"{state} | everything is to be read once more")
 
-        script.script("INFO", of_another_run, whole=True)
+        script.script("INFO", of_another_run, 2, whole=True)
         starts_again(script.cut, "BEHIND")
         script.script("HMGET ds:snapshot at items", CUT)
         starts_again(lambda: gap("i"), "GAP")  # the next meeting names the first run
