@@ -76,19 +76,18 @@ struct watched {
     bool counts_anew; /* its count isn't one: it begins anew, since no more could be added to it */
 };
 
-/* Puts the entries for which the last look looked, and that aren't in the snapshot. */
+/* Puts how many of the entries for which the last look looked aren't in the snapshot, and then these. */
 static void put_witnesses(const struct ds_fleet *fleet, struct entry_id at, struct question *question, char count[COUNT_TEXT],
                           char text[WITNESSES][DS_FLEET_ID]) {
     struct entry_id ids[WITNESSES];
     int found = 0;
     comparing_witnesses(fleet, ids);
-    question_put_text(question, count);
     for (int i = 0; i < WITNESSES; i++) {
-        if (!is_above(ids[i], at)) continue;
-        write_entry_id(text[found], ids[i]);
-        question_put_text(question, text[found++]);
+        if (is_above(ids[i], at)) write_entry_id(text[found++], ids[i]);
     }
     snprintf(count, COUNT_TEXT, "%d", found);
+    question_put_text(question, count);
+    for (int i = 0; i < found; i++) question_put_text(question, text[i]);
 }
 
 static void ask_to_write(struct ds_fleet *fleet, const struct text *held, const struct watched *watched) {

@@ -125,10 +125,17 @@ def three_owners_of_a_key(fleet, draw):
     assert {it.encode() for it in lines[1:]} <= set(fleet.told()), "an item is compacted away"
 
 
+def peak_of(bridge):
+    """Returns how many kilobytes of addresses a bridge had at most."""
+    with open(f"/proc/{bridge.process.pid}/status", encoding="ascii") as status:
+        return next(int(it.split()[1]) for it in status if it.startswith("VmPeak"))
+
+
 def answers_that_are_too_long(fleet, draw):
     """A length that no question asked for ends the connection at once, and no client waits for it."""
     script = fleet.adopt(Scripted(fleet.port))
     bridge = fleet.start(url=script.url())
+    peak = peak_of(bridge)
     for at, made in enumerate((b"*2147483647\r\n", b"$999999999999\r\n", b"$2147483648\r\n", b"*-2\r\n", b"$1x\r\n", b"what\r\n", b"*65537\r\n")):
         before, begun = bridge.said().count("more than was asked for"), time.monotonic()
         script.script("XLEN", made)
@@ -136,9 +143,7 @@ def answers_that_are_too_long(fleet, draw):
         assert time.monotonic() - begun < 3, f"{made}: its change is answered after {time.monotonic() - begun:.1f} s"
         if at == 0:
             assert bridge.said().count("more than was asked for") == before + 1, bridge.said()
-    with open(f"/proc/{bridge.process.pid}/status", encoding="ascii") as status:
-        peak = next(int(it.split()[1]) for it in status if it.startswith("VmPeak"))
-    assert peak < 1 << 20, f"it took {peak >> 10} MB"
+    assert peak_of(bridge) - peak < 1 << 20, f"it took {(peak_of(bridge) - peak) >> 10} MB"
 
 
 def an_answer_that_trickles(fleet, draw):
