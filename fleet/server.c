@@ -46,7 +46,7 @@ static void lengthen_pause(struct server *server) {
     server->call_at = clock_now() + server->pause - chance % (server->pause / 2);
 }
 
-/* What got no answer is asked again. */
+/* Questions without an answer are sent again to the next server. */
 static void cut_rounds(struct ds_fleet *fleet) {
     fleet->server.round = NULL;
     telling_cut(&fleet->telling);
