@@ -505,7 +505,8 @@ def ids_that_go_ahead(fleet, draw):
     fleet.ask("XDEL", "ds:items", newest)
     bridge.resume()
     time.sleep(2 * REST)
-    assert bridge.state()["connections"] == "1", bridge.said()
+    losses = bridge.said().count("event=lost")  # the entry that went is one, for which both connections are made anew
+    assert losses <= 1 and bridge.state()["connections"] == str(1 + losses), bridge.said()
 
 
 def the_last_id_there_is(fleet, draw):
