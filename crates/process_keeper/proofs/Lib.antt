@@ -1,3 +1,4 @@
 pub mod Walking
 pub mod SightLemmas
 pub mod EventLemmas
+pub mod FollowLemmas

@@ -1,5 +1,6 @@
 pub mod Inputs
 pub mod Sight
 pub mod Doing
+pub mod Following
 pub mod Order
 pub mod Happening

@@ -27,7 +27,7 @@ impl Lifecycle {
         }
     }
 
-    fn is_up(&self) -> bool
+    pub(crate) fn is_up(&self) -> bool
         ensures { result ≡ is_running self.now.instance }
     {
         match self.instance {

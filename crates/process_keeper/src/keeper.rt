@@ -4,6 +4,7 @@ ghost use Rattle.std.specs.Prelude.{◌≡◌, ◌≤◌, Some, length, IfOk};
 ghost use Rattle.std.specs.List.{All};
 ghost use Rattle.process_rule.specs.Supervisor.{new_service};
 ghost use Rattle.process_keeper.specs.Sight.{service};
+ghost use Rattle.process_keeper.specs.Following.{FollowsAt};
 ghost use Rattle.process_keeper.specs.Order.{TakesAt};
 
 use crate::input::Input;
@@ -53,6 +54,19 @@ impl Keeper {
             return false;
         }
         self.labels[label].apply(input);
+        true
+    }
+
+    /// Has a label run this generation, or nothing, as RS wants. Nothing changes if it is to do so already. Otherwise its pending start is
+    /// taken back, an instance that is up gets the deadline, and the generation is started. Returns whether there is such a label.
+    pub fn follow(&mut self, label: usize, generation: Option<u64>, deadline: u64) -> bool
+        ensures followed { FollowsAt self.old.labels.items label generation deadline result self.new.labels.items }
+        ensures generations { (self.new.next ≡ self.old.next) × (self.new.file ≡ self.old.file) }
+    {
+        if label >= self.labels.len() {
+            return false;
+        }
+        self.labels[label].follow(generation, deadline);
         true
     }
 }

@@ -1,5 +1,6 @@
 //! Laws: inputs and tasks are events of the rule.
 
+ghost use Rattle.process_keeper.specs.Following.{FollowingIsInputs};
 ghost use Rattle.process_keeper.specs.Happening.{InputsAreEvents, TasksMayBeDone, TruthStays};
 
 /// Laws: each accepted input that is true is an event of the rule, and each task may be done.
@@ -11,4 +12,9 @@ pub fn inputs_are_events()
 /// A law: what a label saw stays true, whatever the kernel and other labels do.
 pub fn truth_stays()
     ensures { TruthStays }
+{}
+
+/// A law: a label that follows RS runs what RS wants, and takes inputs that it accepts.
+pub fn following_is_inputs()
+    ensures { FollowingIsInputs }
 {}

@@ -5,6 +5,7 @@
 #![tactic(auto)]
 
 mod accepting;
+mod following;
 mod generations;
 mod input;
 mod instance;
@@ -21,6 +22,6 @@ mod tests;
 
 pub use input::Input;
 pub use keeper::Keeper;
-pub use laws::{inputs_are_events, truth_stays};
+pub use laws::{following_is_inputs, inputs_are_events, truth_stays};
 pub use scan::Scan;
 pub use task::Task;

@@ -53,7 +53,7 @@ impl Lifecycle {
         }
     }
 
-    fn stop(&mut self, at: u64)
+    pub(crate) fn stop(&mut self, at: u64)
         ensures { self.new ≡ record self.old { instance = with_deadline self.old.instance at; is_scanned = false } }
     {
         self.instance = stopped(self.instance, at);
