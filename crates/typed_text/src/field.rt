@@ -7,11 +7,11 @@ use toml::{Table, Value};
 /// The fields at the top.
 const AT_TOP: [&str; 3] = ["format", "slots", "service"];
 
-/// How many of a service's fields format 1 has: the first ones.
-const OF_FORMAT_1: usize = 6;
+/// The fields of a service of format 1, in the order in which they are judged.
+const OF_FORMAT_1: [&str; 6] = ["label", "class", "unit", "period", "limit", "publishes"];
 
-/// The fields of a service, in the order in which they are judged.
-const OF_SERVICE: [&str; 10] = [
+/// The fields of a service of format 2, likewise.
+const OF_FORMAT_2: [&str; 10] = [
     "label",
     "class",
     "unit",
@@ -34,15 +34,15 @@ pub(crate) const MOST: usize = 64;
 /// format 2 exist if the document names a format.
 pub(crate) fn fields_known(table: &Table, service: Option<usize>) -> &'static [&'static str] {
     match service {
-        Some(_) if table.get("format").is_some() => &OF_SERVICE,
-        Some(_) => &OF_SERVICE[..OF_FORMAT_1],
+        Some(_) if table.get("format").is_some() => &OF_FORMAT_2,
+        Some(_) => &OF_FORMAT_1,
         None => &AT_TOP,
     }
 }
 
 /// Whether only format 2 has a field of this name.
 pub(crate) fn is_of_format_2(field: &str) -> bool {
-    OF_SERVICE[OF_FORMAT_1..].iter().any(|it| *it == field)
+    OF_FORMAT_2.iter().any(|it| *it == field) && !OF_FORMAT_1.iter().any(|it| *it == field)
 }
 
 /// Returns what a field may have.
