@@ -9,7 +9,7 @@ use Rattle.desk_rule.specs.declared.view.View.{View}
 use Rattle.desk.specs.declared.fault.DeskFault.{DeskFault}
 use Rattle.desk.specs.declared.pass.Sight.{Ghosts}
 use Rattle.desk.specs.Pass.{calls, first_place, history, number, opening, Pass}
-use Rattle.desk.specs.Calls.{Calls, FindsNoPlace, IsSamePass, Sees, next_place}
+use Rattle.desk.specs.Calls.{Calls, FindsNoPlace, IsSamePass, SameNotes, Sees, next_place}
 use Rattle.ds_machine.specs.Says.{IsReplyTo}
 use Rattle.ds_machine.specs.declared.command.Command.{Command}
 use Rattle.ds_machine.specs.declared.reply.Reply.{Reply}
@@ -58,8 +58,8 @@ module _ {Z : Type 0} {G : Ghosts (View (BoxedPair Z) RsCommand RsReply)} (p : P
 
 module _ {Z : Type 0} {G : Ghosts (View (BoxedPair Z) RsCommand RsReply)} (p q : Pass (BoxedPair Z) RsCommand RsReply G) where
   -- no call changes which pass it is
-  same_origin : IsSamePass p q → pair_origin q ≡ pair_origin p
-  same_origin s = rw (s.same_desk, s.same_number, s.same_first) refl
+  same_origin : IsSamePass p q → SameNotes p q → pair_origin q ≡ pair_origin p
+  same_origin s notes = rw (s.same_desk, s.same_number, s.same_first, notes.0, notes.1) refl
 
   same_opened : opening q ≡ opening p → option_map boxed_store (opening q) ≡ option_map boxed_store (opening p)
   same_opened e = ap (λ (o : Option (BoxedPair Z)). option_map boxed_store o) e
@@ -70,9 +70,9 @@ module _ {Z : Type 0} {G : Ghosts (View (BoxedPair Z) RsCommand RsReply)} (p q :
       (subst (λ (n : ℕ). calls_by n (history q) ≡ calls q) (sym same.same_number) own)
 
   -- ---- it looked, and called nothing
-  pub sees_made : Sees is_pair RsTurn p q → Made (pair_record p) (pair_record q) []
-  sees_made s = record {
-    same = same_origin s.same;
+  pub sees_made : Sees is_pair RsTurn p q → SameNotes p q → Made (pair_record p) (pair_record q) []
+  sees_made s notes = record {
+    same = same_origin s.same notes;
     same_opening = same_opened s.same.same_opening;
     between = store_entries s.begins.0;
     seen = ap (λ (l : List (Entry RsCommand RsReply)). store_entries l) (sym s.begins.1) ∙ part_both (history p) s.begins.0;
@@ -84,8 +84,8 @@ module _ {Z : Type 0} {G : Ghosts (View (BoxedPair Z) RsCommand RsReply)} (p q :
     just = inr (just_own s.same s.own);
   }
 
-  pub found_worn : (fault : DeskFault) → FindsNoPlace is_pair RsTurn fault p q → FoundWorn (pair_record p) (pair_record q) fault
-  found_worn fault f = record { fault_is = f.0; made = sees_made f.1; full = after_is q ∙ f.3 }
+  pub found_worn : (fault : DeskFault) → SameNotes p q → FindsNoPlace is_pair RsTurn fault p q → FoundWorn (pair_record p) (pair_record q) fault
+  found_worn fault notes f = record { fault_is = f.0; made = sees_made f.1 notes; full = after_is q ∙ f.3 }
 
   -- ---- it called
   replied_from : (o : Option (BoxedPair Z)) → opening p ≡ o → is_some o ≡ true → (command : Command) (reply : RsReply) (place : ℕ) →
@@ -137,10 +137,10 @@ module _ {Z : Type 0} {G : Ghosts (View (BoxedPair Z) RsCommand RsReply)} (p q :
           in_turns = turns_join (history q);
         }
 
-    pub call_made : is_some (opening p) ≡ true → MadeCall (pair_record p) (pair_record q) command reply place
-    call_made some = record {
+    pub call_made : SameNotes p q → is_some (opening p) ≡ true → MadeCall (pair_record p) (pair_record q) command reply place
+    call_made notes some = record {
       made = record {
-        same = same_origin c.same;
+        same = same_origin c.same notes;
         same_opening = same_opened c.same.same_opening;
         between = store_entries c.between ++ new ∷ [];
         seen = ends ∙ append_assoc (store_entries (history p)) (store_entries c.between) (new ∷ []);

@@ -10,7 +10,7 @@ use Rattle.desk_rule.specs.declared.view.View.{View}
 use Rattle.desk.specs.declared.fault.DeskFault.{DeskFault}
 use Rattle.desk.specs.declared.pass.Sight.{Ghosts}
 use Rattle.desk.specs.Pass.{calls, first_place, history, number, opening, Pass}
-use Rattle.desk.specs.Calls.{Calls, FindsNoPlace, IsSamePass, Sees, next_place}
+use Rattle.desk.specs.Calls.{Calls, FindsNoPlace, IsSamePass, SameNotes, Sees, next_place}
 use Rattle.ds_machine.specs.Says.{IsReplyTo}
 use Rattle.ds_machine.specs.State.{State}
 use Rattle.ds_machine.specs.declared.command.Command.{Command}
@@ -49,16 +49,16 @@ module _ {Z : Type 0} {G : Ghosts (View (Boxed Z) Command Reply)} (p : Pass (Box
 
 module _ {Z : Type 0} {G : Ghosts (View (Boxed Z) Command Reply)} (p q : Pass (Boxed Z) Command Reply G) where
   -- no call changes which pass it is
-  same_origin : IsSamePass p q → pass_origin q ≡ pass_origin p
-  same_origin s = rw (s.same_desk, s.same_number, s.same_first) refl
+  same_origin : IsSamePass p q → SameNotes p q → pass_origin q ≡ pass_origin p
+  same_origin s notes = rw (s.same_desk, s.same_number, s.same_first, notes.0, notes.1) refl
 
   same_opened : opening q ≡ opening p → option_map boxed_content (opening q) ≡ option_map boxed_content (opening p)
   same_opened e = ap (λ (o : Option (Boxed Z)). option_map boxed_content o) e
 
   -- ---- it looked, and called nothing
-  pub sees_made : Sees is_content Turn p q → Made (pass_record p) (pass_record q) []
-  sees_made s = record {
-    same = same_origin s.same;
+  pub sees_made : Sees is_content Turn p q → SameNotes p q → Made (pass_record p) (pass_record q) []
+  sees_made s notes = record {
+    same = same_origin s.same notes;
     same_opening = same_opened s.same.same_opening;
     between = s.begins.0;
     seen = sym s.begins.1;
@@ -70,8 +70,8 @@ module _ {Z : Type 0} {G : Ghosts (View (Boxed Z) Command Reply)} (p q : Pass (B
     just = inr (subst (λ (n : ℕ). calls_by n (history q) ≡ calls q) (sym s.same.same_number) s.own);
   }
 
-  pub found_worn : (fault : DeskFault) → FindsNoPlace is_content Turn fault p q → FoundWorn (pass_record p) (pass_record q) fault
-  found_worn fault f = record { fault_is = f.0; made = sees_made f.1; full = after_is q ∙ f.3 }
+  pub found_worn : (fault : DeskFault) → SameNotes p q → FindsNoPlace is_content Turn fault p q → FoundWorn (pass_record p) (pass_record q) fault
+  found_worn fault notes f = record { fault_is = f.0; made = sees_made f.1 notes; full = after_is q ∙ f.3 }
 
   -- ---- it called
   module _ (command : Command) (reply : Reply) (place : ℕ) (c : Calls is_content Turn p q command reply place) where
@@ -102,10 +102,10 @@ module _ {Z : Type 0} {G : Ghosts (View (Boxed Z) Command Reply)} (p q : Pass (B
           in_turns = turns_join (history q);
         }
 
-    pub call_made : is_some (opening p) ≡ true → MadeCall (pass_record p) (pass_record q) command reply place
-    call_made some = record {
+    pub call_made : SameNotes p q → is_some (opening p) ≡ true → MadeCall (pass_record p) (pass_record q) command reply place
+    call_made notes some = record {
       made = record {
-        same = same_origin c.same;
+        same = same_origin c.same notes;
         same_opening = same_opened c.same.same_opening;
         between = c.between ++ entry (number p) command reply ∷ [];
         seen = c.ends ∙ append_assoc (history p) c.between (entry (number p) command reply ∷ []);

@@ -5,7 +5,7 @@ use Rattle.std.specs.declared.boxed.Box.{Box}
 use Rattle.history.specs.declared.entry.Entry.{Entry}
 use Rattle.desk_rule.specs.declared.view.View.{View}
 use Rattle.desk.specs.declared.pass.Sight.{Ghosts}
-use Rattle.desk.specs.Pass.{calls, desk_of, first_place, history, number, opening, Pass}
+use Rattle.desk.specs.Pass.{calls, desk_of, first_place, history, notes_learnt, notes_made, number, opening, Pass}
 use Rattle.ds_machine.specs.declared.command.Command.{Command}
 use Rattle.ds_machine.specs.declared.reply.Reply.{Reply}
 use Rattle.ds_content.specs.Content.{ContentRecord}
@@ -37,7 +37,13 @@ store_turns es = map store_turn es
 
 module _ {Z : Type 0} {G : Ghosts (View (BoxedPair Z) RsCommand RsReply)} where
   abbrev pub pair_origin : Pass (BoxedPair Z) RsCommand RsReply G → PassOrigin
-  pair_origin p = record { desk = desk_of p; number = number p; first = first_place p }
+  pair_origin p = record {
+    desk = desk_of p;
+    number = number p;
+    first = first_place p;
+    made = notes_made p;
+    learnt = notes_learnt p;
+  }
 
   abbrev pub pair_record : Pass (BoxedPair Z) RsCommand RsReply G → PassRecord
   pair_record p = record {

@@ -8,7 +8,7 @@ use Rattle.history.specs.History.{calls_by, IsLegalFrom, Run}
 use Rattle.desk_rule.specs.declared.view.View.{View}
 use Rattle.desk.specs.declared.pass.Sight.{Ghosts}
 use Rattle.atomic_table.specs.Seated.{TableId}
-use Rattle.desk.specs.Pass.{calls, desk_of, first_place, history, number, opening, Pass}
+use Rattle.desk.specs.Pass.{calls, desk_of, first_place, history, notes_learnt, notes_made, number, opening, Pass}
 use Rattle.ds_machine.specs.State.{State}
 use Rattle.ds_machine.specs.declared.command.Command.{Command}
 use Rattle.ds_machine.specs.declared.reply.Reply.{Reply}
@@ -24,14 +24,22 @@ Boxed Z = Box ContentRecord Z
 abbrev pub is_content : {Z : Type 0} → Boxed Z → ContentRecord → Type 0
 is_content m content = m.value ≡ content
 
--- The identity of a pass: its number, its desk, and the place of the desk's first call.
+-- What no call changes of a pass: its desk, its number, the place of the desk's first call, and the notes that it made and learnt.
 pub record PassOrigin : Type 0 where
   pub desk : TableId
   pub number : ℕ
   pub first : ℕ
+  pub made : ℕ
+  pub learnt : ℕ
 
 abbrev pub pass_origin : {Z : Type 0} {G : Ghosts (View (Boxed Z) Command Reply)} → Pass (Boxed Z) Command Reply G → PassOrigin
-pass_origin p = record { desk = desk_of p; number = number p; first = first_place p }
+pass_origin p = record {
+  desk = desk_of p;
+  number = number p;
+  first = first_place p;
+  made = notes_made p;
+  learnt = notes_learnt p;
+}
 
 -- A pass by plain values. At a desk of more than a store, the history and the calls are the store's part of them.
 pub record PassRecord : Type 0 where

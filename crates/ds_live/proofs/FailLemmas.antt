@@ -1,15 +1,14 @@
 -- Why a run fails.
-use Rattle.std.proofs.Common.{All, ◌≡◌, ◌⊎◌, ℕ, zero, suc, ◌/◌, ◌<◌, ◌≤◌, Bool, false, List, [], ◌∷◌, length, map, Option, None, Some, Result, Ok, Err, IfErr, IfSome, IsErrAnd, IsTrue}
+use Rattle.std.proofs.Common.{All, ◌≡◌, ◌⊎◌, ℕ, zero, suc, ◌/◌, ◌<◌, ◌≤◌, Bool, true, false, List, [], ◌∷◌, ◌++◌, length, map, Option, None, Some, Result, Ok, Err, IfErr, IfNone, IfSome, IsErrAnd, IsTrue}
 use Rattle.std.proofs.Common.{refl, sym, subst, ◌∙◌, inl, inr, arith}
-use Rattle.std.specs.Prelude.{nat_le}
+use Rattle.std.specs.Prelude.{is_some, nat_le}
+use Rattle.std.specs.List.{AllByRecursion}
 use Rattle.std.specs.Option.{option_or}
 use Rattle.std.proofs.lemmas.Bool.{and_parts, leb-true}
 use Rattle.std.proofs.lemmas.Option.{IfSome_then}
 use Rattle.std.proofs.lemmas.List.Elements.{All-cons, All-head, All-nil, All-tail}
 use Rattle.ds_live.specs.Back.{AreBack}
 use Rattle.desk_rule.specs.declared.view.View.{View}
-use Rattle.desk.specs.declared.fault.DeskFault.TheVariants.{Noted}
-use Rattle.desk.specs.Pass.{Pass}
 use Rattle.desk.specs.declared.pass.Sight.{Ghosts}
 use Rattle.ds_machine.specs.declared.command.Command.{Command}
 use Rattle.ds_machine.specs.declared.refusal.Refusal.{Refusal}
@@ -26,17 +25,18 @@ use Rattle.desk_store.specs.ExchangeFaults.{IsExchangeFault}
 use Rattle.desk_store.specs.declared.exchange_fault.ExchangeFault.{ExchangeFault}
 use Rattle.desk_store.specs.declared.exchange_fault.ExchangeFault.TheVariants as exchanges
 use Rattle.ds_live.specs.Turns.{FailsFollowing}
-use Rattle.ds_live.specs.Workers.{EndsBy, FailsTask, FailsToFinishTask, HasEnded, StorePass, TookTask, Worked, plain}
+use Rattle.ds_live.specs.Workers.{EndsBy, FailsTask, FailsToFinishTask, HasEnded, IsOf, IsTask, StorePass, TookAll, TookTask, Worked, plain, plain_task}
 use Rattle.ds_live.specs.declared.worker_fault.WorkerFault.{WorkerFault}
 use Rattle.ds_live.specs.declared.worker_fault.WorkerFault.TheVariants as workers
 use Rattle.ds_live.specs.declared.task.Task.{Task}
 use Rattle.ds_live.specs.declared.task.Task.TheVariants.{Exchange, Follow, Publish}
 use Rattle.ds_live.specs.declared.worker.Worker.{Worker}
-use Rattle.ds_live.specs.Fails.{IsCallsFault, IsLiveFault}
-use Rattle.ds_live.specs.Faults.{FailsClosing, FailsLabels, FailsTurns, HasWorkersFault, OneFails, call_fault, exchange_fault, fault_or, lowest_fault, own_fault, refresh_fault, worker_fault}
+use Rattle.ds_live.specs.Fails.{FailsSomewhere, IsCallsFault, IsLiveFault, IsOfRun}
+use Rattle.ds_live.specs.Homes.{Home, IsOfHome, IsNewHome, IsOfNew}
+use Rattle.ds_live.specs.Faults.{CantFinish, FailsHiring, FailsLabels, FailsTurns, HasWorkersFault, IsFaultOr, OneFails, call_fault, exchange_fault, fault_or, lowest_fault, own_fault, refresh_fault, worker_fault}
 use Rattle.ds_live.specs.Run.{IsReady, IsReadyTask, downward, worker_count}
 use Rattle.ds_live.specs.Sizes.{are_fit}
-use Rattle.ds_live.specs.Tasks.{IsSubscriber}
+use Rattle.ds_live.specs.Tasks.{IsSubscriber, passes_in}
 use Rattle.ds_live.specs.declared.live_fault.LiveFault.{LiveFault}
 use Rattle.ds_live.specs.declared.live_fault.LiveFault.TheVariants.{BadLimit, BadSizes, Desk, GateShut, NoRoom, NoThread, Refused, Stopped}
 use Rattle.ds_live.specs.declared.sizes.Sizes.{Sizes}
@@ -134,19 +134,19 @@ finish_calls p q t u cause fault e fails = subst IsCallsFault (sym e) (finished_
 
 -- ---- the fault of a run
 module _ (answers : ℕ → ℕ → Bool → Type 0) (sizes : Sizes) where
-  pub run_by_calls : (fault : LiveFault) → IsCallsFault fault → IsLiveFault answers sizes fault
-  run_by_calls BadLimit is = absurd is
-  run_by_calls BadSizes is = absurd is
-  run_by_calls (Desk fault) is = inl is
-  run_by_calls (Refused refusal) is = is
-  run_by_calls (Stopped done refusal) is = tt
-  run_by_calls GateShut is = absurd is
-  run_by_calls NoThread is = absurd is
-  run_by_calls NoRoom is = tt
+  run_by_calls : (fault : LiveFault) → IsCallsFault fault → FailsSomewhere answers sizes fault → IsLiveFault answers sizes fault
+  run_by_calls BadLimit is some = absurd is
+  run_by_calls BadSizes is some = absurd is
+  run_by_calls (Desk fault) is some = (is, some)
+  run_by_calls (Refused refusal) is some = (is, some)
+  run_by_calls (Stopped done refusal) is some = some
+  run_by_calls GateShut is some = absurd is
+  run_by_calls NoThread is some = absurd is
+  run_by_calls NoRoom is some = tt
 
-  of_cause : (cause : WorkerFault) (fault : LiveFault) → OwnCalls cause → own_fault (Some cause) ≡ Some fault → IsLiveFault answers sizes fault
-  of_cause cause fault own is = let same : worker_fault cause ≡ fault = (let both = sym own.0 ∙ is in cc) in
-      run_by_calls fault (subst IsCallsFault same own.1)
+  of_cause : (cause : WorkerFault) (fault : LiveFault) → OwnCalls cause → own_fault (Some cause) ≡ Some fault → FailsSomewhere answers sizes fault → IsLiveFault answers sizes fault
+  of_cause cause fault own is some = let same : worker_fault cause ≡ fault = (let both = sym own.0 ∙ is in cc) in
+      run_by_calls fault (subst IsCallsFault same own.1) some
 
   turned_away : (cause : WorkerFault) (fault : LiveFault) (index turn : ℕ) → cause ≡ workers.GateShut → own_fault (Some cause) ≡ Some fault → index < worker_count sizes → turn ≤ sizes.changes
       → answers index turn false → IsLiveFault answers sizes fault
@@ -157,15 +157,19 @@ module _ (answers : ℕ → ℕ → Bool → Type 0) (sizes : Sizes) where
   not_given_up cause fault told e is = absurd (let none : None ≡ Some fault = subst (λ (c : WorkerFault). own_fault (Some c) ≡ Some fault) e is in cc)
 
   ended_run : IsTrue (are_fit sizes) → (v w : Worker PassRecord) (cause : WorkerFault) (fault : LiveFault) → IsReady sizes v → v.index < worker_count sizes → EndsBy answers v w cause
-      → own_fault (Some cause) ≡ Some fault → IsLiveFault answers sizes fault
-  ended_run fit v w cause fault ready below (inl h) is =
+      → own_fault (Some cause) ≡ Some fault → FailsSomewhere answers sizes fault → IsLiveFault answers sizes fault
+  ended_run fit v w cause fault ready below (inl h) is some =
       turned_away cause fault v.index h.0 h.3 is below (omega (arith, h.1, ready.turns)) h.4
-  ended_run fit v w cause fault ready below (inr (inl h)) is = not_given_up cause fault h.3 h.4 is
-  ended_run fit v w cause fault ready below (inr (inr h)) is =
-      of_cause cause fault (turned_own sizes fit v.index h.2.index h.0 v.pass h.2.pass w.pass v.task h.2.task w.task cause ready.task h.3 h.5) is
+  ended_run fit v w cause fault ready below (inr (inl h)) is some = not_given_up cause fault h.3 h.4 is
+  ended_run fit v w cause fault ready below (inr (inr h)) is some =
+      of_cause cause fault (turned_own sizes fit v.index h.2.index h.0 v.pass h.2.pass w.pass v.task h.2.task w.task cause ready.task h.3 h.5) is some
 
-  pub failed_run : IsTrue (are_fit sizes) → (v : Worker PassRecord) (fault : LiveFault) → IsReady sizes v → v.index < worker_count sizes → FailsTurns answers v fault → IsLiveFault answers sizes fault
-  failed_run fit v fault ready below h = ended_run fit v h.w h.cause fault ready below h.ends h.fault_is
+  failed_run : IsTrue (are_fit sizes) → (v : Worker PassRecord) (fault : LiveFault) → IsOfRun sizes v → v.index < worker_count sizes → FailsTurns answers v fault → IsLiveFault answers sizes fault
+  failed_run fit v fault is below h = ended_run fit v h.w h.cause fault is.ready below h.ends h.fault_is (inr (inl (record { v = v; is = is; fails = h })))
+
+  finish_failed : (v w : Worker PassRecord) (fault : LiveFault) → IsOfRun sizes v → TookAll answers v w → CantFinish w fault → IsLiveFault answers sizes fault
+  finish_failed v w fault is took h =
+      run_by_calls fault (finish_calls w.pass h.w.pass w.task h.w.task h.cause fault h.fault_is h.fails) (inr (inr (record { v = v; w = w; is = is; took = took; fails = h })))
 
 -- ---- the fault of one of several
 some_at : {F : Type 0} (P : F → Type 0) (o : Option F) (x : F) → o ≡ Some x → IfSome o P → P x
@@ -182,59 +186,76 @@ caused P fs result (inl e) low = subst (λ (o : Option LiveFault). IfSome o (λ 
 caused P fs result (inr e) low = subst (λ (o : Option LiveFault). IfSome o (λ f. (f ≡ NoThread) ⊎ P f)) (sym e)
     (or_some (λ f. (f ≡ NoThread) ⊎ P f) (lowest_fault fs) (Some NoThread) (IfSome_then (lowest_fault fs) low (λ f p. inr p)) (inl refl))
 
--- an earlier fault, or that of a call
-pub still_same : (f : Option LiveFault) → IfSome f (λ told. (f ≡ Some told) ⊎ IsCallsFault told)
-still_same None = tt
-still_same (Some fault) = inl refl
+-- an earlier fault, or one with a property
+pub same_fault : (holds : LiveFault → Type 0) (f : Option LiveFault) → IsFaultOr holds f f
+same_fault holds None = tt
+same_fault holds (Some fault) = inl refl
 
-pub same_or_calls : (e f g : Option LiveFault) → IfSome f (λ told. (e ≡ Some told) ⊎ IsCallsFault told) → IfSome g (λ told. (f ≡ Some told) ⊎ IsCallsFault told)
-    → IfSome g (λ told. (e ≡ Some told) ⊎ IsCallsFault told)
-same_or_calls e f g a b = IfSome_then g b (λ told h. elim h [
-  | inl same ↦ some_at (λ told. (e ≡ Some told) ⊎ IsCallsFault told) f told same a
-  | inr is ↦ inr is
-])
+pub fault_then : (A B C : LiveFault → Type 0) (e f g : Option LiveFault) → IfSome e (λ was. f ≡ Some was) → IsFaultOr A e f → IsFaultOr B f g → ((x : LiveFault) → A x → C x)
+    → ((x : LiveFault) → B x → C x) → IsFaultOr C e g
+fault_then A B C e f None kept a b p q = tt
+fault_then A B C e f (Some told) kept a (inl same) p q = elim (some_at (λ x. (e ≡ Some x) ⊎ ((e ≡ None) × A x)) f told same a) [
+  | inl was ↦ inl was
+  | inr h ↦ inr (h.0, p told h.1)
+]
+fault_then A B C None f (Some told) kept a (inr h) p q = inr (refl, q told h.1)
+fault_then A B C (Some was) f (Some told) kept a (inr h) p q = absurd (let no : None ≡ Some was = sym h.0 ∙ kept in cc)
 
-pub or_room : (a : Option LiveFault) (x : LiveFault) → IsCallsFault x → IfSome (option_or a (Some x)) (λ told. (a ≡ Some told) ⊎ IsCallsFault told)
-or_room (Some fault) x is = inl refl
-or_room None x is = inr is
+pub kept_both : (e f g : Option LiveFault) → IfSome e (λ was. f ≡ Some was) → IfSome f (λ was. g ≡ Some was) → IfSome e (λ was. g ≡ Some was)
+kept_both None f g a b = tt
+kept_both (Some was) f g a b = some_at (λ x. g ≡ Some x) f was a b
+
+pub room_or : (a : Option LiveFault) (x : LiveFault) → x ≡ NoRoom → IsFaultOr (λ told. told ≡ NoRoom) a (option_or a (Some x))
+room_or (Some fault) x is = inl refl
+room_or None x is = inr (refl, is)
+
+pub none_of : (o : Option LiveFault) (b : Bool) → b ≡ is_some o → b ≡ false → o ≡ None
+none_of None b is without = refl
+none_of (Some fault) true is without = absurd (let wrong : true ≡ false = without in cc)
+none_of (Some fault) false is without = absurd (let wrong : false ≡ true = is in cc)
+
+pub one_in : {J : Type 0} (fails : J → LiveFault → Type 0) (xs ys : List J) (x : J) (fault : LiveFault) → fails x fault → OneFails fails (xs ++ x ∷ ys) fault
+one_in fails [] ys x fault h = inl h
+one_in fails (z ∷ xs) ys x fault h = inr (one_in fails xs ys x fault h)
 
 pub or_as : (a b : Option LiveFault) → option_or a b ≡ fault_or a b
 or_as (Some fault) b = refl
 or_as None b = refl
 
 -- what a run returns
-pub told_last : {R : Type 0} (P : LiveFault → Type 0) (own given : Option LiveFault) (result : Result R LiveFault) → IfSome own P
-    → IfSome given (λ told. (own ≡ Some told) ⊎ IsCallsFault told)
-    → IfErr result (λ told. (given ≡ Some told) ⊎ ((told ≡ NoRoom) ⊎ (told ≡ Desk Noted)))
-    → ((f : LiveFault) → IsCallsFault f → P f) → P (Desk Noted) → IfErr result P
-told_last P own given (Ok r) a b c calls noted = tt
-told_last P own given (Err told) a b (inl same) calls noted = elim (some_at (λ told. (own ≡ Some told) ⊎ IsCallsFault told) given told same b) [
+pub told_last : {R : Type 0} (P Q : LiveFault → Type 0) (own given : Option LiveFault) (result : Result R LiveFault) → IfSome own P → IfNone own ((f : LiveFault) → Q f → P f)
+    → IsFaultOr Q own given → IfErr result (λ told. (given ≡ Some told) ⊎ (told ≡ NoRoom)) → P NoRoom → IfErr result P
+told_last P Q own given (Ok r) a then b is room = tt
+told_last P Q own given (Err told) a then b (inl same) room = elim (some_at (λ x. (own ≡ Some x) ⊎ ((own ≡ None) × Q x)) given told same b) [
   | inl was ↦ some_at P own told was a
-  | inr is ↦ calls told is
+  | inr h ↦ (let all : (f : LiveFault) → Q f → P f = subst (λ (o : Option LiveFault). IfNone o ((f : LiveFault) → Q f → P f)) h.0 then in all told h.1)
 ]
-told_last P own given (Err told) a b (inr (inl e)) calls noted = calls told (subst IsCallsFault (sym e) tt)
-told_last P own given (Err told) a b (inr (inr e)) calls noted = subst P (sym e) noted
+told_last P Q own given (Err told) a then b (inr e) room = subst P (sym e) room
 
 -- ---- exits by `?`
-pub labels_fail : {R : Type 0} (count : ℕ) (p q : PassRecord) (result : Result R LiveFault) (call : CallFault) → IsErrAnd result (λ f. f ≡ call_fault call) → FailsLabels count p q call
-    → IfErr result IsCallsFault
-labels_fail count p q (Ok r) call is fails = absurd is
-labels_fail count p q (Err f) call is fails = subst IsCallsFault (sym is) (asked_calls fails.1 q _ call fails.4)
+pub labels_fail : {R : Type 0} (count : ℕ) (home : Home) (p q : PassRecord) (result : Result R LiveFault) (call : CallFault) → IsErrAnd result (λ f. f ≡ call_fault call)
+    → IsOfHome home p → p.calls ≡ [] → FailsLabels count p q call → IfErr result (FailsHiring count home)
+labels_fail count home p q (Ok r) call is from none fails = absurd is
+labels_fail count home p q (Err f) call is from none fails = inr (p, q, call, from, none, fails, is)
 
 pub out_of_memory : {R : Type 0} (P : LiveFault → Type 0) (result : Result R LiveFault) (fault : LiveFault) → IsErrAnd result (λ f. f ≡ fault) → fault ≡ NoRoom → P NoRoom → IfErr result P
 out_of_memory P (Ok r) fault is e p = absurd is
 out_of_memory P (Err f) fault is e p = subst P (sym (is ∙ e)) p
 
-pub calls_told : {R : Type 0} (answers : ℕ → ℕ → Bool → Type 0) (sizes : Sizes) (result : Result R LiveFault) (fault : LiveFault) → IsErrAnd result (λ f. f ≡ fault) → IsCallsFault fault
-    → IfErr result (IsLiveFault answers sizes)
-calls_told answers sizes (Ok r) fault is calls = absurd is
-calls_told answers sizes (Err f) fault is calls = subst (IsLiveFault answers sizes) (sym is) (run_by_calls answers sizes fault calls)
+hiring_failed : (answers : ℕ → ℕ → Bool → Type 0) (sizes : Sizes) (home : Home) (fault : LiveFault) → IsNewHome 1 home → FailsHiring sizes.publishers home fault → IsLiveFault answers sizes fault
+hiring_failed answers sizes home fault new (inl e) = subst (IsLiveFault answers sizes) (sym e) tt
+hiring_failed answers sizes home fault new (inr h) =
+    run_by_calls answers sizes fault (subst IsCallsFault (sym h.6) (asked_calls h.5.1 h.1 _ h.2 h.5.4)) (inl (record { home = home; new = new; fails = inr h }))
 
-pub open_told : {R : Type 0} {M C S : Type 0} {G : Ghosts (View M C S)} (own : Option LiveFault) (ps : List (Pass M C S G)) (result : Result R LiveFault) (fault : LiveFault)
-    → IsErrAnd result (λ f. f ≡ fault) → FailsClosing ps fault → IfErr result (λ told. (own ≡ Some told) ⊎ ((told ≡ NoRoom) ⊎ (told ≡ Desk Noted)))
-open_told own ps (Ok r) fault is fails = absurd is
-open_told own ps (Err f) fault is (inl h) = inr (inl (is ∙ h.0))
-open_told own ps (Err f) fault is (inr h) = inr (inr (is ∙ h.0))
+pub hiring_told : {R : Type 0} (answers : ℕ → ℕ → Bool → Type 0) (sizes : Sizes) (home : Home) (result : Result R LiveFault) (fault : LiveFault) → IsErrAnd result (λ f. f ≡ fault)
+    → IsNewHome 1 home → FailsHiring sizes.publishers home fault → IfErr result (IsLiveFault answers sizes)
+hiring_told answers sizes home (Ok r) fault is new fails = absurd is
+hiring_told answers sizes home (Err f) fault is new fails = subst (IsLiveFault answers sizes) (sym is) (hiring_failed answers sizes home fault new fails)
+
+pub open_told : {R : Type 0} (own : Option LiveFault) (result : Result R LiveFault) (fault : LiveFault) → IsErrAnd result (λ f. f ≡ fault) → fault ≡ NoRoom
+    → IfErr result (λ told. (own ≡ Some told) ⊎ (told ≡ NoRoom))
+open_told own (Ok r) fault is room = absurd is
+open_told own (Err f) fault is room = inr (is ∙ room)
 
 -- ---- jobs
 own_failed : (answers : ℕ → ℕ → Bool → Type 0) (v w : Worker PassRecord) (fault : Option WorkerFault) → HasEnded answers v w fault → IfSome (own_fault fault) (FailsTurns answers v)
@@ -279,25 +300,60 @@ module _ {J : Type 0} {Z : Type 0} {G : Ghosts (View (Boxed Z) Command Reply)} (
   all_idle sizes (j ∷ js) ready = All-cons (λ (j : J). (worker_of j).fault ≡ None) j js (All-head (λ (j : J). IsReady sizes (plain (worker_of j))) j js ready).idle
       (all_idle sizes js (All-tail (λ (j : J). IsReady sizes (plain (worker_of j))) j js ready))
 
-  module _ {T : Type 0} (answers : T → ℕ → ℕ → Bool → Type 0) (gate_of : J → T) (gate : T) (sizes : Sizes) (fit : IsTrue (are_fit sizes)) where
-    one_run : (js : List J) (fault : LiveFault) → All (λ (j : J). IsReady sizes (plain (worker_of j))) js → All (λ (j : J). gate_of j ≡ gate) js
-        → All (λ (j : J). (worker_of j).index < worker_count sizes) js → OneFails (λ (j : J). FailsTurns (answers (gate_of j)) (plain (worker_of j))) js fault
-        → IsLiveFault (answers gate) sizes fault
-    one_run [] fault ready gates below one = absurd one
-    one_run (j ∷ js) fault ready gates below (inl h) =
-        failed_run (answers gate) sizes fit (plain (worker_of j)) fault (All-head (λ (j : J). IsReady sizes (plain (worker_of j))) j js ready)
+  -- a worker of two new desks, before its turns
+  other_of_new : (second : Home) (index : ℕ) (pass : StorePass Z G) (task : Task (StorePass Z G)) → IsNewHome 2 second → IsTask second index pass task
+      → AllByRecursion (IsOfNew 2) (passes_in (plain_task task))
+  other_of_new second index pass Publish new is = tt
+  other_of_new second index pass (Follow f) new is = tt
+  other_of_new second index pass (Exchange other cursor) new is = (record { home = second; new = new; from = is }, tt)
+
+  of_run : (first second : Home) (sizes : Sizes) (w : Worker (StorePass Z G)) → IsNewHome 1 first → IsNewHome 2 second → IsReady sizes (plain w) → IsOf first second w → IsOfRun sizes (plain w)
+  of_run first second sizes w one two ready of = record {
+    ready = ready;
+    first = record { home = first; new = one; from = of.pass };
+    second = other_of_new second w.index w.pass w.task two of.task;
+  }
+
+  module _ {T : Type 0} (answers : T → ℕ → ℕ → Bool → Type 0) (gate_of : J → T) (gate : T) (sizes : Sizes) (first second : Home) (one : IsNewHome 1 first) (two : IsNewHome 2 second) where
+    one_run : IsTrue (are_fit sizes) → (js : List J) (fault : LiveFault) → All (λ (j : J). IsReady sizes (plain (worker_of j))) js → All (λ (j : J). gate_of j ≡ gate) js
+        → All (λ (j : J). IsOf first second (worker_of j)) js → All (λ (j : J). (worker_of j).index < worker_count sizes) js
+        → OneFails (λ (j : J). FailsTurns (answers (gate_of j)) (plain (worker_of j))) js fault → IsLiveFault (answers gate) sizes fault
+    one_run fit [] fault ready gates of below fails = absurd fails
+    one_run fit (j ∷ js) fault ready gates of below (inl h) =
+        failed_run (answers gate) sizes fit (plain (worker_of j)) fault
+        (of_run first second sizes (worker_of j) one two (All-head (λ (j : J). IsReady sizes (plain (worker_of j))) j js ready) (All-head (λ (j : J). IsOf first second (worker_of j)) j js of))
         (All-head (λ (j : J). (worker_of j).index < worker_count sizes) j js below)
         (subst (λ (t : T). FailsTurns (answers t) (plain (worker_of j)) fault) (All-head (λ (j : J). gate_of j ≡ gate) j js gates) h)
-    one_run (j ∷ js) fault ready gates below (inr h) =
-        one_run js fault (All-tail (λ (j : J). IsReady sizes (plain (worker_of j))) j js ready) (All-tail (λ (j : J). gate_of j ≡ gate) j js gates)
-        (All-tail (λ (j : J). (worker_of j).index < worker_count sizes) j js below) h
+    one_run fit (j ∷ js) fault ready gates of below (inr h) =
+        one_run fit js fault (All-tail (λ (j : J). IsReady sizes (plain (worker_of j))) j js ready) (All-tail (λ (j : J). gate_of j ≡ gate) j js gates)
+        (All-tail (λ (j : J). IsOf first second (worker_of j)) j js of) (All-tail (λ (j : J). (worker_of j).index < worker_count sizes) j js below) h
 
     -- the jobs before the run, and the fault of the threads
-    pub run_failed : (js : List J) (fault : Option LiveFault) → All (λ (j : J). IsReady sizes (plain (worker_of j))) js → All (λ (j : J). gate_of j ≡ gate) js
-        → map (λ (j : J). (worker_of j).index) js ≡ downward (length js) → length js ≡ worker_count sizes
+    pub run_failed : IsTrue (are_fit sizes) → (js : List J) (fault : Option LiveFault) → All (λ (j : J). IsReady sizes (plain (worker_of j))) js → All (λ (j : J). gate_of j ≡ gate) js
+        → All (λ (j : J). IsOf first second (worker_of j)) js → map (λ (j : J). (worker_of j).index) js ≡ downward (length js) → length js ≡ worker_count sizes
         → IfSome fault (λ f. (f ≡ NoThread) ⊎ OneFails (λ (j : J). FailsTurns (answers (gate_of j)) (plain (worker_of j))) js f)
         → IfSome fault (IsLiveFault (answers gate) sizes)
-    run_failed js fault ready gates numbered many h = IfSome_then fault h (λ f c. elim c [
+    run_failed fit js fault ready gates of numbered many h = IfSome_then fault h (λ f c. elim c [
       | inl e ↦ subst (IsLiveFault (answers gate) sizes) (sym e) tt
-      | inr one ↦ one_run js f ready gates (all_below (length js) (worker_count sizes) js (omega (arith, many)) numbered) one
+      | inr fails ↦ one_run fit js f ready gates of (all_below (length js) (worker_count sizes) js (omega (arith, many)) numbered) fails
     ])
+
+    -- the jobs before the run and after it, and the fault of one that can't finish
+    one_end : (js ks : List J) (fault : LiveFault) → All (λ (j : J). IsReady sizes (plain (worker_of j))) js → All (λ (j : J). gate_of j ≡ gate) js → All (λ (j : J). IsOf first second (worker_of j)) js
+        → AreBack (λ (j k : J). TookAll (answers (gate_of j)) (plain (worker_of j)) (plain (worker_of k))) 0 js ks → OneFails (λ (k : J). CantFinish (plain (worker_of k))) ks fault
+        → IsLiveFault (answers gate) sizes fault
+    one_end [] ks fault ready gates of none fails = absurd (subst (λ (l : List J). OneFails (λ (k : J). CantFinish (plain (worker_of k))) l fault) none fails)
+    one_end (j ∷ js) [] fault ready gates of none fails = absurd none
+    one_end (j ∷ js) (k ∷ ks) fault ready gates of took (inl h) =
+        finish_failed (answers gate) sizes (plain (worker_of j)) (plain (worker_of k)) fault
+        (of_run first second sizes (worker_of j) one two (All-head (λ (j : J). IsReady sizes (plain (worker_of j))) j js ready) (All-head (λ (j : J). IsOf first second (worker_of j)) j js of))
+        (subst (λ (t : T). TookAll (answers t) (plain (worker_of j)) (plain (worker_of k))) (All-head (λ (j : J). gate_of j ≡ gate) j js gates) took.0) h
+    one_end (j ∷ js) (k ∷ ks) fault ready gates of took (inr h) =
+        one_end js ks fault (All-tail (λ (j : J). IsReady sizes (plain (worker_of j))) j js ready) (All-tail (λ (j : J). gate_of j ≡ gate) j js gates)
+        (All-tail (λ (j : J). IsOf first second (worker_of j)) j js of) took.1 h
+
+    pub end_failed : (js ks : List J) (fault : LiveFault) → All (λ (j : J). IsReady sizes (plain (worker_of j))) js → All (λ (j : J). gate_of j ≡ gate) js
+        → All (λ (j : J). IsOf first second (worker_of j)) js → AreBack (λ (j k : J). TookAll (answers (gate_of j)) (plain (worker_of j)) (plain (worker_of k))) 0 js ks
+        → (fault ≡ NoRoom) ⊎ OneFails (λ (k : J). CantFinish (plain (worker_of k))) ks fault → IsLiveFault (answers gate) sizes fault
+    end_failed js ks fault ready gates of took (inl e) = subst (IsLiveFault (answers gate) sizes) (sym e) tt
+    end_failed js ks fault ready gates of took (inr fails) = one_end js ks fault ready gates of took fails

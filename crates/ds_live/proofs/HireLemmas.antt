@@ -1,6 +1,7 @@
 -- Workers that are hired.
-use Rattle.std.proofs.Common.{All, ◌≡◌, ℕ, zero, suc, Option, ◌+◌, ◌-◌, List, [], ◌∷◌, ◌++◌, length, map, ap, sym, subst, ◌∙◌, arith, add-one, append-nil, append_assoc}
+use Rattle.std.proofs.Common.{All, ◌≡◌, ℕ, zero, suc, Option, Some, ◌+◌, ◌-◌, List, [], ◌∷◌, ◌++◌, length, map, ap, sym, subst, ◌∙◌, arith, add-one, append-nil, append_assoc}
 use Rattle.std.proofs.lemmas.List.{map-append}
+use Rattle.std.specs.Option.{option_map}
 use Rattle.std.proofs.lemmas.List.Elements.{All-cons, All-nil, All-same}
 use Rattle.atomic_table.specs.Seated.{TableId}
 use Rattle.desk.specs.Opening.{AreNewPasses}
@@ -10,10 +11,12 @@ use Rattle.desk.specs.declared.pass.Sight.{Ghosts}
 use Rattle.desk.specs.Pass.{calls}
 use Rattle.ds_machine.specs.declared.command.Command.{Command}
 use Rattle.ds_machine.specs.declared.reply.Reply.{Reply}
-use Rattle.desk_store.specs.Record.{Boxed, pass_record}
+use Rattle.desk_store.specs.Record.{Boxed, boxed_content, pass_record}
+use Rattle.ds_content.specs.Content.{ContentRecord}
 use Rattle.ds_live.specs.Commands.{each_below, publisher_label}
 use Rattle.ds_live.specs.Turns.{AreAccepted, WereAccepted}
-use Rattle.ds_live.specs.Workers.{StorePass, plain_task}
+use Rattle.ds_live.specs.Homes.{Home}
+use Rattle.ds_live.specs.Workers.{IsAtHome, StorePass, plain_task}
 use Rattle.ds_live.specs.declared.task.Task.{Task}
 use Rattle.ds_live.specs.declared.task.Task.TheVariants.{Exchange, Follow, Publish}
 use Rattle.ds_live.specs.Run.{IsReadyTask, downward}
@@ -57,3 +60,17 @@ module _ {Z : Type 0} {G : Ghosts (View (Boxed Z) Command Reply)} where
   new_called_nothing id opened first (suc n) [] none = absurd none
   new_called_nothing id opened first (suc n) (p ∷ ps) new =
       All-cons (λ (p : StorePass Z G). calls p ≡ []) p ps new.0.no_calls (new_called_nothing id opened first n ps new.1)
+
+  -- and are at home there
+  pub new_at_home : (home : Home) (id : TableId) (opened : Boxed Z) (first n : ℕ) (ps : List (StorePass Z G)) → home.desk ≡ id → home.content ≡ opened.value → AreNewPasses id (Some opened) first n ps
+      → All (λ (p : StorePass Z G). IsAtHome home p) ps
+  new_at_home home id opened first zero ps desk content none = All-same (λ (p : StorePass Z G). IsAtHome home p) ps [] none (All-nil (λ (p : StorePass Z G). IsAtHome home p))
+  new_at_home home id opened first (suc n) [] desk content none = absurd none
+  new_at_home home id opened first (suc n) (p ∷ ps) desk content new = All-cons (λ (p : StorePass Z G). IsAtHome home p) p ps
+      (record {
+        desk_is = new.0.desk ∙ sym desk;
+        content_is = ap (λ (o : Option (Boxed Z)). option_map boxed_content o) new.0.opened_with ∙ ap (λ (c : ContentRecord). Some c) (sym content);
+        none_made = new.0.no_notes.0;
+        none_learnt = new.0.no_notes.1;
+      })
+      (new_at_home home id opened first n ps desk content new.1)

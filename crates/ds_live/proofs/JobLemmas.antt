@@ -2,7 +2,6 @@
 use Rattle.std.proofs.Common.{All, ◌≡◌, Some, ℕ, ◌+◌, List, [], ◌∷◌, ◌++◌, length, sum_by, refl, ap, ◌∙◌, arith, length-append}
 use Rattle.std.proofs.lemmas.List.Elements.{All-nil, All-pop, All-push, All-same}
 use Rattle.std.proofs.lemmas.List.Sums.{sum_by_push}
-use Rattle.atomic_table.specs.Seated.{TableId}
 use Rattle.desk_rule.specs.declared.view.View.{View}
 use Rattle.desk.specs.declared.pass.Sight.{Ghosts}
 use Rattle.ds_machine.specs.declared.command.Command.{Command}
@@ -10,6 +9,7 @@ use Rattle.ds_machine.specs.declared.reply.Reply.{Reply}
 use Rattle.desk_store.specs.Record.{Boxed}
 use Rattle.ds_live.specs.declared.task.Task.{Task}
 use Rattle.ds_live.specs.declared.task.Task.TheVariants.{Exchange, Follow, Publish}
+use Rattle.ds_live.specs.Homes.{Home}
 use Rattle.ds_live.specs.Workers.{IsTask, StorePass}
 use Rattle.ds_live.specs.Tasks.{IsOther}
 
@@ -36,7 +36,7 @@ no_length [] e = refl
 no_length (x ∷ l) e = absurd (omega (arith, e))
 
 module _ {Z : Type 0} {G : Ghosts (View (Boxed Z) Command Reply)} where
-  pub other_of : (second : TableId) (index : ℕ) (pass : StorePass Z G) (task : Task (StorePass Z G)) → IsTask second index pass task → IsOther second task
+  pub other_of : (second : Home) (index : ℕ) (pass : StorePass Z G) (task : Task (StorePass Z G)) → IsTask second index pass task → IsOther second task
   other_of second index pass Publish is = tt
   other_of second index pass (Follow follower) is = tt
   other_of second index pass (Exchange other cursor) is = is

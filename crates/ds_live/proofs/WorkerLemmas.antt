@@ -1,15 +1,14 @@
 -- Workers that come back.
-use Rattle.std.proofs.Common.{◌≡◌, ℕ, suc, ◌+◌, ◌/◌, ◌<◌, Bool, true, List, [], ◌++◌, refl, ◌∙◌, sym, subst, inr, arith, add-one, length-append}
+use Rattle.std.proofs.Common.{◌≡◌, ℕ, suc, ◌+◌, ◌/◌, ◌<◌, Bool, true, List, [], ◌++◌, refl, ◌∙◌, sym, subst, ap, inr, arith, add-one, length-append}
 use Rattle.history.specs.declared.entry.Entry.{Entry}
-use Rattle.atomic_table.specs.Seated.{TableId}
 use Rattle.desk_rule.specs.declared.view.View.{View}
 use Rattle.desk_rule.proofs.ListLemmas.{all_append}
 use Rattle.desk.specs.declared.pass.Sight.{Ghosts}
 use Rattle.ds_machine.specs.declared.command.Command.{Command}
 use Rattle.ds_machine.specs.declared.reply.Reply.{Reply}
 use Rattle.ds_pattern.specs.declared.query.Query.{Query}
-use Rattle.desk.specs.Calls.{Sees, TakesPending}
-use Rattle.desk_store.specs.Record.{Boxed, PassRecord, is_content, pass_record}
+use Rattle.desk.specs.Calls.{SameNotes, Sees, TakesPending}
+use Rattle.desk_store.specs.Record.{Boxed, PassOrigin, PassRecord, is_content, pass_record}
 use Rattle.desk_store.proofs.PassLemmas.{sees_made}
 use Rattle.desk_store.proofs.RecordLemmas.{made_more, made_none, made_sees_more}
 use Rattle.desk_store.specs.KeepsUp.{KeepsUpWith}
@@ -22,10 +21,20 @@ use Rattle.ds_live.specs.declared.task.Task.{Task}
 use Rattle.ds_live.specs.declared.task.Task.TheVariants.{Exchange, Follow, Publish}
 use Rattle.ds_live.specs.declared.worker.Worker.{Worker}
 use Rattle.ds_live.specs.Commands.{each_below, publisher_number}
+use Rattle.ds_live.specs.Homes.{Home, IsOfHome}
 use Rattle.ds_live.specs.Turns.{HasCalled, HasFollowed, HasRefreshed}
 use Rattle.ds_live.specs.declared.worker_fault.WorkerFault.{WorkerFault}
 use Rattle.ds_live.specs.Workers.{ComesBack, EndsBy, FailsTurn, IsTask, LetsThrough, StorePass, TakesTask, TurnTaken, TookTask, TookTurns, plain_task}
 use Rattle.ds_live.proofs.TurnLemmas.{called_more, called_none, more_accepted, none_accepted, refreshed_later}
+
+-- no call changes the desk of a pass, nor its notes
+pub from_called : (home : Home) (p q : PassRecord) → IsOfHome home p → HasCalled p q → IsOfHome home q
+from_called home p q from called = record {
+  desk_is = ap (λ (o : PassOrigin). o.desk) called.1.same ∙ from.desk_is;
+  content_is = called.1.same_opening ∙ from.content_is;
+  none_made = ap (λ (o : PassOrigin). o.made) called.1.same ∙ from.none_made;
+  none_learnt = ap (λ (o : PassOrigin). o.learnt) called.1.same ∙ from.none_learnt;
+}
 
 module _ {Z : Type 0} {G : Ghosts (View (Boxed Z) Command Reply)} where
   pub is_back : (w : Worker (StorePass Z G)) → ComesBack w w
@@ -41,7 +50,7 @@ module _ {Z : Type 0} {G : Ghosts (View (Boxed Z) Command Reply)} where
   }
 
   -- before the first turn
-  pub took_none : (second : TableId) (index : ℕ) (pass : StorePass Z G) (task : Task (StorePass Z G)) → IsTask second index pass task
+  pub took_none : (second : Home) (index : ℕ) (pass : StorePass Z G) (task : Task (StorePass Z G)) → IsTask second index pass task
       → TookTask index 0 (pass_record pass) (pass_record pass) (plain_task task) (plain_task task)
   took_none second index pass Publish is = none_accepted (pass_record pass)
   took_none second index pass (Follow f) is = record {
@@ -63,15 +72,15 @@ module _ {Z : Type 0} {G : Ghosts (View (Boxed Z) Command Reply)} (p m : StorePa
   followed q f sub bits same takes refreshed =
       record { mid = m; bits = bits; takes = subst (λ (n : ℕ). TakesPending p m (n / 8) bits) same takes; refreshed = refreshed }
 
-  module _ (sees : Sees is_content Turn p m) where
+  module _ (sees : Sees is_content Turn p m) (notes : SameNotes p m) where
     pub looked_keeps : (f : FollowerRecord) → KeepsUpWith (pass_record p) f → KeepsUpWith (pass_record m) f
-    looked_keeps f keeps = keeps_up_later (pass_record p) (pass_record m) f (made_sees_more (pass_record p) (pass_record m) [] (sees_made p m sees)) keeps
+    looked_keeps f keeps = keeps_up_later (pass_record p) (pass_record m) f (made_sees_more (pass_record p) (pass_record m) [] (sees_made p m sees notes)) keeps
 
     pub looked_called : (q : PassRecord) → HasCalled (pass_record m) q → HasCalled (pass_record p) q
-    looked_called q called = called_more (pass_record p) (pass_record m) q ([], sees_made p m sees) called
+    looked_called q called = called_more (pass_record p) (pass_record m) q ([], sees_made p m sees notes) called
 
     pub looked_refreshed : (q : PassRecord) (f : FollowerRecord) → HasRefreshed (pass_record m) q f → HasRefreshed (pass_record p) q f
-    looked_refreshed q f h = refreshed_later (pass_record p) (pass_record m) q f (sees_made p m sees) h
+    looked_refreshed q f h = refreshed_later (pass_record p) (pass_record m) q f (sees_made p m sees notes) h
 
 -- the calls of a follower, after its calls
 pub theirs_both : (f g : FollowerRecord) (own more : List (Entry Command Reply)) → g.sub ≡ f.sub → g.map.query ≡ f.map.query → AreOfFollower f.sub f.map.query own

@@ -1,11 +1,5 @@
 -- The fault of a run, from the faults of its workers.
-use Rattle.std.specs.Prelude.{◌≡◌, ◌≢◌, ◌⊎◌, ℕ, ◌<◌, Bool, true, false, List, [], ◌∷◌, Option, Some, None}
-use Rattle.desk_rule.specs.History.{total_of}
-use Rattle.desk_rule.specs.declared.view.View.{View}
-use Rattle.desk.specs.Closing.{AllLearnt}
-use Rattle.desk.specs.Pass.{Pass, notes_learnt, notes_made}
-use Rattle.desk.specs.declared.fault.DeskFault.TheVariants.{Noted}
-use Rattle.desk.specs.declared.pass.Sight.{Ghosts}
+use Rattle.std.specs.Prelude.{◌≡◌, ◌⊎◌, ℕ, ◌<◌, Bool, true, false, List, [], ◌∷◌, Option, Some, None, IfSome}
 use Rattle.desk_store.specs.declared.exchange_fault.ExchangeFault.{ExchangeFault}
 use Rattle.desk_store.specs.declared.exchange_fault.ExchangeFault.TheVariants as exchanges
 use Rattle.ds_live.specs.declared.live_fault.LiveFault.{LiveFault}
@@ -17,8 +11,9 @@ use Rattle.desk_store.specs.Record.{PassRecord}
 use Rattle.desk_store.specs.declared.refresh_fault.RefreshFault.{RefreshFault}
 use Rattle.desk_store.specs.declared.refresh_fault.RefreshFault.TheVariants as refreshes
 use Rattle.ds_live.specs.Commands.{each_below, publisher_label}
+use Rattle.ds_live.specs.Homes.{Home, IsOfHome}
 use Rattle.ds_live.specs.Turns.{WereAccepted}
-use Rattle.ds_live.specs.Workers.{EndsBy}
+use Rattle.ds_live.specs.Workers.{EndsBy, FailsToFinish}
 use Rattle.ds_live.specs.declared.worker_fault.WorkerFault.{WorkerFault}
 use Rattle.ds_live.specs.declared.worker_fault.WorkerFault.TheVariants as workers
 use Rattle.ds_live.specs.declared.worker.Worker.{Worker}
@@ -92,7 +87,20 @@ FailsLabels count p q fault =
     (index : ℕ) × (mid : PassRecord) × (index < count) × WereAccepted p mid (each_below publisher_label index)
     × FailsAsking mid q (publisher_label index) fault
 
-module _ {M C R : Type 0} {G : Ghosts (View M C R)} where
-  -- Whether the fault is why these passes didn't close their desk: memory ran out, or the passes didn't learn as many notes as they made.
-  abbrev pub FailsClosing : List (Pass M C R G) → LiveFault → Type 0
-  FailsClosing ps fault = ((fault ≡ NoRoom) × AllLearnt ps) ⊎ ((fault ≡ Desk Noted) × (total_of notes_made ps ≢ total_of notes_learnt ps))
+-- Whether the fault is why RS's labels couldn't be published by a pass of this desk that had called nothing: memory ran out, or one of the
+-- calls failed.
+abbrev pub FailsHiring : ℕ → Home → LiveFault → Type 0
+FailsHiring count home fault =
+    (fault ≡ NoRoom)
+    ⊎ ((p q : PassRecord) × (call : CallFault) × IsOfHome home p × (p.calls ≡ []) × FailsLabels count p q call × (fault ≡ call_fault call))
+
+-- Whether the fault is why the worker can't finish after its turns.
+pub record CantFinish (v : Worker PassRecord) (fault : LiveFault) : Type 0 where
+  pub w : Worker PassRecord
+  pub cause : WorkerFault
+  pub fails : FailsToFinish v w cause
+  pub fault_is : fault ≡ worker_fault cause
+
+-- Whether a fault, if there is one, is an earlier one. If there is no earlier one, the property holds of it.
+abbrev pub IsFaultOr : (LiveFault → Type 0) → Option LiveFault → Option LiveFault → Type 0
+IsFaultOr holds earlier fault = IfSome fault (λ told. (earlier ≡ Some told) ⊎ ((earlier ≡ None) × holds told))

@@ -5,6 +5,7 @@ pub mod Workers
 pub mod Dismissed
 pub mod Fails
 pub mod Faults
+pub mod Homes
 pub mod Report
 pub mod Run
 pub mod Sizes

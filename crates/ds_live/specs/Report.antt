@@ -1,5 +1,5 @@
 -- The report of a run.
-use Rattle.std.specs.Prelude.{◌≡◌, ◌+◌, ◌==◌, Bool, List, length, if◌then◌else◌}
+use Rattle.std.specs.Prelude.{◌≡◌, ◌+◌, ◌==◌, Bool, List, length, true, if◌then◌else◌}
 use Rattle.std.specs.List.{list_all}
 use Rattle.std.specs.Cmp.Lexicographic.{pointwise}
 use Rattle.desk.specs.declared.account.Row.{Row}
@@ -36,3 +36,7 @@ is_exact r = r.raises == r.takes + (if r.pending then 1 else 0)
 
 abbrev pub are_exact : List Row → Bool
 are_exact rows = list_all is_exact rows
+
+-- Whether these are the 128 rows of an account, one for each bit of each server, and each is exact.
+abbrev pub IsExactAccount : List Row → Type 0
+IsExactAccount rows = (length rows ≡ 128) × (are_exact rows ≡ true)

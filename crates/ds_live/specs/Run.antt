@@ -1,5 +1,5 @@
 -- A run of threads: what its workers did, and the stores that they left.
-use Rattle.std.specs.Prelude.{All, ◌≡◌, ℕ, zero, suc, ◌+◌, ◌-◌, ◌<◌, ◌≤◌, Bool, List, [], ◌∷◌, ◌++◌, length, map, None}
+use Rattle.std.specs.Prelude.{All, ◌≡◌, ℕ, zero, suc, ◌+◌, ◌-◌, ◌<◌, ◌≤◌, Bool, List, [], ◌∷◌, ◌++◌, length, map, None, Some}
 use Rattle.std.specs.List.{AllByRecursion, flat_map}
 use mathlib.Core.List.{IsPrefix}
 use Rattle.history.specs.declared.entry.Entry.{Entry}
@@ -77,11 +77,12 @@ module _ (sizes : Sizes) where
 
 -- ---- the stores
 
--- Whether the content is that of a store after a legal history, from a new store of this incarnation on. The history extends what each of
--- these passes has seen, and its entries are exactly their calls.
+-- Whether the content is that of a store after a legal history, from a new store of this incarnation on, with which the desk of these
+-- passes was opened. The history extends what each pass has seen, and its entries are exactly the passes' calls.
 pub record ClosesAfter (incarnation : ℕ) (passes : List PassRecord) (closed : ContentRecord) : Type 0 where
   pub opened : ContentRecord
   pub new : ContentStands opened (opening incarnation 0 256 larger)
+  pub same_opening : AllByRecursion (λ (p : PassRecord). p.opened ≡ Some opened) passes
   pub history : List (Entry Command Reply)
   pub run : Run Turn opened history closed
   pub begins : AllByRecursion (λ (p : PassRecord). IsPrefix p.history history) passes

@@ -1,9 +1,7 @@
 -- What a worker's task has: a pass of the second desk, or a follower.
 use Rattle.std.specs.Prelude.{◌≡◌, ℕ, ◌+◌, ◌-◌, ◌*◌, ◌<◌, ◌≤◌, List, [], ◌∷◌}
-use Rattle.atomic_table.specs.Seated.{TableId}
 use Rattle.desk_rule.specs.declared.view.View.{View}
 use Rattle.desk.specs.declared.pass.Sight.{Ghosts}
-use Rattle.desk.specs.Pass.{desk_of}
 use Rattle.ds_machine.specs.declared.command.Command.{Command}
 use Rattle.ds_machine.specs.declared.reply.Reply.{Reply}
 use Rattle.desk_store.specs.Record.{Boxed}
@@ -11,7 +9,8 @@ use Rattle.desk_store.specs.Follower.{FollowerRecord}
 use Rattle.ds_live.specs.declared.task.Task.{Task}
 use Rattle.ds_live.specs.declared.task.Task.TheVariants.{Exchange, Follow, Publish}
 use Rattle.ds_live.specs.Commands.{every_key}
-use Rattle.ds_live.specs.Workers.{StorePass}
+use Rattle.ds_live.specs.Homes.{Home}
+use Rattle.ds_live.specs.Workers.{IsAtHome, StorePass}
 use Rattle.ds_live.specs.declared.sizes.Sizes.{Sizes}
 
 -- The follower of a task, if it has one.
@@ -26,10 +25,10 @@ passes_in _ = []
 
 module _ {Z : Type 0} {G : Ghosts (View (Boxed Z) Command Reply)} where
   -- Whether the task's pass, if it has one, is of the desk.
-  abbrev pub IsOther : TableId → Task (StorePass Z G) → Type 0
+  abbrev pub IsOther : Home → Task (StorePass Z G) → Type 0
   IsOther second Publish = Unit {0}
   IsOther second (Follow follower) = Unit {0}
-  IsOther second (Exchange other cursor) = desk_of other ≡ second
+  IsOther second (Exchange other cursor) = IsAtHome second other
 
 -- Whether subscriber s, worker `publishers` + s, follows all keys by subscription 8 s.
 pub record IsSubscriber (sizes : Sizes) (index : ℕ) (f : FollowerRecord) : Type 0 where

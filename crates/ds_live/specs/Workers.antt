@@ -1,11 +1,10 @@
 -- Workers that come back from their threads.
 use Rattle.std.specs.Prelude.{◌≡◌, ◌⊎◌, ℕ, zero, suc, ◌<◌, ◌≤◌, Bool, true, false, List, Option, Some, None}
 use Rattle.history.specs.declared.entry.Entry.{Entry}
-use Rattle.atomic_table.specs.Seated.{TableId}
 use Rattle.ds_live.specs.declared.given_up.Told.{Told}
 use Rattle.desk_rule.specs.declared.view.View.{View}
 use Rattle.desk.specs.declared.pass.Sight.{Ghosts}
-use Rattle.desk.specs.Pass.{desk_of, Pass}
+use Rattle.desk.specs.Pass.{Pass}
 use Rattle.ds_machine.specs.declared.command.Command.{Command}
 use Rattle.ds_machine.specs.declared.reply.Reply.{Reply}
 use Rattle.desk_store.specs.Called.{Made}
@@ -24,12 +23,17 @@ use Rattle.ds_live.specs.declared.task.Task.{Task}
 use Rattle.ds_live.specs.declared.task.Task.TheVariants.{Exchange, Follow, Publish}
 use Rattle.ds_live.specs.declared.worker.Worker.{Worker}
 use Rattle.ds_live.specs.Commands.{each_below, publisher_number}
+use Rattle.ds_live.specs.Homes.{Home, IsOfHome}
 use Rattle.ds_live.specs.Turns.{FailsBringingUp, FailsFollowing, FailsHandingOver, HasCalled, HasExchanged, HasExchangedOften}
 use Rattle.ds_live.specs.Turns.{HasFollowedOn, HasRefreshed, IsBroughtUp, IsHandedOver, WasAccepted, WereAccepted}
 
 -- The type of a pass at a store's desk.
 abbrev pub StorePass : (Z : Type 0) → Ghosts (View (Boxed Z) Command Reply) → Type 0
 StorePass Z G = Pass (Boxed Z) Command Reply G
+
+-- Whether the pass is one of the desk's, and made and learnt no note.
+abbrev pub IsAtHome : {Z : Type 0} {G : Ghosts (View (Boxed Z) Command Reply)} → Home → StorePass Z G → Type 0
+IsAtHome home p = IsOfHome home (pass_record p)
 
 -- How many passes of the second desk a task has.
 abbrev pub others_in : {P : Type 0} → Task P → ℕ
@@ -39,14 +43,14 @@ others_in _ = 0
 module _ {Z : Type 0} {G : Ghosts (View (Boxed Z) Command Reply)} where
   -- Whether the task fits the worker: a publisher is one of eight, a follower keeps up with the pass, and an exchange has a pass of the
   -- second desk.
-  abbrev pub IsTask : TableId → ℕ → StorePass Z G → Task (StorePass Z G) → Type 0
+  abbrev pub IsTask : Home → ℕ → StorePass Z G → Task (StorePass Z G) → Type 0
   IsTask second index pass Publish = index < 8
   IsTask second index pass (Follow follower) = KeepsUpWith (pass_record pass) follower
-  IsTask second index pass (Exchange other cursor) = desk_of other ≡ second
+  IsTask second index pass (Exchange other cursor) = IsAtHome second other
 
   -- Whether the worker's pass is of the first desk, and its task's pass is of the second.
-  pub record IsOf (first second : TableId) (w : Worker (StorePass Z G)) : Type 0 where
-    pub pass : desk_of w.pass ≡ first
+  pub record IsOf (first second : Home) (w : Worker (StorePass Z G)) : Type 0 where
+    pub pass : IsAtHome first w.pass
     pub task : IsTask second w.index w.pass w.task
 
   -- Whether w is the worker v after calls of its own. Its number and its passes are the same, each still of its desk.
@@ -55,7 +59,7 @@ module _ {Z : Type 0} {G : Ghosts (View (Boxed Z) Command Reply)} where
     pub same_turns : w.turns ≡ v.turns
     pub same_others : others_in w.task ≡ others_in v.task
     pub called : HasCalled (pass_record v.pass) (pass_record w.pass)
-    pub still : (first second : TableId) → IsOf first second v → IsOf first second w
+    pub still : (first second : Home) → IsOf first second v → IsOf first second w
 
   -- ---- workers by plain values
   abbrev pub plain_task : Task (StorePass Z G) → Task PassRecord

@@ -1,11 +1,11 @@
 //! The end of a run.
 
-ghost use Rattle.std.specs.Prelude.{All, ◌≡◌, ◌≤◌, length, true, IfOk, IfErr};
+ghost use Rattle.std.specs.Prelude.{All, ◌≡◌, ◌≤◌, length, IfOk, IfErr};
 ghost use Rattle.desk.specs.Closing.{LeavesHistory};
-ghost use Rattle.desk.specs.Desk.{first_call, identity, opened_with, pass_count};
-ghost use Rattle.desk.specs.Pass.{desk_of};
-ghost use Rattle.ds_live.specs.Faults.{FailsClosing};
-ghost use Rattle.ds_live.specs.Report.{are_exact};
+ghost use Rattle.desk.specs.Desk.{first_call, opened_with, pass_count};
+ghost use Rattle.ds_live.specs.Homes.{home_of};
+ghost use Rattle.ds_live.specs.Report.{IsExactAccount};
+ghost use Rattle.ds_live.specs.Workers.{IsAtHome};
 ghost use Rattle.ds_machine.specs.Owed.{owed_by};
 ghost use Rattle.desk_store.specs.Record.{is_content};
 ghost use Rattle.ds_store.specs.Turns.{Turn};
@@ -15,24 +15,24 @@ use desk::{Closed, Desk, DeskFault, Pass, Passes};
 use ds_store::Store;
 use std::alloc::Global;
 
-/// Closes a desk with all of its passes.
+/// Closes a desk with all of its passes, none of which made a note. Fails only if memory runs out.
 pub(crate) fn close_desk(
     alloc: Global,
     desk: Desk<Box<Store>>,
     passes: Vec<Pass<Box<Store>>>,
 ) -> Result<Closed<Box<Store>>, LiveFault>
-    requires home { All (λ p. desk_of p ≡ identity desk) passes.items }
+    requires home { All (λ p. IsAtHome (home_of desk) p) passes.items }
     requires all { pass_count desk ≤ length passes.items }
     ensures history { IfOk result (λ closed.
         LeavesHistory is_content Turn owed_by (opened_with desk) (first_call desk) passes.items closed) }
-    ensures account { IfOk result (λ closed. are_exact closed.account ≡ true) }
-    ensures fault { IfErr result (FailsClosing passes.items) }
+    ensures account { IfOk result (λ closed. IsExactAccount closed.account) }
+    ensures fault { IfErr result (λ fault. fault ≡ LiveFault.NoRoom) }
 {
     match desk.close(alloc, Passes::of(passes)) {
         Ok(closed) => Ok(closed),
         Err(stop) => match stop.fault {
             DeskFault::NoRoom => Err(LiveFault::NoRoom),
-            fault => Err(LiveFault::Desk(fault)),
+            _ => unreachable!(),
         },
     }
 }

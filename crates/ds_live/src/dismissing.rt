@@ -3,11 +3,10 @@
 ghost use Rattle.std.specs.Prelude.{All, ◌≡◌, ◌⊎◌, ◌≤◌, ◌<◌, ◌+◌, ◌++◌, ◌∷◌, [], length, map, sum_by};
 ghost use Rattle.std.specs.Prelude.{vec_capacity, OnOk, IfErr, IfNone, IfSome};
 ghost use Rattle.std.specs.declared.option.Option.TheVariants.{Some};
-ghost use Rattle.desk.specs.Desk.{identity};
-ghost use Rattle.desk.specs.Pass.{desk_of};
-ghost use Rattle.ds_live.specs.Workers.{ComesBack, Finishes, IsOf, others_in, plain};
+ghost use Rattle.ds_live.specs.Workers.{ComesBack, Finishes, IsAtHome, IsOf, others_in, plain};
 ghost use Rattle.ds_live.specs.Dismissed.{HandBack};
-ghost use Rattle.ds_live.specs.Fails.{IsCallsFault};
+ghost use Rattle.ds_live.specs.Faults.{CantFinish, IsFaultOr, OneFails};
+ghost use Rattle.ds_live.specs.Homes.{home_of};
 ghost use Rattle.ds_live.specs.Tasks.{IsOther, followers_in, passes_in};
 
 use crate::back::Back;
@@ -31,18 +30,20 @@ pub(crate) fn dismiss<R: Wait, G: Gate>(
     mut fault: Option<LiveFault>,
     back: &mut Back<Pass<Box<Store>>>,
 ) -> Option<LiveFault>
-    requires of_desks { All (λ j. IsOf (identity desks.now.first) (identity desks.now.second) j.worker) jobs.items }
+    requires of_desks { All (λ j. IsOf (home_of desks.now.first) (home_of desks.now.second) j.worker) jobs.items }
     requires taken { (back.old.passes.items ≡ []) × (back.old.others.items ≡ []) × (back.old.followers.items ≡ []) }
     requires room { length jobs.items ≤ vec_capacity back.old.passes }
     requires others_room { sum_by (λ j. others_in j.worker.task) jobs.items ≤ vec_capacity back.old.others }
-    ensures passes { All (λ p. desk_of p ≡ identity desks.now.first) back.new.passes.items }
-    ensures others { All (λ p. desk_of p ≡ identity desks.now.second) back.new.others.items }
+    ensures passes { All (λ p. IsAtHome (home_of desks.now.first) p) back.new.passes.items }
+    ensures others { All (λ p. IsAtHome (home_of desks.now.second) p) back.new.others.items }
     ensures all { length back.new.passes.items ≡ length jobs.entry.items }
     ensures all_others { length back.new.others.items ≡ sum_by (λ j. others_in j.worker.task) jobs.entry.items }
     ensures finished { IfNone result (HandBack (map (λ j. j.worker) jobs.entry.items)
         back.new.passes.items back.new.others.items back.new.followers.items) }
     ensures kept { IfSome fault (λ was. result ≡ Some was) }
-    ensures cause { IfSome result (λ told. (fault ≡ Some told) ⊎ IsCallsFault told) }
+    ensures cause { IsFaultOr
+        (λ told. (told ≡ LiveFault.NoRoom) ⊎ OneFails (λ j. CantFinish (plain j.worker)) jobs.entry.items told)
+        fault result }
 {
     while let Some(job) = jobs.pop() {
         let Turns { mut worker, .. } = job;
@@ -59,11 +60,11 @@ fn hand_back(
     fault: Option<LiveFault>,
     back: &mut Back<Pass<Box<Store>>>,
 ) -> Option<LiveFault>
-    requires task { IsOther (identity second.now) worker.task }
-    requires others { All (λ p. desk_of p ≡ identity second.now) back.old.others.items }
+    requires task { IsOther (home_of second.now) worker.task }
+    requires others { All (λ p. IsAtHome (home_of second.now) p) back.old.others.items }
     requires room { length back.old.passes.items < vec_capacity back.old.passes }
     requires others_room { others_in worker.task + length back.old.others.items ≤ vec_capacity back.old.others }
-    ensures home { All (λ p. desk_of p ≡ identity second.now) back.new.others.items }
+    ensures home { All (λ p. IsAtHome (home_of second.now) p) back.new.others.items }
     ensures all { length back.new.others.items ≡ others_in worker.task + length back.old.others.items }
     ensures room { (vec_capacity back.new.passes ≡ vec_capacity back.old.passes)
         × (vec_capacity back.new.others ≡ vec_capacity back.old.others) }
@@ -71,7 +72,7 @@ fn hand_back(
     ensures others { back.new.others.items ≡ back.old.others.items ++ passes_in worker.task }
     ensures followers { IfNone result (back.new.followers.items ≡ back.old.followers.items ++ followers_in worker.task) }
     ensures kept { IfSome fault (λ was. result ≡ Some was) }
-    ensures cause { IfSome result (λ told. (fault ≡ Some told) ⊎ IsCallsFault told) }
+    ensures cause { IsFaultOr (λ told. told ≡ LiveFault.NoRoom) fault result }
 {
     let Worker { pass, task, .. } = worker;
     back.passes.push_reserved(pass);
@@ -89,11 +90,11 @@ fn finish<W: Wait>(
     worker: &mut StoreWorker,
     fault: Option<LiveFault>,
 ) -> Option<LiveFault>
-    requires { IsOf (identity desks.now.first) (identity desks.now.second) worker.old }
+    requires { IsOf (home_of desks.now.first) (home_of desks.now.second) worker.old }
     ensures back { ComesBack worker.old worker.new }
     ensures kept { IfSome fault (λ was. result ≡ Some was) }
     ensures done { IfNone result (Finishes (plain worker.old) (plain worker.new)) }
-    ensures cause { IfSome result (λ told. (fault ≡ Some told) ⊎ IsCallsFault told) }
+    ensures cause { IsFaultOr (CantFinish (plain worker.old)) fault result }
 {
     if fault.is_some() {
         return fault;
@@ -110,10 +111,10 @@ fn collect(
     task: Task<Pass<Box<Store>>>,
     back: &mut Back<Pass<Box<Store>>>,
 ) -> Result<(), LiveFault>
-    requires task { IsOther (identity second.now) task }
-    requires others { All (λ p. desk_of p ≡ identity second.now) back.old.others.items }
+    requires task { IsOther (home_of second.now) task }
+    requires others { All (λ p. IsAtHome (home_of second.now) p) back.old.others.items }
     requires room { others_in task + length back.old.others.items ≤ vec_capacity back.old.others }
-    ensures home { All (λ p. desk_of p ≡ identity second.now) back.new.others.items }
+    ensures home { All (λ p. IsAtHome (home_of second.now) p) back.new.others.items }
     ensures all { length back.new.others.items ≡ others_in task + length back.old.others.items }
     ensures room { vec_capacity back.new.others ≡ vec_capacity back.old.others }
     ensures passes { back.new.passes ≡ back.old.passes }

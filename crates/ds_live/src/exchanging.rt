@@ -28,7 +28,7 @@ pub(crate) fn exchange<W: Wait>(
     requires second { desk_of other.old ≡ identity second.now }
     ensures stays { desk_of pass.new ≡ desk_of pass.old }
     ensures other_stays { desk_of other.new ≡ desk_of other.old }
-    ensures called { HasCalled (seen pass.old) (seen pass.new) }
+    ensures called { HasCalled (seen pass.old) (seen pass.new) × HasCalled (seen other.old) (seen other.new) }
     ensures exchanged { IfOk result (HasExchanged (seen pass.old) (seen pass.new) (seen other.old) (seen other.new) cursor.old cursor.new) }
     ensures fault { IfErr result (IsExchangeFault (seen pass.old) (seen pass.new) (seen other.old) (seen other.new)) }
 {
@@ -76,7 +76,7 @@ pub(crate) fn hand_over<W: Wait>(
     requires second { desk_of other.old ≡ identity second.now }
     ensures stays { desk_of pass.new ≡ desk_of pass.old }
     ensures other_stays { desk_of other.new ≡ desk_of other.old }
-    ensures called { HasCalled (seen pass.old) (seen pass.new) }
+    ensures called { HasCalled (seen pass.old) (seen pass.new) × HasCalled (seen other.old) (seen other.new) }
     ensures handed { OnOk result (IsHandedOver (seen pass.new) (seen other.new)) }
     ensures exchanged { OnOk result ((count : ℕ)
         × HasExchangedOften count (seen pass.old) (seen pass.new) (seen other.old) (seen other.new) cursor.old cursor.new) }

@@ -2,18 +2,15 @@
 
 ghost use Rattle.std.specs.Prelude.{All, ◌≡◌, ◌≤◌, ◌<◌, ◌+◌, ◌-◌, ◌*◌, [], length, map, sum_by, vec_capacity, None};
 ghost use Rattle.std.specs.Prelude.{IfErr, IfOk, IsTrue, OnOk};
-ghost use Rattle.desk.specs.Desk.{identity, opened_with, pass_count};
+ghost use Rattle.desk.specs.Desk.{identity, pass_count};
 ghost use Rattle.desk.specs.Pass.{calls, desk_of};
-ghost use Rattle.ds_content.specs.Stands.{ContentStands};
-ghost use Rattle.ds_held.specs.Limits.{larger};
-ghost use Rattle.ds_machine.specs.State.{opening};
 ghost use Rattle.desk_store.specs.Record.{pass_record};
 ghost use Rattle.desk_store.specs.Follower.{new_follower};
 ghost use Rattle.ds_live.specs.Commands.{each_below, every_key, publisher_label};
-ghost use Rattle.ds_live.specs.Turns.{WereAccepted};
-ghost use Rattle.ds_live.specs.Workers.{IsOf, IsTask, others_in, plain};
-ghost use Rattle.ds_live.specs.Fails.{IsCallsFault};
-ghost use Rattle.ds_live.specs.Faults.{FailsLabels};
+ghost use Rattle.ds_live.specs.Turns.{HasCalled, WereAccepted};
+ghost use Rattle.ds_live.specs.Workers.{IsAtHome, IsOf, IsTask, others_in, plain};
+ghost use Rattle.ds_live.specs.Faults.{FailsHiring, FailsLabels};
+ghost use Rattle.ds_live.specs.Homes.{Home, IsNewHome, home_of};
 ghost use Rattle.ds_live.specs.Run.{IsReady, downward};
 ghost use Rattle.ds_live.specs.Sizes.{are_fit};
 ghost use Rattle.ds_live.specs.Tasks.{IsHired};
@@ -44,10 +41,10 @@ pub(crate) fn open_desk(
     passes: u32,
 ) -> Result<(Desk<Box<Store>>, Vec<Pass<Box<Store>>>), LiveFault>
     requires { (0 < passes) × (passes ≤ 64) }
-    ensures home { IfOk result (λ d. All (λ p. desk_of p ≡ identity d.0) d.1.items) }
+    ensures home { IfOk result (λ d. All (λ p. IsAtHome (home_of d.0) p) d.1.items) }
     ensures count { IfOk result (λ d. (pass_count d.0 ≡ passes) × (length d.1.items ≡ passes)) }
     ensures fresh { IfOk result (λ d. All (λ p. calls p ≡ []) d.1.items) }
-    ensures opened { IfOk result (λ d. ContentStands (opened_with d.0).value (opening incarnation 0 256 larger)) }
+    ensures opened { IfOk result (λ d. IsNewHome incarnation (home_of d.0)) }
     ensures cause { IfErr result (λ fault. fault ≡ LiveFault.NoRoom) }
 {
     let Ok(store) = Store::open(alloc, incarnation, 0, RING) else {
@@ -76,13 +73,13 @@ pub(crate) fn hire<'e, R: Wait, G: Gate>(
     back: &mut Back<Pass<Box<Store>>>,
 ) -> Result<Vec<StoreTurns<'e, R, G>>, LiveFault>
     requires fit { IsTrue (are_fit sizes) }
-    requires passes { All (λ p. desk_of p ≡ identity desks.now.first) back.old.passes.items }
-    requires others { All (λ p. desk_of p ≡ identity desks.now.second) back.old.others.items }
+    requires passes { All (λ p. IsAtHome (home_of desks.now.first) p) back.old.passes.items }
+    requires others { All (λ p. IsAtHome (home_of desks.now.second) p) back.old.others.items }
     requires fresh { All (λ p. calls p ≡ []) back.old.passes.items × All (λ p. calls p ≡ []) back.old.others.items }
     requires none { back.old.followers.items ≡ [] }
     requires count { (length back.old.passes.items ≡ sizes.publishers + sizes.subscribers + 1) × (length back.old.others.items ≡ 1) }
-    ensures can_run { IfOk result (λ js. All (λ j. IsOf (identity j.desks.now.first) (identity j.desks.now.second) j.worker) js.items) }
-    ensures of_desks { IfOk result (λ js. All (λ j. IsOf (identity desks.now.first) (identity desks.now.second) j.worker) js.items) }
+    ensures can_run { IfOk result (λ js. All (λ j. IsOf (home_of j.desks.now.first) (home_of j.desks.now.second) j.worker) js.items) }
+    ensures of_desks { IfOk result (λ js. All (λ j. IsOf (home_of desks.now.first) (home_of desks.now.second) j.worker) js.items) }
     ensures all { IfOk result (λ js. length js.items ≡ length back.old.passes.items) }
     ensures one { IfOk result (λ js. sum_by (λ j. others_in j.worker.task) js.items ≡ 1) }
     ensures ready { IfOk result (λ js. All (λ j. IsReady sizes (plain j.worker)) js.items) }
@@ -92,7 +89,7 @@ pub(crate) fn hire<'e, R: Wait, G: Gate>(
     ensures taken { IfOk result (λ js.
         (back.new.passes.items ≡ []) × (back.new.others.items ≡ []) × (back.new.followers.items ≡ [])) }
     ensures room { (length back.old.passes.items ≤ vec_capacity back.new.passes) × (1 ≤ vec_capacity back.new.others) }
-    ensures cause { IfErr result IsCallsFault }
+    ensures cause { IfErr result (FailsHiring sizes.publishers (home_of desks.now.first)) }
 {
     let Ok(mut jobs) = Vec::with_capacity(alloc, back.passes.len()) else {
         return Err(LiveFault::NoRoom);
@@ -151,7 +148,7 @@ fn publish_labels<W: Wait>(
 ) -> Result<(), CallFault>
     requires of_desk { desk_of pass.old ≡ identity desk.now }
     requires few { count ≤ 8 }
-    ensures stays { desk_of pass.new ≡ desk_of pass.old }
+    ensures called { HasCalled (pass_record pass.old) (pass_record pass.new) }
     ensures accepted { OnOk result (WereAccepted (pass_record pass.old) (pass_record pass.new) (each_below publisher_label count)) }
     ensures fault { IfErr result (FailsLabels count (pass_record pass.old) (pass_record pass.new)) }
 {
@@ -170,7 +167,7 @@ fn task_of(
 ) -> Result<Task<Pass<Box<Store>>>, LiveFault>
     requires fit { IsTrue (are_fit sizes) }
     requires index { index < sizes.publishers + sizes.subscribers }
-    ensures task { IfOk result (λ task. (second : _) → IsTask second index pass.now task) }
+    ensures task { IfOk result (λ task. (second : Home) → IsTask second index pass.now task) }
     ensures none { IfOk result (λ task. others_in task ≡ 0) }
     ensures ready { IfOk result (IsHired sizes index) }
     ensures publishes { index < sizes.publishers → IfOk result (λ task. task ≡ Task.Publish) }

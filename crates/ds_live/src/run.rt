@@ -2,14 +2,14 @@
 
 ghost use Rattle.std.specs.Prelude.{All, ◌≡◌, ◌⊎◌, ◌≤◌, length, Err, true, false, IfErr, IfOk, IfSome, OnOk, IsTrue};
 ghost use Rattle.std.specs.declared.option.Option.TheVariants.{Some};
-ghost use Rattle.desk.specs.declared.fault.DeskFault.TheVariants.{Noted};
 ghost use Rattle.desk.specs.Closing.{LeavesHistory};
-ghost use Rattle.desk.specs.Desk.{first_call, identity, opened_with, pass_count};
-ghost use Rattle.desk.specs.Pass.{desk_of};
+ghost use Rattle.desk.specs.Desk.{first_call, opened_with, pass_count};
 ghost use Rattle.ds_live.specs.Fails.{IsLiveFault};
-ghost use Rattle.ds_live.specs.Report.{IsReport, are_exact};
+ghost use Rattle.ds_live.specs.Homes.{home_of};
+ghost use Rattle.ds_live.specs.Report.{IsExactAccount, IsReport};
 ghost use Rattle.ds_live.specs.Run.{RunLeaves};
 ghost use Rattle.ds_live.specs.Sizes.{are_fit};
+ghost use Rattle.ds_live.specs.Workers.{IsAtHome};
 ghost use Rattle.ds_machine.specs.Owed.{owed_by};
 ghost use Rattle.desk_store.specs.Record.{is_content};
 ghost use Rattle.ds_store.specs.Turns.{Turn};
@@ -53,7 +53,7 @@ pub fn live_run<R: Threads + Wait + Sync, G: Gate + Sync>(
     ensures report { IfOk result (λ run.
         IsReport run.first.machine.value.held run.second.machine.value.held run.followers.items run.report) }
     ensures account { IfOk result (λ run.
-        (run.report.account ≡ true) × (are_exact run.first.account ≡ true) × (are_exact run.second.account ≡ true)) }
+        (run.report.account ≡ true) × IsExactAccount run.first.account × IsExactAccount run.second.account) }
 {
     if !sizes.are_fit() {
         return Err(LiveFault::BadSizes);
@@ -82,10 +82,10 @@ fn close_both(
     back: Back<Pass<Box<Store>>>,
     fault: Option<LiveFault>,
 ) -> Result<LiveRun, LiveFault>
-    requires passes { All (λ p. desk_of p ≡ identity first) back.passes.items × (pass_count first ≤ length back.passes.items) }
-    requires others { All (λ p. desk_of p ≡ identity second) back.others.items × (pass_count second ≤ length back.others.items) }
+    requires passes { All (λ p. IsAtHome (home_of first) p) back.passes.items × (pass_count first ≤ length back.passes.items) }
+    requires others { All (λ p. IsAtHome (home_of second) p) back.others.items × (pass_count second ≤ length back.others.items) }
     ensures fault { IfSome fault (λ was. result ≡ Err was) }
-    ensures cause { IfErr result (λ told. (fault ≡ Some told) ⊎ ((told ≡ LiveFault.NoRoom) ⊎ (told ≡ LiveFault.Desk Noted))) }
+    ensures cause { IfErr result (λ told. (fault ≡ Some told) ⊎ (told ≡ LiveFault.NoRoom)) }
     ensures first { IfOk result (λ run.
         LeavesHistory is_content Turn owed_by (opened_with first) (first_call first) back.passes.items run.first) }
     ensures second { IfOk result (λ run.
@@ -94,7 +94,7 @@ fn close_both(
     ensures report { IfOk result (λ run.
         IsReport run.first.machine.value.held run.second.machine.value.held run.followers.items run.report) }
     ensures account { IfOk result (λ run.
-        (run.report.account ≡ true) × (are_exact run.first.account ≡ true) × (are_exact run.second.account ≡ true)) }
+        (run.report.account ≡ true) × IsExactAccount run.first.account × IsExactAccount run.second.account) }
 {
     let Back {
         passes,

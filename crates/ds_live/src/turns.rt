@@ -1,6 +1,6 @@
 //! A worker's turns, as a thread's job.
 
-ghost use Rattle.desk.specs.Desk.{identity};
+ghost use Rattle.ds_live.specs.Homes.{home_of};
 ghost use Rattle.ds_live.specs.Workers.{IsOf, Worked};
 
 use crate::gate::Gate;
@@ -43,7 +43,7 @@ pub type StoreTurns<'e, R, G> = Turns<'e, R, G, Desks<Desk<Box<Store>>>, StoreWo
 
 impl<'e, R: Wait, G: Gate> Job
     for Turns<'e, R, G, Desks<Desk<Box<Store>>>, Worker<Pass<Box<Store>>>> {
-    ghost can_run = { λ j. IsOf (identity j.desks.now.first) (identity j.desks.now.second) j.worker };
+    ghost can_run = { λ j. IsOf (home_of j.desks.now.first) (home_of j.desks.now.second) j.worker };
 
     ghost comes_back = { λ j k. Worked (G.answers j.gate.now) j.worker k.worker };
 

@@ -1,7 +1,7 @@
 //! Workers and their turns.
 
 ghost use Rattle.std.specs.Prelude.{◌≡◌, true, false, IfErr, OnOk};
-ghost use Rattle.desk.specs.Desk.{identity};
+ghost use Rattle.ds_live.specs.Homes.{home_of};
 ghost use Rattle.ds_live.specs.Workers.{ComesBack, EndsBy, FailsToFinish, FailsTurn, Finishes, IsOf, TurnTaken, TookAll, Worked, plain};
 
 use crate::exchanging::{exchange, hand_over};
@@ -46,7 +46,7 @@ impl Worker<Pass<Box<Store>>> {
         first: &Desk<Box<Store>>,
         second: &Desk<Box<Store>>,
     )
-        requires { IsOf (identity first.now) (identity second.now) self.old }
+        requires { IsOf (home_of first.now) (home_of second.now) self.old }
         ensures { Worked (G.answers gate.now) self.old self.new }
     {
         match self.take_turns(rt, alloc, gate, given_up, first, second) {
@@ -65,7 +65,7 @@ impl Worker<Pass<Box<Store>>> {
         first: &Desk<Box<Store>>,
         second: &Desk<Box<Store>>,
     ) -> Result<(), WorkerFault>
-        requires { IsOf (identity first.now) (identity second.now) self.old }
+        requires { IsOf (home_of first.now) (home_of second.now) self.old }
         ensures back { ComesBack self.old self.new }
         ensures took { OnOk result (TookAll (G.answers gate.now) (plain self.old) (plain self.new)) }
         ensures fault { IfErr result (EndsBy (G.answers gate.now) (plain self.old) (plain self.new)) }
@@ -92,7 +92,7 @@ impl Worker<Pass<Box<Store>>> {
         second: &Desk<Box<Store>>,
         turn: u32,
     ) -> Result<(), WorkerFault>
-        requires { IsOf (identity first.now) (identity second.now) self.old }
+        requires { IsOf (home_of first.now) (home_of second.now) self.old }
         ensures back { ComesBack self.old self.new }
         ensures taken { OnOk result (TurnTaken turn (plain self.old) (plain self.new)) }
         ensures fault { IfErr result (FailsTurn turn (plain self.old) (plain self.new)) }
@@ -118,7 +118,7 @@ impl Worker<Pass<Box<Store>>> {
         first: &Desk<Box<Store>>,
         second: &Desk<Box<Store>>,
     ) -> Result<(), WorkerFault>
-        requires { IsOf (identity first.now) (identity second.now) self.old }
+        requires { IsOf (home_of first.now) (home_of second.now) self.old }
         ensures back { ComesBack self.old self.new }
         ensures done { OnOk result (Finishes (plain self.old) (plain self.new)) }
         ensures fault { IfErr result (FailsToFinish (plain self.old) (plain self.new)) }

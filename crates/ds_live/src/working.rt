@@ -2,8 +2,8 @@
 
 ghost use Rattle.std.specs.Prelude.{All, ◌≡◌, ◌⊎◌, map, true, None, IfNone, IfSome};
 ghost use Rattle.std.specs.List.{list_all};
-ghost use Rattle.desk.specs.Desk.{identity};
 ghost use Rattle.ds_live.specs.Back.{AreBack};
+ghost use Rattle.ds_live.specs.Homes.{home_of};
 ghost use Rattle.ds_live.specs.Workers.{ComesBack, IsOf, TookAll, plain};
 ghost use Rattle.ds_live.specs.Faults.{FailsTurns, HasWorkersFault, OneFails, has_ended, lowest_fault, own_fault};
 
@@ -23,7 +23,7 @@ pub(crate) fn work_all<'e, R: Threads + Wait + Sync, G: Gate + Sync>(
     given_up: &'e GivenUp,
     jobs: Vec<StoreTurns<'e, R, G>>,
 ) -> (Vec<StoreTurns<'e, R, G>>, Option<LiveFault>)
-    requires of_desks { All (λ j. IsOf (identity j.desks.now.first) (identity j.desks.now.second) j.worker) jobs.items }
+    requires of_desks { All (λ j. IsOf (home_of j.desks.now.first) (home_of j.desks.now.second) j.worker) jobs.items }
     requires idle { All (λ j. j.worker.fault ≡ None) jobs.items }
     ensures back { AreBack (λ j k. ComesBack j.worker k.worker) 0 jobs.entry.items result.0.items }
     ensures took { IfNone result.1

@@ -1,18 +1,20 @@
-use Rattle.std.proofs.Common.{◌≡◌, [], ◌∷◌, ◌++◌, length, map, sum_by, ap, sym, subst, ◌∙◌, IfNone, append-nil, append_assoc, arith}
+use Rattle.std.proofs.Common.{◌≡◌, ◌⊎◌, [], ◌∷◌, ◌++◌, length, map, sum_by, ap, inl, inr, sym, subst, ◌∙◌, IfNone, append-nil, append_assoc, arith}
 use Rattle.std.proofs.lemmas.List.Elements.{All-nil, All-same}
-use Rattle.desk.specs.Desk.{identity}
-use Rattle.desk.specs.Pass.{desk_of}
-use Rattle.ds_live.specs.Workers.{Finishes, IsOf, others_in, plain}
+use Rattle.ds_live.specs.declared.live_fault.LiveFault.{LiveFault}
+use Rattle.ds_live.specs.declared.live_fault.LiveFault.TheVariants.{NoRoom}
+use Rattle.ds_live.specs.Faults.{CantFinish, OneFails}
+use Rattle.ds_live.specs.Homes.{home_of}
+use Rattle.ds_live.specs.Workers.{Finishes, IsAtHome, IsOf, others_in, plain}
 use Rattle.ds_live.specs.Dismissed.{HandBack}
 use Rattle.ds_live.specs.Tasks.{followers_in}
-use Rattle.ds_live.proofs.FailLemmas.{same_or_calls, still_same}
+use Rattle.ds_live.proofs.FailLemmas.{fault_then, kept_both, one_in, same_fault}
 use Rattle.ds_live.proofs.JobLemmas.{length-last, longer_sum, no_length, other_of, popped, pushed}
 use Rattle.ds_live.proofs.RunLemmas.{if_none, kept_on, kept_still, none_handed, none_of_three, one_handed}
 use Rattle.ds_live.proofs.dismissing.dismiss.Goals as goal
 
 -- a job's worker, finished or unchanged
 pub hand_back-fault-requires-clause-task : goal.hand_back-fault-requires-clause-task
-hand_back-fault-requires-clause-task g c = let a = identity c.args.desks.now.first in let b = identity c.args.desks.now.second in
+hand_back-fault-requires-clause-task g c = let a = home_of c.args.desks.now.first in let b = home_of c.args.desks.now.second in
     let was = (popped (λ j. IsOf a b j.worker) c.pop.new.self.items c.loop-job.jobs.items c.in-Some.job c.in-Some.ensures.items c.loop-job.invariant.left).1 in
     let came = c.finish-fault.ensures.back in
     let is = came.still a b was in
@@ -35,7 +37,7 @@ hand_back-fault-requires-clause-room g c = let i = c.loop-job.invariant in
     omega (arith, all, fewer, room, c.loop-job.back.passes.ok.0)
 
 pub loop-job-preserved : goal.loop-job-preserved
-loop-job-preserved g c = let i = c.loop-job.invariant in let a = identity c.args.desks.now.first in let b = identity c.args.desks.now.second in
+loop-job-preserved g c = let i = c.loop-job.invariant in let a = home_of c.args.desks.now.first in let b = home_of c.args.desks.now.second in
     let both = popped (λ j. IsOf a b j.worker) c.pop.new.self.items c.loop-job.jobs.items c.in-Some.job c.in-Some.ensures.items i.left in
     let came = c.finish-fault.ensures.back in
     let is = came.still a b both.1 in
@@ -46,8 +48,10 @@ loop-job-preserved g c = let i = c.loop-job.invariant in let a = identity c.args
     let same_others = came.same_others in
     let all = i.all in let all_others = i.all_others in let one = e.all in
     let room = i.room in let others_room = i.others_room in
+    let whole = i.finished.1 ∙ ap (λ l. l ++ i.finished.0) c.in-Some.ensures.items ∙ append_assoc c.pop.new.self.items (c.in-Some.job ∷ []) i.finished.0 in
+    let Q : LiveFault → Type 0 = λ told. (told ≡ NoRoom) ⊎ OneFails (λ j. CantFinish (plain j.worker)) c.args.jobs.items told in
     record {
-      home = pushed (λ p. desk_of p ≡ a) c.loop-job.back.passes.items c.hand_back-fault.new.back.passes.items c.finish-fault.new.worker.pass e.passes i.home is.pass;
+      home = pushed (λ p. IsAtHome a p) c.loop-job.back.passes.items c.hand_back-fault.new.back.passes.items c.finish-fault.new.worker.pass e.passes i.home is.pass;
       others = e.home;
       left = both.0;
       all = omega (arith, all, fewer, more);
@@ -56,7 +60,7 @@ loop-job-preserved g c = let i = c.loop-job.invariant in let a = identity c.args
       others_room = omega (arith, others_room, e.room.1);
       finished = (
         c.in-Some.job ∷ i.finished.0,
-        i.finished.1 ∙ ap (λ l. l ++ i.finished.0) c.in-Some.ensures.items ∙ append_assoc c.pop.new.self.items (c.in-Some.job ∷ []) i.finished.0,
+        whole,
         none_of_three c.loop-job.fault c.finish-fault.result c.hand_back-fault.result
             (HandBack (map (λ j. j.worker) i.finished.0) c.loop-job.back.passes.items c.loop-job.back.others.items c.loop-job.back.followers.items)
             (Finishes (plain c.in-Some.job.worker) (plain c.finish-fault.new.worker))
@@ -68,17 +72,21 @@ loop-job-preserved g c = let i = c.loop-job.invariant in let a = identity c.args
             h (record { back = came; finishes = done }) e.passes e.others f),
       );
       kept = kept_on c.args.fault c.loop-job.fault c.finish-fault.result c.hand_back-fault.result i.kept c.finish-fault.ensures.kept e.kept;
-      cause = same_or_calls c.args.fault c.loop-job.fault c.hand_back-fault.result i.cause
-          (same_or_calls c.loop-job.fault c.finish-fault.result c.hand_back-fault.result c.finish-fault.ensures.cause e.cause);
+      cause = fault_then Q (λ told. told ≡ NoRoom) Q c.args.fault c.finish-fault.result c.hand_back-fault.result
+          (kept_both c.args.fault c.loop-job.fault c.finish-fault.result i.kept c.finish-fault.ensures.kept)
+          (fault_then Q (CantFinish (plain c.in-Some.job.worker)) Q c.args.fault c.loop-job.fault c.finish-fault.result i.kept i.cause c.finish-fault.ensures.cause
+          (λ told q. q) (λ told h. inr (subst (λ l. OneFails (λ j. CantFinish (plain j.worker)) l told) (sym whole)
+          (one_in (λ j. CantFinish (plain j.worker)) c.pop.new.self.items i.finished.0 c.in-Some.job told h))))
+          e.cause (λ told q. q) (λ told room. inl room);
     }
 
 -- no pass is back yet
 pub loop-job-init : goal.loop-job-init
-loop-job-init g c = let a = identity c.args.desks.now.first in let b = identity c.args.desks.now.second in
+loop-job-init g c = let a = home_of c.args.desks.now.first in let b = home_of c.args.desks.now.second in
     let none = c.requires.taken.0 in let none_of = c.requires.taken.1 in
     record {
-      home = All-same (λ p. desk_of p ≡ a) c.args.back.now.passes.items [] none (All-nil (λ p. desk_of p ≡ a));
-      others = All-same (λ p. desk_of p ≡ b) c.args.back.now.others.items [] none_of (All-nil (λ p. desk_of p ≡ b));
+      home = All-same (λ p. IsAtHome a p) c.args.back.now.passes.items [] none (All-nil (λ p. IsAtHome a p));
+      others = All-same (λ p. IsAtHome b p) c.args.back.now.others.items [] none_of (All-nil (λ p. IsAtHome b p));
       left = c.requires.of_desks;
       all = omega (arith, ap length none);
       all_others = omega (arith, ap length none_of);
@@ -86,7 +94,7 @@ loop-job-init g c = let a = identity c.args.desks.now.first in let b = identity 
       others_room = c.requires.others_room;
       finished = ([], sym (append-nil c.args.jobs.items), if_none c.args.fault _ (none_handed c.args.back.now.passes.items c.args.back.now.others.items c.args.back.now.followers.items none none_of c.requires.taken.2));
       kept = kept_still c.args.fault;
-      cause = still_same c.args.fault;
+      cause = same_fault _ c.args.fault;
     }
 
 pub loop-job-smaller : goal.loop-job-smaller

@@ -6,15 +6,15 @@ pub returns-in_err-_taken-clause-called : goal.returns-in_err-_taken-clause-call
 returns-in_err-_taken-clause-called g c = same_called c.args.pass.now c.take.new.pass c.in_err-_taken.ensures.refused.2
 
 pub refresh_once-requires-clause-keeps : goal.refresh_once-requires-clause-keeps
-refresh_once-requires-clause-keeps g c = looked_keeps c.args.pass.now c.take.new.pass c.in_ok-_taken.ensures.taken.sees c.args.follower.now c.requires.keeps
+refresh_once-requires-clause-keeps g c = looked_keeps c.args.pass.now c.take.new.pass c.in_ok-_taken.ensures.taken.sees c.take.ensures.same.1 c.args.follower.now c.requires.keeps
 
 pub returns-in_err-refresh_once-clause-called : goal.returns-in_err-refresh_once-clause-called
 returns-in_err-refresh_once-clause-called g c =
-    looked_called c.args.pass.now c.take.new.pass c.in_ok-_taken.ensures.taken.sees (pass_record c.refresh_once.new.pass) c.in_err-refresh_once.ensures.called
+    looked_called c.args.pass.now c.take.new.pass c.in_ok-_taken.ensures.taken.sees c.take.ensures.same.1 (pass_record c.refresh_once.new.pass) c.in_err-refresh_once.ensures.called
 
 pub returns-clause-called : goal.returns-clause-called
 returns-clause-called g c =
-    looked_called c.args.pass.now c.take.new.pass c.in_ok-_taken.ensures.taken.sees (pass_record c.refresh_once.new.pass) c.in_ok-refresh_once.ensures.called
+    looked_called c.args.pass.now c.take.new.pass c.in_ok-_taken.ensures.taken.sees c.take.ensures.same.1 (pass_record c.refresh_once.new.pass) c.in_ok-refresh_once.ensures.called
 
 pub returns-clause-followed : goal.returns-clause-followed
 returns-clause-followed g c =
@@ -23,4 +23,4 @@ returns-clause-followed g c =
 
 pub returns-clause-refreshed : goal.returns-clause-refreshed
 returns-clause-refreshed g c =
-    looked_refreshed c.args.pass.now c.take.new.pass c.in_ok-_taken.ensures.taken.sees (pass_record c.refresh_once.new.pass) c.args.follower.now c.in_ok-refresh_once.ensures.refreshed
+    looked_refreshed c.args.pass.now c.take.new.pass c.in_ok-_taken.ensures.taken.sees c.take.ensures.same.1 (pass_record c.refresh_once.new.pass) c.args.follower.now c.in_ok-refresh_once.ensures.refreshed

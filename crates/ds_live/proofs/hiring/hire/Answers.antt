@@ -1,21 +1,24 @@
-use Rattle.std.proofs.Common.{◌≡◌, [], length, sum_by, refl, ap, ◌∙◌, arith}
-use Rattle.desk.specs.Desk.{identity}
-use Rattle.desk.specs.Pass.{calls, desk_of}
-use Rattle.ds_live.specs.Workers.{IsOf, others_in, plain}
+use Rattle.std.proofs.Common.{◌≡◌, [], length, sum_by, refl, ap, inl, ◌∙◌, arith}
+use Rattle.desk.specs.Pass.{calls}
+use Rattle.desk_store.specs.Record.{pass_record}
+use Rattle.ds_live.specs.Faults.{FailsHiring}
+use Rattle.ds_live.specs.Homes.{home_of}
+use Rattle.ds_live.specs.Workers.{IsAtHome, IsOf, others_in, plain}
 use Rattle.ds_live.specs.Run.{IsReady}
-use Rattle.ds_live.specs.Fails.{IsCallsFault}
 use Rattle.ds_live.proofs.FailLemmas.{all_idle, labels_fail, out_of_memory}
 use Rattle.ds_live.proofs.HireLemmas.{all_numbered, labels_called, more_numbered, one_numbered, task_ready}
+use Rattle.ds_live.proofs.WorkerLemmas.{from_called}
 use Rattle.ds_live.proofs.JobLemmas.{first_pushed, length-last, longer_sum, no_length, popped, pushed}
 use Rattle.ds_live.proofs.hiring.hire.Goals as goal
 
 -- the job of the one that exchanges
 pub loop-pass-init : goal.loop-pass-init
-loop-pass-init g c = let a = identity c.args.desks.now.first in let b = identity c.args.desks.now.second in
-    let here = popped (λ p. desk_of p ≡ a) c.pop.new.self.items c.args.back.now.passes.items c.in-Some.pass c.in-Some.ensures.items c.requires.passes in
-    let there = popped (λ p. desk_of p ≡ b) c.pop-2.new.self.items c.args.back.now.others.items c.in-Some-pop.other c.in-Some-pop.ensures.items c.requires.others in
+loop-pass-init g c = let a = home_of c.args.desks.now.first in let b = home_of c.args.desks.now.second in
+    let here = popped (λ p. IsAtHome a p) c.pop.new.self.items c.args.back.now.passes.items c.in-Some.pass c.in-Some.ensures.items c.requires.passes in
+    let there = popped (λ p. IsAtHome b p) c.pop-2.new.self.items c.args.back.now.others.items c.in-Some-pop.other c.in-Some-pop.ensures.items c.requires.others in
     let fresh = popped (λ p. calls p ≡ []) c.pop.new.self.items c.args.back.now.passes.items c.in-Some.pass c.in-Some.ensures.items c.requires.fresh.0 in
     let fresh_others = popped (λ p. calls p ≡ []) c.pop-2.new.self.items c.args.back.now.others.items c.in-Some-pop.other c.in-Some-pop.ensures.items c.requires.fresh.1 in
+    let began = from_called a (pass_record c.in-Some.pass) (pass_record c.publish_labels.new.pass) here.1 c.publish_labels.ensures.called in
     let fewer = length-last c.pop.new.self.items c.args.back.now.passes.items c.in-Some.pass c.in-Some.ensures.items in
     let fewer_others = length-last c.pop-2.new.self.items c.args.back.now.others.items c.in-Some-pop.other c.in-Some-pop.ensures.items in
     let more = length-last c.in-Ok.jobs.items c.push_reserved.new.self.items _ c.push_reserved.ensures.items in
@@ -26,10 +29,10 @@ loop-pass-init g c = let a = identity c.args.desks.now.first in let b = identity
     record {
       home = here.0;
       others = no_length c.pop-2.new.self.items (omega (arith, one, fewer_others));
-      can_run = first_pushed (λ j. IsOf (identity j.desks.now.first) (identity j.desks.now.second) j.worker) c.in-Ok.jobs.items c.push_reserved.new.self.items _
-          c.in-Ok.ensures.items c.push_reserved.ensures.items (record { pass = c.publish_labels.ensures.stays ∙ here.1; task = there.1 });
+      can_run = first_pushed (λ j. IsOf (home_of j.desks.now.first) (home_of j.desks.now.second) j.worker) c.in-Ok.jobs.items c.push_reserved.new.self.items _
+          c.in-Ok.ensures.items c.push_reserved.ensures.items (record { pass = began; task = there.1 });
       hired = first_pushed (λ j. IsOf a b j.worker) c.in-Ok.jobs.items c.push_reserved.new.self.items _
-          c.in-Ok.ensures.items c.push_reserved.ensures.items (record { pass = c.publish_labels.ensures.stays ∙ here.1; task = there.1 });
+          c.in-Ok.ensures.items c.push_reserved.ensures.items (record { pass = began; task = there.1 });
       all = omega (arith, fewer, more, none);
       few = omega (arith, fewer, many);
       one = omega (arith, others, none_of);
@@ -56,8 +59,8 @@ loop-pass-init g c = let a = identity c.args.desks.now.first in let b = identity
 
 -- one job more
 pub loop-pass-preserved : goal.loop-pass-preserved
-loop-pass-preserved g c = let i = c.loop-pass.invariant in let a = identity c.args.desks.now.first in let b = identity c.args.desks.now.second in
-    let here = popped (λ p. desk_of p ≡ a) c.pop-in-loop-pass.new.self.items c.loop-pass.back.passes.items c.in-Some-pop-2.pass c.in-Some-pop-2.ensures.items i.home in
+loop-pass-preserved g c = let i = c.loop-pass.invariant in let a = home_of c.args.desks.now.first in let b = home_of c.args.desks.now.second in
+    let here = popped (λ p. IsAtHome a p) c.pop-in-loop-pass.new.self.items c.loop-pass.back.passes.items c.in-Some-pop-2.pass c.in-Some-pop-2.ensures.items i.home in
     let fresh = popped (λ p. calls p ≡ []) c.pop-in-loop-pass.new.self.items c.loop-pass.back.passes.items c.in-Some-pop-2.pass c.in-Some-pop-2.ensures.items i.fresh in
     let fewer = length-last c.pop-in-loop-pass.new.self.items c.loop-pass.back.passes.items c.in-Some-pop-2.pass c.in-Some-pop-2.ensures.items in
     let more = length-last c.loop-pass.jobs.items c.push_reserved-in-Some-pop-2.new.self.items _ c.push_reserved-in-Some-pop-2.ensures.items in
@@ -67,7 +70,7 @@ loop-pass-preserved g c = let i = c.loop-pass.invariant in let a = identity c.ar
     record {
       home = here.0;
       others = i.others;
-      can_run = pushed (λ j. IsOf (identity j.desks.now.first) (identity j.desks.now.second) j.worker) c.loop-pass.jobs.items c.push_reserved-in-Some-pop-2.new.self.items _
+      can_run = pushed (λ j. IsOf (home_of j.desks.now.first) (home_of j.desks.now.second) j.worker) c.loop-pass.jobs.items c.push_reserved-in-Some-pop-2.new.self.items _
           c.push_reserved-in-Some-pop-2.ensures.items i.can_run (record { pass = here.1; task = c.in_ok-task.ensures.task b });
       hired = pushed (λ j. IsOf a b j.worker) c.loop-pass.jobs.items c.push_reserved-in-Some-pop-2.new.self.items _
           c.push_reserved-in-Some-pop-2.ensures.items i.hired (record { pass = here.1; task = c.in_ok-task.ensures.task b });
@@ -147,7 +150,13 @@ returns-clause-numbered g c = let all = c.loop-pass.invariant.all in
 
 -- why none are hired
 pub returns-in_err-publish_labels-clause-cause : goal.returns-in_err-publish_labels-clause-cause
-returns-in_err-publish_labels-clause-cause g c = labels_fail c.args.sizes.publishers _ _ c.from_residual.result c.in_err-publish_labels.field-0.0 c.from_residual.ensures.1 c.in_err-publish_labels.ensures.fault
+returns-in_err-publish_labels-clause-cause g c =
+    let a = home_of c.args.desks.now.first in
+    let here = popped (λ p. IsAtHome a p) c.pop.new.self.items c.args.back.now.passes.items c.in-Some.pass c.in-Some.ensures.items c.requires.passes in
+    let fresh = popped (λ p. calls p ≡ []) c.pop.new.self.items c.args.back.now.passes.items c.in-Some.pass c.in-Some.ensures.items c.requires.fresh.0 in
+    labels_fail c.args.sizes.publishers a (pass_record c.in-Some.pass) (pass_record c.publish_labels.new.pass) c.from_residual.result c.in_err-publish_labels.field-0.0 c.from_residual.ensures.1
+    here.1 fresh.1 c.in_err-publish_labels.ensures.fault
 
 pub returns-in_err-task-clause-cause : goal.returns-in_err-task-clause-cause
-returns-in_err-task-clause-cause g c = out_of_memory IsCallsFault c.from_residual-in_err-task.result c.in_err-task.field-0.0 c.from_residual-in_err-task.ensures.1 c.in_err-task.ensures.cause tt
+returns-in_err-task-clause-cause g c =
+    out_of_memory (FailsHiring c.args.sizes.publishers (home_of c.args.desks.now.first)) c.from_residual-in_err-task.result c.in_err-task.field-0.0 c.from_residual-in_err-task.ensures.1 c.in_err-task.ensures.cause (inl refl)

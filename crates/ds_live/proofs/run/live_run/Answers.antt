@@ -1,16 +1,19 @@
-use Rattle.std.proofs.Common.{IsTrue, arith, inr, refl, sym, ◌∙◌}
-use Rattle.desk.specs.Desk.{first_call, identity, opened_with}
+use Rattle.std.proofs.Common.{◌≡◌, ◌⊎◌, IsTrue, arith, refl, sym, ◌∙◌}
+use Rattle.desk.specs.Desk.{first_call, opened_with}
+use Rattle.ds_live.specs.declared.live_fault.LiveFault.TheVariants.{NoRoom}
+use Rattle.ds_live.specs.Faults.{CantFinish, OneFails}
+use Rattle.ds_live.specs.Homes.{home_of}
 use Rattle.ds_live.proofs.BackLemmas.{each_back, same_length, same_sum}
-use Rattle.ds_live.specs.Workers.{ComesBack, IsOf, others_in}
+use Rattle.ds_live.specs.Workers.{ComesBack, IsOf, others_in, plain}
 use Rattle.ds_live.specs.Fails.{IsLiveFault}
 use Rattle.ds_live.specs.Sizes.{are_fit}
-use Rattle.ds_live.proofs.FailLemmas.{calls_told, out_of_memory, run_by_calls, run_failed, told_last}
+use Rattle.ds_live.proofs.FailLemmas.{end_failed, hiring_told, out_of_memory, run_failed, told_last}
 use Rattle.ds_live.proofs.HistoryLemmas.{closes_after}
-use Rattle.ds_live.proofs.RunLemmas.{has_run, none_of_two, ok_of_three, without_fault}
+use Rattle.ds_live.proofs.RunLemmas.{has_run, none_of_two, none_then, ok_of_three, without_fault}
 use Rattle.ds_live.proofs.run.live_run.Goals as goal
 
 pub dismiss-fault-requires-clause-of_desks : goal.dismiss-fault-requires-clause-of_desks
-dismiss-fault-requires-clause-of_desks g c = let a = identity c.in_ok-first.first in let b = identity c.in_ok-second.second in
+dismiss-fault-requires-clause-of_desks g c = let a = home_of c.in_ok-first.first in let b = home_of c.in_ok-second.second in
     each_back (λ j k. ComesBack j.worker k.worker) (λ j. IsOf a b j.worker) (λ j. IsOf a b j.worker) (λ v w is back. back.still a b is)
     c.in_ok-jobs.jobs.items c.work_all-jobs.result.0.items c.in_ok-jobs.ensures.of_desks c.work_all-jobs.ensures.back
 
@@ -61,8 +64,8 @@ returns-clause-ran g c =
     (λ q. ok_of_three c.close_both.result _ _ _ _
     (λ run here there left. has_run g.G.Gate.answers (λ j. j.gate.now) (λ j. j.worker) c.args.gate.now c.args.sizes js ks back.passes.items back.others.items back.followers.items
     run.followers.items run.first.machine.value run.second.machine.value e.ready e.gates e.numbered (omega (arith, e.all, c.in_ok-first.ensures.count.1, c.workers.ensures)) c.work_all-jobs.ensures.back q.0 q.1
-    (λ ps same. closes_after 1 (opened_with first) (first_call first) back.passes.items run.first ps c.in_ok-first.ensures.opened here same)
-    (λ ps same. closes_after 2 (opened_with second) (first_call second) back.others.items run.second ps c.in_ok-second.ensures.opened there same)
+    (λ ps same. closes_after 1 (home_of first) (opened_with first) (first_call first) back.passes.items run.first ps refl c.in_ok-first.ensures.opened c.dismiss-fault.ensures.passes here same)
+    (λ ps same. closes_after 2 (home_of second) (opened_with second) (first_call second) back.others.items run.second ps refl c.in_ok-second.ensures.opened c.dismiss-fault.ensures.others there same)
     left)
     c.close_both.ensures.first c.close_both.ensures.second c.close_both.ensures.followers)
 
@@ -75,12 +78,18 @@ returns-clause-account g c = c.close_both.ensures.account
 -- the fault of the threads, of a worker that can't finish, or of a desk that stays open
 pub returns-clause-cause : goal.returns-clause-cause
 returns-clause-cause g c =
-    let js = c.in_ok-jobs.jobs.items in let e = c.in_ok-jobs.ensures in let sizes = c.args.sizes in let answers = g.G.Gate.answers c.args.gate.now in
+    let js = c.in_ok-jobs.jobs.items in let ks = c.work_all-jobs.result.0.items in let e = c.in_ok-jobs.ensures in let sizes = c.args.sizes in
+    let answers = g.G.Gate.answers c.args.gate.now in
     let fit : IsTrue (are_fit sizes) = sym c.are_fit.ensures ∙ c.if-not-are_fit.false in
-    told_last (IsLiveFault answers sizes) c.work_all-jobs.result.1 c.dismiss-fault.result c.close_both.result
-    (run_failed (λ j. j.worker) g.G.Gate.answers (λ j. j.gate.now) c.args.gate.now sizes fit js c.work_all-jobs.result.1 e.ready e.gates e.numbered
+    let first = home_of c.in_ok-first.first in let second = home_of c.in_ok-second.second in
+    let one = c.in_ok-first.ensures.opened in let two = c.in_ok-second.ensures.opened in
+    told_last (IsLiveFault answers sizes) (λ told. (told ≡ NoRoom) ⊎ OneFails (λ k. CantFinish (plain k.worker)) ks told) c.work_all-jobs.result.1 c.dismiss-fault.result c.close_both.result
+    (run_failed (λ j. j.worker) g.G.Gate.answers (λ j. j.gate.now) c.args.gate.now sizes first second one two fit js c.work_all-jobs.result.1 e.ready e.gates e.of_desks e.numbered
     (omega (arith, e.all, c.in_ok-first.ensures.count.1, c.workers.ensures)) c.work_all-jobs.ensures.cause)
-    c.dismiss-fault.ensures.cause c.close_both.ensures.cause (run_by_calls answers sizes) (inr refl)
+    (none_then c.work_all-jobs.result.1 _ _
+    (λ took f q. end_failed (λ j. j.worker) g.G.Gate.answers (λ j. j.gate.now) c.args.gate.now sizes first second one two js ks f e.ready e.gates e.of_desks took q)
+    c.work_all-jobs.ensures.took)
+    c.dismiss-fault.ensures.cause c.close_both.ensures.cause tt
 
 -- and before the threads
 pub returns-in_err-first-clause-cause : goal.returns-in_err-first-clause-cause
@@ -94,4 +103,5 @@ returns-in_err-second-clause-cause g c =
 
 pub returns-in_err-jobs-clause-cause : goal.returns-in_err-jobs-clause-cause
 returns-in_err-jobs-clause-cause g c =
-    calls_told (g.G.Gate.answers c.args.gate.now) c.args.sizes c.from_residual-in_err-jobs.result c.in_err-jobs.field-0.0 c.from_residual-in_err-jobs.ensures.1 c.in_err-jobs.ensures.cause
+    hiring_told (g.G.Gate.answers c.args.gate.now) c.args.sizes (home_of c.in_ok-first.first) c.from_residual-in_err-jobs.result c.in_err-jobs.field-0.0 c.from_residual-in_err-jobs.ensures.1
+    c.in_ok-first.ensures.opened c.in_err-jobs.ensures.cause

@@ -20,7 +20,7 @@ returns-in_err-reply-clause-worn g c =
     let exit = err_from_is_err_and c.from_residual.result c.from_residual.ensures.1 in
     rw (exit.1, exit.2)
     (subst (λ (x : PassRecord). FoundWorn x (pair_record c.call.new.pass) c.in_err-reply.field-0.0) same
-    (found_worn p c.call.new.pass c.in_err-reply.field-0.0 c.in_err-reply.ensures.worn))
+    (found_worn p c.call.new.pass c.in_err-reply.field-0.0 c.call.ensures.same.1 c.in_err-reply.ensures.worn))
 
 -- the command isn't in RS's name, so the reply is the store's
 pub unreachable-requires : goal.unreachable-requires
@@ -37,7 +37,7 @@ returns-clause-called g c =
     let same : pair_record p ≡ c.args.self.now.pass = ap (λ (s : SeatRecord). s.pass) c.self.view_is in
     let called = subst (λ (r : RsReply). Calls is_pair RsTurn p c.call.new.pass (Ask c.args.command) r at.place) c.in-Replied.is c.in_ok-reply.ensures.called in
     subst (λ (x : PassRecord). MadeCall x (pair_record c.call.new.pass) c.args.command c.in-Replied.reply at.place) same
-    (call_made p c.call.new.pass c.pairs_take_turns.ensures.store c.args.command c.in-Replied.reply at.place called (rests_facts p.seat.me.0 p.resting).2)
+    (call_made p c.call.new.pass c.pairs_take_turns.ensures.store c.args.command c.in-Replied.reply at.place called c.call.ensures.same.1 (rests_facts p.seat.me.0 p.resting).2)
 
 pub returns-clause-fits : goal.returns-clause-fits
 returns-clause-fits g c =

@@ -1,6 +1,6 @@
 use Rattle.std.proofs.Common.{arith}
 use Rattle.std.proofs.lemmas.Result.{err_from_is_err_and}
-use Rattle.desk.specs.Desk.{identity}
+use Rattle.ds_live.specs.Homes.{home_of}
 use Rattle.ds_live.specs.Workers.{plain}
 use Rattle.ds_live.proofs.WorkerLemmas.{back_again, ended_by_turn, is_back, through_more, took_none, turns_more}
 use Rattle.ds_live.proofs.worker.Worker+Pass+Box+Store.take_turns.Goals as goal
@@ -8,13 +8,13 @@ use Rattle.ds_live.proofs.worker.Worker+Pass+Box+Store.take_turns.Goals as goal
 pub loop-turn-init : goal.loop-turn-init
 loop-turn-init g c = let s = c.args.self.now in record {
   back = is_back s;
-  took = took_none (identity c.args.second.now) s.index s.pass s.task c.requires.task;
+  took = took_none (home_of c.args.second.now) s.index s.pass s.task c.requires.task;
   through = tt;
   few = omega arith;
 }
 
 pub turn-requires : goal.turn-requires
-turn-requires g c = c.loop-turn.invariant.back.still (identity c.args.first.now) (identity c.args.second.now) c.requires
+turn-requires g c = c.loop-turn.invariant.back.still (home_of c.args.first.now) (home_of c.args.second.now) c.requires
 
 pub loop-turn-preserved : goal.loop-turn-preserved
 loop-turn-preserved g c = let s = c.args.self.now in let l = c.loop-turn in let i = l.invariant in record {
