@@ -47,7 +47,6 @@ enum ds_fleet_word bridge_look(struct ds_fleet *fleet, struct redisReply **looke
 }
 
 void bridge_begin_anew(struct ds_fleet *fleet, const struct stock *stock) {
-    telling_cut(&fleet->telling); /* what was added may be gone, too */
     bridge_read_from_start(fleet);
     fleet->reading.read_up_to = fleet->compacting.written = NO_ENTRY;
     fleet->telling.trail = fleet->reading.trail = (struct trail){.sure = NO_ENTRY};

@@ -14,7 +14,7 @@
  *   NEWS, ADDED | the connection ends             | NEWS: tells the next server again
  *
  * If much is untold, and no round tells it, all that is held takes its place, and the state is NEWS: limit_untold of ds_fleet.c. If the
- * server lost what it had, the state is NEWS, too: bridge_begin_anew. A compaction adds all that is untold, which counts as told
+ * server lost what it had, the state is NEWS, too: server_call_again. A compaction adds all that is untold, which counts as told
  * then; with replicas the state is ADDED: telling_added_all. A round for marks alone writes nothing but a counter, in the
  * key of the digests, so that it has a write whose replicas it can wait for. */
 #include "bridge.h"
