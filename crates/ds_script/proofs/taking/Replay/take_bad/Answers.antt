@@ -30,11 +30,14 @@ returns-in-End-clause-takes g c =
 
 pub returns-in_ok-pass_over-in-GoOn-clause-takes : goal.returns-in_ok-pass_over-in-GoOn-clause-takes
 returns-in_ok-pass_over-in-GoOn-clause-takes g c =
-    let s = c.in_ok-pass_over-in-GoOn.ensures in (s.0, λ text bad.
-    let had = g.W.Sink.contents c.args.self.now.writer.now in
-    let has = g.W.Sink.contents c.pass_over.new.writer in
-    let old : Reached = reached c.args.self.now in
-    let new : Reached = record old { waiting = c.pass_over.new.output.items; lines = old.lines + 1; bad = old.bad + 1 } in
-    let all : List ℕ = old.waiting ++ badline c.args.bad.now.number c.args.bad.now.place in
-    takes_bad had has old new c.args.bad.now.number c.args.bad.now.place all text c.in-GoOn.is bad c.requires.number
-    (sym (append-nil all) ∙ ap (λ t. all ++ t) (sym s.2)) s.1 refl refl refl refl)
+    let s = c.in_ok-pass_over-in-GoOn.ensures in (
+      s.0,
+      λ text bad.
+          let had = g.W.Sink.contents c.args.self.now.writer.now in
+          let has = g.W.Sink.contents c.pass_over.new.writer in
+          let old : Reached = reached c.args.self.now in
+          let new : Reached = record old { waiting = c.pass_over.new.output.items; lines = old.lines + 1; bad = old.bad + 1 } in
+          let all : List ℕ = old.waiting ++ badline c.args.bad.now.number c.args.bad.now.place in
+          takes_bad had has old new c.args.bad.now.number c.args.bad.now.place all text c.in-GoOn.is bad c.requires.number
+          (sym (append-nil all) ∙ ap (λ t. all ++ t) (sym s.2)) s.1 refl refl refl refl,
+    )

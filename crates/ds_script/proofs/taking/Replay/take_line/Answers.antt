@@ -17,16 +17,19 @@ returns-in_err-send_full-clause-takes g c =
     rw (exit.1, exit.2) ((c.in_err-send_full.ensures).cause, λ text is. ([], waits old e.1, inl refl, takes_sent had has old e.0 e.1 e.2 e.3))
 
 pub returns-in-Ok-clause-takes : goal.returns-in-Ok-clause-takes
-returns-in-Ok-clause-takes g c = ((c.in_ok-send_full.ensures).led, λ text is.
-    let s = (c.in_ok-send_full.ensures).ok in
-    let a = (c.in-Ok.ensures).ok in
-    let had = g.W.Sink.contents c.args.self.now.writer.now in
-    let has = g.W.Sink.contents c.send_full.new.writer in
-    let old : Reached = reached c.args.self.now in
-    let mid : Reached = waits old c.send_full.new.output.items in
-    let new : Reached = record old { session = c.answer_line.new.session; waiting = c.answer_line.new.output.items; lines = old.lines + 1 } in
-    let one : TakesLines has has mid (text ∷ []) new = takes_line has mid new a.0 text a.1 (a.2 text is) refl refl refl in
-    takes_then had has has old mid new [] (text ∷ []) (takes_sent had has old s.0 mid.waiting s.1 s.2) one)
+returns-in-Ok-clause-takes g c = (
+  (c.in_ok-send_full.ensures).led,
+  λ text is.
+      let s = (c.in_ok-send_full.ensures).ok in
+      let a = (c.in-Ok.ensures).ok in
+      let had = g.W.Sink.contents c.args.self.now.writer.now in
+      let has = g.W.Sink.contents c.send_full.new.writer in
+      let old : Reached = reached c.args.self.now in
+      let mid : Reached = waits old c.send_full.new.output.items in
+      let new : Reached = record old { session = c.answer_line.new.session; waiting = c.answer_line.new.output.items; lines = old.lines + 1 } in
+      let one : TakesLines has has mid (text ∷ []) new = takes_line has mid new a.0 text a.1 (a.2 text is) refl refl refl in
+      takes_then had has has old mid new [] (text ∷ []) (takes_sent had has old s.0 mid.waiting s.1 s.2) one,
+)
 
 pub returns-in-Err-BadLine-clause-takes : goal.returns-in-Err-BadLine-clause-takes
 returns-in-Err-BadLine-clause-takes g c =
