@@ -105,10 +105,13 @@ static _Noreturn void become(const struct process *process, pid_t parent) {
     _exit(NOT_RUN);
 }
 
-/* Forks, straight into the cgroup if there is one. The descriptor of the child is made with it, so there is no child without one. */
+/* Forks, straight into the cgroup if there is one. The descriptor of the child is made with it, so there is no child without one. Only a
+ * cgroup needs clone3, which the filters of many containers refuse. */
 static pid_t fork_into(int cgroup, int *pidfd) {
-    struct clone_args how = {.flags = CLONE_PIDFD, .exit_signal = SIGCHLD, .pidfd = (uint64_t)(uintptr_t)pidfd};
-    if (cgroup >= 0) how.flags |= CLONE_INTO_CGROUP, how.cgroup = (uint64_t)cgroup;
+    long flags = CLONE_PIDFD | SIGCHLD;
+    if (cgroup < 0) return (pid_t)syscall(SYS_clone, flags, NULL, pidfd, NULL, NULL);
+    struct clone_args how = {.flags = CLONE_PIDFD | CLONE_INTO_CGROUP, .exit_signal = SIGCHLD, .cgroup = (uint64_t)cgroup,
+                             .pidfd = (uint64_t)(uintptr_t)pidfd};
     return (pid_t)syscall(SYS_clone3, &how, sizeof how);
 }
 

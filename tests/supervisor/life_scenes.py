@@ -121,7 +121,7 @@ def what_is_short_is_waited_for(host):
     host.words = ["env", f"LD_PRELOAD={refusal_scenes.build(host)}", f"SHORT={short}", *host.words]
     labels = [f"s{number}" for number in range(4)]
     host.start({label: ({"limit": 2}, SLEEPS) for label in labels})
-    for call in ("clone3", "socketpair", "bind"):
+    for call in ("clone", "socketpair", "bind"):
         before = {label: host.pid(label) for label in labels}
         short.write_text(call)
         for label in labels:

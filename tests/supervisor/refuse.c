@@ -86,10 +86,11 @@ PASSED(int, mkdir, ENOSPC, (const char *path, mode_t mode), (path, mode))
 PASSED(int, chmod, EPERM, (const char *path, mode_t mode), (path, mode))
 PASSED(int, setsockopt, ENOMEM, (int file, int level, int name, const void *value, socklen_t length), (file, level, name, value, length))
 
-/* Of the calls that have no function, clone3 alone is refused. */
+/* Of the calls that have no function, those that fork are refused. */
 long syscall(long number, ...) {
     long (*real)(long, ...) = (long (*)(long, ...))dlsym(RTLD_NEXT, "syscall"), given[6];
-    if (number == SYS_clone3 && (is_short("clone3", EAGAIN) || refuses(EAGAIN))) return -1;
+    bool forks = number == SYS_clone || number == SYS_clone3;
+    if (forks && (is_short("clone", EAGAIN) || refuses(EAGAIN))) return -1;
     va_list list;
     va_start(list, number);
     for (int i = 0; i < 6; i++) given[i] = va_arg(list, long);
