@@ -38,7 +38,7 @@ void outputs_list_logs(struct rs *rs) {
 
 /* A log program may have come, or gone, since the last start of its service. */
 void outputs_look(struct rs *rs, struct service *it) {
-    if (it->output.from.file < 0) outputs_open(rs, it); /* there were no descriptors for it */
+    if (it->output.from.file < 0) outputs_open(rs, it), outputs_list_logs(rs); /* there were no descriptors for it */
     bool had = it->logger.input >= 0, has = it->output.to >= 0 && has_log_program(rs, it);
     if (it->output.from.file < 0 || had == has || it->logger.pid) return;
     if (has) output_hand_over(&it->output, it->label, &rs->outlet);

@@ -159,8 +159,9 @@ def few_descriptors(host):
 
 @scene
 def descriptors_for_lines_are_looked_for_again(host):
-    """A service for whose pipe there were no descriptors gets one when it is started again."""
+    """A service for whose pipe there were no descriptors gets one when it is started again. The log programs of others are still known."""
     host.words = ["prlimit", "--nofile=28:200", *host.words]
+    host.service("s00/log", "#!/bin/sh\nexec cat >> out\n")
     host.start({f"s{i:02}": ({}, "#!/bin/sh\necho prints\nexec sleep 1000\n") for i in range(12)})
     host.logged("short s11")
     equal({it[0] for it in host.status().values()}, {"wants"})
@@ -169,6 +170,10 @@ def descriptors_for_lines_are_looked_for_again(host):
     until(lambda: "\nprints\n" in host.log(), "it prints to the standard error of the supervisor")
     host.ask("service refresh s11")
     until(lambda: "\ns11: prints\n" in host.log(), "it prints to a pipe")
+    reader = until(lambda: next((it for it in host.processes() if pathlib.Path(f"/proc/{it}/comm").read_text() == "cat\n"), None), "the log program reads")
+    time.sleep(0.6)  # strays are looked for at once then
+    os.kill(reader, signal.SIGKILL)
+    host.logged("nolog s00 signal 9")
     host.end()
 
 
