@@ -92,11 +92,15 @@ static void count_as_told(struct ds_fleet *fleet) {
     telling_cut(telling);
 }
 
+/* Entries were asked for, or added: from now on the replicas have their time. */
+static void begin_wait(struct telling *telling) { telling->wait_end = clock_now() + (uint64_t)telling->within; }
+
 /* The next round waits for the replicas. */
 void telling_added_all(struct ds_fleet *fleet, const struct redisReply *ids) {
     struct telling *telling = &fleet->telling;
     for (size_t i = 0; i < ids->elements; i++) trail_add(&telling->trail, id_of(ids->element[i]));
     fleet->state.entries_told += ids->elements;
+    begin_wait(telling);
     if (telling->replicas && (telling->sent || telling->sent_marks)) telling->state = TELLING_ADDED;
     else count_as_told(fleet);
 }
@@ -123,15 +127,21 @@ void telling_mark(struct ds_fleet *fleet) {
     fleet->items.gathered++;
 }
 
+/* Milliseconds of the next wait for replicas: it ends with their time, and later takes as long again. */
+static int next_wait(const struct telling *telling) {
+    uint64_t time = clock_now(), left = telling->wait_end > time ? telling->wait_end - time : (uint64_t)telling->within;
+    return left < WAITS ? (int)left : WAITS;
+}
+
 static enum ds_fleet_word ask_to_tell(struct ds_fleet *fleet) {
     struct telling *telling = &fleet->telling;
     telling->parts = 0;
     if (telling->state == TELLING_NEWS) {
         ask_to_add(fleet);
-        telling->wait_end = clock_now() + (uint64_t)telling->within;
+        begin_wait(telling);
     }
     if (!telling->replicas) return DS_FLEET_INSTEP;
-    int wait = telling->within < WAITS ? telling->within : WAITS;
+    int wait = next_wait(telling);
     link_ask(&fleet->server.teller, "WAIT %d %d", telling->replicas, wait);
     fleet->server.teller.blocks = (unsigned)wait;
     return DS_FLEET_INSTEP;
