@@ -47,6 +47,8 @@ enum ds_fleet_word server_open(struct ds_fleet *fleet, const struct ds_fleet_opt
 void server_close(struct server *server);
 
 bool server_is_connected(const struct server *server);
+/* The run that the server names, or an empty text. */
+const char *server_run(const struct server *server);
 /* Calls a server if there is none. Returns INSTEP if both connections are open, else why not. */
 enum ds_fleet_word server_call(struct ds_fleet *fleet);
 /* Makes both connections anew, to the same address, which may lead to another server by now: what was read and judged may be

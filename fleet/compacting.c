@@ -54,8 +54,8 @@ static const char compaction[] =
     "local stream, snapshot, has, ids = KEYS[1], KEYS[2], {}, {} "
     "local run, history, added, gone, last, said, past, at_scope, held, anew, me, witnesses = unpack(ARGV, 1, 12) "
     "local info = redis.call('INFO', 'server') .. redis.call('INFO', 'replication') "
-    "if not string.find(info, 'run_id:' .. run, 1, true) or not string.find(info, 'master_replid:' .. history, 1, true) then "
-    "return 'server' end "
+    "local function has_name(word, name) return name == '' or string.find(info, word .. name, 1, true) end "
+    "if not has_name('run_id:', run) or not has_name('master_replid:', history) then return 'server' end "
     "local entry = redis.call('XRANGE', stream, last, last)[1] "
     "if not entry or table.concat(entry[2], '\\n') ~= said then return 'entry' end "
     "for i = 13, 12 + witnesses do if #redis.call('XRANGE', stream, ARGV[i], ARGV[i]) == 0 then return 'witness' end end "
@@ -104,7 +104,7 @@ static void ask_to_write(struct ds_fleet *fleet, const struct text *held, const 
     snprintf(gone, sizeof gone, "%lld", stock->gone + watched->trimmed);
     write_entry_id(at, last);
     write_entry_id(past, next);
-    const char *const front[] = {"EVAL", compaction, "2", stream, snapshot, fleet->server.run, fleet->server.history, added, gone, at};
+    const char *const front[] = {"EVAL", compaction, "2", stream, snapshot, server_run(&fleet->server), fleet->server.history, added, gone, at};
     for (size_t i = 0; i < sizeof front / sizeof *front; i++) question_put_text(&question, front[i]);
     question_put(&question, fleet->reading.said.bytes, fleet->reading.said.length);
     question_put_text(&question, past);

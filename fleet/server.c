@@ -31,6 +31,8 @@ static const char unnamed[] = "unknown"; /* the run of a server that names none 
 
 bool server_is_connected(const struct server *server) { return link_is_open(&server->teller) && link_is_open(&server->listener); }
 
+const char *server_run(const struct server *server) { return strcmp(server->run, unnamed) ? server->run : ""; }
+
 /* ---- it goes, or denies ---- */
 
 static void keep_said(struct ds_fleet *fleet, const char *words) {
@@ -147,7 +149,7 @@ enum ds_fleet_word server_hear_listener(struct ds_fleet *fleet) {
     if (is_error(info)) return server_denied(fleet, info);
     copy_hex_of(info, "run_id:", run);
     copy_hex_of(info, "master_replid:", history);
-    bool is_named = *run && strcmp(server->run, unnamed);
+    bool is_named = *run && *server_run(server);
     server->is_one = (!is_named || !strcmp(run, server->run)) && !strcmp(history, server->history);
     return server->is_one ? DS_FLEET_INSTEP : server_went(fleet, "the two connections lead to two servers");
 }

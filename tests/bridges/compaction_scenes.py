@@ -134,6 +134,16 @@ def a_stream_begun_anew_while_it_is_compacted(fleet, draw):
         outlives(fleet, lines)
 
 
+def a_server_that_names_no_run(fleet, draw):
+    """The stream of a server whose INFO has no run is compacted, too."""
+    script = fleet.adopt(Scripted(fleet.port))
+    script.script("INFO", lambda raw: raw.replace(b"run_id:", b"run_is:"), 1 << 30)
+    bridge, lines = fleet.start("--keep", "5", url=script.url()), numbers("a", 12)
+    offer_each(bridge, lines)
+    until(lambda: int(bridge.state()["compactions"]), "the stream is compacted", 10)
+    outlives(fleet, lines)
+
+
 def a_clock_that_goes_back(fleet, draw):
     """A stream is deleted, and the server's clock goes back for a moment: the ids of what comes then are smaller, and those after it aren't."""
     clock = fleet.adopt(Clock())
