@@ -1,8 +1,8 @@
 """Lists single calls of a subscriber's map, for tests/programs/store. Each growth of the one call is refused, one by one and all together.
 
 Reading a label takes no memory. Neither does an item that isn't matched against the map's pattern and needs no place: a floor of an owner
-that has one. A `take` that runs out of memory keeps the items before. The lines `entries` and `clear` of scripts show what a map has
-besides its labels.
+that has one. A `take` asks for what its pattern needs before its first item, and stops there if that is refused; later it keeps the items
+before. The lines `entries` and `clear` of scripts show what a map has besides its labels.
 """
 from dataclasses import replace
 
@@ -27,7 +27,7 @@ TAKE = [
     case("of a higher floor", take(ETH, ID, "! eth0 2"), take("! eth0 3") + "\n" + take(VOID), "merged 1 1 0\nmerged 1 0 1"),
     case("of a lower one", take(ETH, "! eth0 2"), take("! eth0 1", "! eth0 2"), "merged 2 0 1"),
     case("of a new key after a floor", take(ETH, "! eth0 2"), take("! eth0 3", MTU.replace("3.0", "4.0")) + "\n" + take(VOID),
-         "merged 2 2 0\nmerged 1 0 1", "stopped 1 noroom\nmerged 1 0 1"),
+         "merged 2 2 0\nmerged 1 0 1", "stopped 0 noroom\nmerged 1 1 0", "stopped 1 noroom\nmerged 1 0 1"),
     case("clash", take(MTU), take("mtu u32 eth0 3.0 = 9"), "stopped 0 clash 3.0", "stopped 0 noroom"),
     case("notowner", take(MTU), take("mtu u32 tty 9.0 = 9"), "stopped 0 notowner", "stopped 0 noroom"),
 ]
