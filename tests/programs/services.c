@@ -222,7 +222,7 @@ static void lines(void) {
 /* Prints which service may complain of which, and connect to which: by class, and by lists. vfs has no lists; mfs and disk have. */
 static void dealings(void) {
     static const char some[] =
-        "format = 2\nservice = [{label = \"vfs\", class = \"server\"}, {label = \"disk\", class = \"block\", unit = 3, complains = [\"vfs\"], connects = []},"
+        "format = 2\nservice = [{label = \"vfs\", class = \"server\", limit = 0}, {label = \"disk\", class = \"block\", unit = 3, complains = [\"vfs\"], connects = []},"
         " {label = \"mfs\", class = \"server\", complains = [], connects = [\"disk\", \"nobody\"]}, {label = \"tty\", class = \"character\", unit = 4}]";
     static const char *const labels[] = {"vfs", "disk", "mfs", "tty", "nobody", "di sk", ""};
     static const char *const up[] = {"vfs", "disk", "mfs", "tty"};

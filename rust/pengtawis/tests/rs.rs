@@ -17,6 +17,7 @@ connects = ["log"]
 [[service]]
 label = "log"
 class = "server"
+limit = 0
 "#;
 const OTHERS: &str = r#"
 slots = 2
