@@ -257,9 +257,9 @@ signal.signal(signal.SIGTERM, lambda *_: (note("asked to end"), os._exit(0) if l
 note("there")
 while True: time.sleep(1)
 '''
-    host.start({label: ({}, body) for label in ("kind", "rude")}, options=("--grace", "700"))
+    host.start({label: ({}, body) for label in ("kind", "rude")}, options=("--grace", "2000"))
     host.noted("kind 1/16 there"), host.noted("rude 2/17 there")
-    for label, least, most in (("kind", 0, 0.6), ("rude", 0.6, 9)):
+    for label, least, most in (("kind", 0, 1.8), ("rude", 1.8, 9)):  # Python may see a signal after its sleep only
         begun = time.monotonic()
         host.ask(f"service down {label}")
         host.logged(f"gone {label}")
