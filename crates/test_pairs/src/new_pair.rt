@@ -1,11 +1,12 @@
 //! RS and a store, before any call.
 
-use rs_settings::read;
+use rs_settings::read_any;
 use rs_store::{RsCommand, RsStore};
 use std::alloc::Global;
 
 // Four services. RS answers a thousand failures in a row by a start, and pings two of them.
-const SERVICES: &[u8] = b"slots = 8
+const SERVICES: &[u8] = b"format = 2
+slots = 8
 service = [
     {label = \"disk\", class = \"block\", unit = 3, period = 8, limit = 1000},
     {label = \"eth0\", class = \"network\", unit = 1, limit = 1000, forget = 64},
@@ -31,7 +32,7 @@ pub(crate) fn pair_of(alloc: Global, incarnation: u64, ring: u32) -> Option<Box<
 
 /// Returns the command with which RS begins, or `None` if memory runs out.
 pub(crate) fn beginning(alloc: Global) -> Option<RsCommand> {
-    let settings = read(alloc, SERVICES).ok()?;
+    let settings = read_any(alloc, SERVICES).ok()?;
     Some(RsCommand::Begin {
         settings,
         next: 1,
