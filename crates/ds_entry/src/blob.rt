@@ -1,13 +1,15 @@
 //! Blobs: the values of entries of the kind mem.
 
-ghost use Rattle.std.specs.Prelude.{◌≡◌, ℕ, IfOk, IfErr};
+ghost use Rattle.std.specs.Prelude.{◌≡◌, ◌≢◌, ℕ, [], IfOk, IfErr, OnErr};
 ghost use Rattle.std.specs.Bool.{◌==◌};
 ghost use Rattle.std.proofs.lemmas.Cmp.{nat_list_eq_equiv};
 ghost use Rattle.std.specs.Cmp.{partial_equiv_from_equiv};
 ghost use Rattle.std.specs.Cmp.Lexicographic.{pointwise};
 ghost use Rattle.ds_entry.specs.Value.{IsBlob};
 ghost use Rattle.ds_entry.specs.ValueFault.{IsBlobFault};
+ghost use Rattle.ds_entry.specs.declared.blob.BlobFault.TheVariants.{NoRoom as LacksRoom};
 
+use crate::bytes::copy_bytes;
 use ds_names::NoRoom;
 use std::alloc::Global;
 use std::marker::Model;
@@ -42,16 +44,18 @@ impl Model for Blob {
 }
 
 impl Blob {
-    /// Copies the bytes into a blob. Refuses more than 1024 as TooLong, then reports NoRoom if memory runs out.
+    /// Copies the bytes into a blob. Refuses more than 1024 as TooLong, then reports NoRoom if memory runs out; an
+    /// empty blob takes none.
     pub fn read(alloc: Global, bytes: &[u8]) -> Result<Blob, BlobFault>
         ensures found { IfOk result (λ blob. blob ≡ bytes.now) }
         ensures valid { IfOk result IsBlob }
         ensures refused { IfErr result (λ fault. IsBlobFault fault bytes.now) }
+        ensures room { IfErr result (λ fault. fault ≡ LacksRoom → bytes.now ≢ []) }
     {
         if bytes.len() > 1024 {
             return Err(BlobFault::TooLong);
         }
-        match bytes.to_vec(alloc) {
+        match copy_bytes(alloc, bytes) {
             Ok(bytes) => Ok(Blob { bytes }),
             Err(_) => Err(BlobFault::NoRoom),
         }
@@ -65,12 +69,13 @@ impl Blob {
         &self.bytes
     }
 
-    /// Copies the blob. Fails only if memory runs out.
+    /// Copies the blob. Fails only if memory runs out; the copy of an empty blob takes none.
     pub fn copy(&self, alloc: Global) -> Result<Blob, NoRoom>
-        ensures { IfOk result (λ blob. blob ≡ self.now) }
+        ensures same { IfOk result (λ blob. blob ≡ self.now) }
+        ensures room { OnErr result (self.now ≢ []) }
     {
         Ok(Blob {
-            bytes: self.bytes.as_slice().to_vec(alloc)?,
+            bytes: copy_bytes(alloc, &self.bytes)?,
         })
     }
 }

@@ -34,9 +34,10 @@ impl Items {
         }
     }
 
-    /// Returns a list of copies of the items. Fails only if memory runs out.
+    /// Returns a list of copies of the items. Fails only if memory runs out; copies of no items take none.
     pub fn copies(alloc: Global, items: &[Item]) -> Result<Items, NoRoom>
-        ensures { IfOk result (λ copies. copies ≡ items.now) }
+        ensures same { IfOk result (λ copies. copies ≡ items.now) }
+        ensures room { OnErr result (items.now ≢ []) }
     {
         let mut copies = Vec::new(alloc);
         push_copies(alloc, &mut copies, items)?;
@@ -106,9 +107,10 @@ impl Items {
         self.items.retain(|item| item.is_put());
     }
 
-    /// Copies the list. Fails only if memory runs out.
+    /// Copies the list. Fails only if memory runs out; the copy of an empty list takes none.
     pub fn copy(&self, alloc: Global) -> Result<Items, NoRoom>
-        ensures { IfOk result (λ copy. copy ≡ self.now) }
+        ensures same { IfOk result (λ copy. copy ≡ self.now) }
+        ensures room { OnErr result (self.now ≢ []) }
     {
         Items::copies(alloc, self.as_slice())
     }

@@ -7,6 +7,7 @@
 
 mod blob;
 mod body;
+mod bytes;
 mod change;
 mod floor;
 mod item;

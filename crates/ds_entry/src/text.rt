@@ -1,6 +1,6 @@
 //! Texts: the values of entries of the kind str.
 
-ghost use Rattle.std.specs.Prelude.{◌≡◌, ℕ, IfOk, IfErr};
+ghost use Rattle.std.specs.Prelude.{◌≡◌, ◌≢◌, ℕ, [], IfOk, IfErr, OnErr};
 ghost use Rattle.std.specs.Bool.{◌==◌};
 ghost use Rattle.std.proofs.lemmas.Cmp.{nat_list_eq_equiv};
 ghost use Rattle.std.specs.Cmp.{partial_equiv_from_equiv};
@@ -8,7 +8,9 @@ ghost use Rattle.std.specs.Cmp.Lexicographic.{pointwise};
 ghost use Rattle.std.specs.List.{list_all};
 ghost use Rattle.ds_entry.specs.Value.{is_text_byte, IsText};
 ghost use Rattle.ds_entry.specs.ValueFault.{IsTextFault};
+ghost use Rattle.ds_entry.specs.declared.text.TextFault.TheVariants.{NoRoom as LacksRoom};
 
+use crate::bytes::copy_bytes;
 use ds_names::NoRoom;
 use std::alloc::Global;
 use std::marker::Model;
@@ -61,11 +63,12 @@ impl Model for Text {
 
 impl Text {
     /// Copies the bytes into a text. Refuses more than 256 as TooLong, then others than printable ASCII as BadText. Then
-    /// reports NoRoom if memory runs out.
+    /// reports NoRoom if memory runs out; an empty text takes none.
     pub fn read(alloc: Global, bytes: &[u8]) -> Result<Text, TextFault>
         ensures found { IfOk result (λ text. text ≡ bytes.now) }
         ensures valid { IfOk result IsText }
         ensures refused { IfErr result (λ fault. IsTextFault fault bytes.now) }
+        ensures room { IfErr result (λ fault. fault ≡ LacksRoom → bytes.now ≢ []) }
     {
         if bytes.len() > 256 {
             return Err(TextFault::TooLong);
@@ -73,7 +76,7 @@ impl Text {
         if !is_printable(bytes) {
             return Err(TextFault::BadText);
         }
-        match bytes.to_vec(alloc) {
+        match copy_bytes(alloc, bytes) {
             Ok(bytes) => Ok(Text { bytes }),
             Err(_) => Err(TextFault::NoRoom),
         }
@@ -87,12 +90,13 @@ impl Text {
         &self.bytes
     }
 
-    /// Copies the text. Fails only if memory runs out.
+    /// Copies the text. Fails only if memory runs out; the copy of an empty text takes none.
     pub fn copy(&self, alloc: Global) -> Result<Text, NoRoom>
-        ensures { IfOk result (λ text. text ≡ self.now) }
+        ensures same { IfOk result (λ text. text ≡ self.now) }
+        ensures room { OnErr result (self.now ≢ []) }
     {
         Ok(Text {
-            bytes: self.bytes.as_slice().to_vec(alloc)?,
+            bytes: copy_bytes(alloc, &self.bytes)?,
         })
     }
 }

@@ -1,7 +1,7 @@
 //! Holders of changes and floors.
 
-ghost use Rattle.std.specs.Prelude.{◌≡◌, ◌≤◌, ◌++◌, ◌∷◌};
-ghost use Rattle.std.specs.Prelude.{[], All, IfOk, IfErr, IfSome, OnOk, drop, filter, option_and_then, slice_get, take};
+ghost use Rattle.std.specs.Prelude.{◌≡◌, ◌≢◌, ◌≤◌, ◌++◌, ◌∷◌};
+ghost use Rattle.std.specs.Prelude.{[], All, IfOk, IfErr, IfSome, OnOk, OnErr, drop, filter, option_and_then, slice_get, take};
 ghost use Rattle.std.specs.Option.{option_copied, option_map};
 ghost use Rattle.std.specs.List.{find};
 ghost use Rattle.ds_entry.specs.Change.{IsChange, IsValue};
@@ -193,9 +193,11 @@ impl Held {
         item_at(&self.floors, &self.changes, index)
     }
 
-    /// Returns copies of all items: the floors by their owners' names, then the changes by their keys.
+    /// Returns copies of all items: the floors by their owners' names, then the changes by their keys. Where nothing is
+    /// held, it takes no memory.
     pub fn all(&self, alloc: Global) -> Result<Items, NoRoom>
         ensures value { IfOk result (λ items. items ≡ held_items self.now) }
+        ensures room { OnErr result (held_items self.now ≢ []) }
         ensures changes { All IsChange (held_changes self.now) }
     {
         copy_all(alloc, &self.floors, &self.changes)

@@ -1,6 +1,6 @@
 //! What is held, item by item, and copies of all of it.
 
-ghost use Rattle.std.specs.Prelude.{◌≡◌, ◌++◌, map, slice_get, IfOk, OnOk};
+ghost use Rattle.std.specs.Prelude.{◌≡◌, ◌≢◌, ◌++◌, [], map, slice_get, IfOk, OnOk, OnErr};
 ghost use Rattle.std.specs.Option.{option_map};
 ghost use Rattle.ds_entry.specs.Lent.{item_lent};
 ghost use Rattle.ds_held.specs.Held.{change_item};
@@ -30,7 +30,8 @@ pub(crate) fn item_at<'a>(
 
 // Appends the floors to a list of items.
 fn add_floors(items: &mut Items, floors: &[Floor]) -> Result<(), NoRoom>
-    ensures { OnOk result (items.new ≡ items.old ++ map floored floors.now) }
+    ensures added { OnOk result (items.new ≡ items.old ++ map floored floors.now) }
+    ensures room { OnErr result (floors.now ≢ []) }
 {
     for floor in floors {
         items.push(Item::Floor(*floor))?;
@@ -40,7 +41,8 @@ fn add_floors(items: &mut Items, floors: &[Floor]) -> Result<(), NoRoom>
 
 // Appends copies of the changes to a list of items.
 fn add_changes(alloc: Global, items: &mut Items, changes: &Rows<Change>) -> Result<(), NoRoom>
-    ensures { OnOk result (items.new ≡ items.old ++ map change_item changes.now) }
+    ensures added { OnOk result (items.new ≡ items.old ++ map change_item changes.now) }
+    ensures room { OnErr result (changes.now ≢ []) }
 {
     for i in 0..changes.len() {
         let change = changes.at(i);
@@ -52,13 +54,14 @@ fn add_changes(alloc: Global, items: &mut Items, changes: &Rows<Change>) -> Resu
     Ok(())
 }
 
-// Returns copies of all items, floors first.
+// Returns copies of all items, floors first. Copies of nothing take no memory.
 pub(crate) fn copy_all(
     alloc: Global,
     floors: &[Floor],
     changes: &Rows<Change>,
 ) -> Result<Items, NoRoom>
-    ensures { IfOk result (λ items. items ≡ map floored floors.now ++ map change_item changes.now) }
+    ensures same { IfOk result (λ items. items ≡ map floored floors.now ++ map change_item changes.now) }
+    ensures room { OnErr result (map floored floors.now ++ map change_item changes.now ≢ []) }
 {
     let mut items = Items::new(alloc);
     add_floors(&mut items, floors)?;

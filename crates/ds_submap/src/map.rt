@@ -143,9 +143,11 @@ impl SubMap {
         self.held.clear();
     }
 
-    /// Returns the puts of what is held, in the order of their keys. No held floor voids any of them.
+    /// Returns the puts of what is held, in the order of their keys. No held floor voids any of them. Where no put is
+    /// held, it takes no memory.
     pub fn entries(&self, alloc: Global) -> Result<Items, NoRoom>
         ensures value { IfOk result (λ items. items ≡ entries_of (held_items self.now.held)) }
+        ensures room { OnErr result (entries_of (held_items self.now.held) ≢ []) }
         ensures floors { IfOk result (AreSwept (held_items self.now.held)) }
         ensures items { IfOk result (λ items. All IsItem items) }
     {
