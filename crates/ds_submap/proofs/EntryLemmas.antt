@@ -1,6 +1,6 @@
 -- The puts of what is held, in order.
-use Rattle.std.proofs.Common.{◌≡◌, ℕ, ◌+◌, true, false, cond, List, [], ◌∷◌, ◌++◌, map, take, Some, refl, sym, ap, ◌∙◌, append-nil}
-use Rattle.std.proofs.lemmas.List.{take_more}
+use Rattle.std.proofs.Common.{◌≡◌, ◌≢◌, ℕ, ◌+◌, true, false, cond, List, [], ◌∷◌, ◌++◌, map, take, drop, Some, Result, Ok, Err, OnErr, refl, sym, ap, ◌∙◌, append-nil}
+use Rattle.std.proofs.lemmas.List.{take_more, take-append-drop, map-append}
 use Rattle.std.proofs.lemmas.List.Elements.{filter-append}
 use Rattle.std.proofs.lemmas.Option.{get_or_from_slice_get, slice_get_within}
 use Rattle.std.specs.FinMap.{entries}
@@ -32,6 +32,13 @@ puts_push (d ∷ cs) c =
       | false ↦ puts_push cs c
     ]
 
+has_one : (l m : List Item) (x : Item) → (l ++ x ∷ []) ++ m ≡ [] → ⊥
+has_one [] m x is = absurd (cc)
+has_one (y ∷ l) m x is = absurd (cc)
+
+puts_append : (cs ds : List ChangeRecord) → puts_of (cs ++ ds) ≡ puts_of cs ++ puts_of ds
+puts_append cs ds = ap entries_of (map-append change_item cs ds) ∙ filter-append is_put (map change_item cs) (map change_item ds)
+
 module _ (cs : List ChangeRecord) (i : ℕ) (c : ChangeRecord) (at : slice_get cs i ≡ Some c) where
   one_more : puts_of (take (i + 1) cs) ≡ puts_of (take i cs) ++ cond (leaves_value c) (Changed c ∷ []) []
   one_more = ap puts_of (take_more cs i c (slice_get_within cs i c at) ∙ ap (λ (y : ChangeRecord). take i cs ++ y ∷ []) (get_or_from_slice_get cs i c c at)) ∙ puts_push (take i cs) c
@@ -41,3 +48,13 @@ module _ (cs : List ChangeRecord) (i : ℕ) (c : ChangeRecord) (at : slice_get c
 
   pub tombstone_passed : leaves_value c ≡ false → puts_of (take i cs) ≡ puts_of (take (i + 1) cs)
   tombstone_passed p = sym (one_more ∙ ap (λ b. puts_of (take i cs) ++ cond b (Changed c ∷ []) []) p ∙ append-nil (puts_of (take i cs)))
+
+  -- Among the changes of which one is a put there are puts.
+  pub some_put : leaves_value c ≡ true → puts_of cs ≢ []
+  some_put p none =
+      has_one (puts_of (take i cs)) (puts_of (drop (i + 1) cs)) (Changed c)
+      (ap (λ l. l ++ puts_of (drop (i + 1) cs)) (put_added p) ∙ sym (puts_append (take (i + 1) cs) (drop (i + 1) cs)) ∙ ap puts_of (take-append-drop (i + 1) cs) ∙ none)
+
+pub on_err : {T E : Type 0} (r : Result T E) (P : Type 0) → P → OnErr r P
+on_err (Ok x) P p = tt
+on_err (Err e) P p = p

@@ -1,6 +1,6 @@
 //! Maps of subscribers.
 
-ghost use Rattle.std.specs.Prelude.{◌≡◌, ◌++◌, All, IfOk, IfErr, IfSome};
+ghost use Rattle.std.specs.Prelude.{◌≡◌, ◌≢◌, ◌++◌, [], All, IfOk, IfErr, IfSome, OnErr};
 ghost use Rattle.std.specs.Option.{option_copied};
 ghost use Rattle.ds_names.specs.Endpoint.{IsEndpoint};
 ghost use Rattle.ds_entry.specs.Change.{IsChange};

@@ -1,7 +1,6 @@
-use Rattle.std.proofs.Common.{◌≡◌, ◌≤◌, ◌∷◌, ◌||◌, List, true, length, take, ap, refl, sym, ◌∙◌, arith}
+use Rattle.std.proofs.Common.{◌≡◌, ◌||◌, take, ap, sym, ◌∙◌, arith}
 use Rattle.std.proofs.lemmas.List.{take_all}
 use Rattle.std.specs.List.{list_any}
-use Rattle.ds_entry.specs.declared.item.Item.{Item}
 use Rattle.ds_submap.specs.Take.{needs_query}
 use Rattle.ds_submap.proofs.take.is_any_packed_asked.Goals as goal
 
