@@ -1,5 +1,5 @@
 -- The effects of RS's actions.
-use Rattle.std.proofs.Common.{◌≡◌, ◌≢◌, ℕ, zero, suc, ◌+◌, ◌≤◌, true, false, List, [], ◌∷◌, ◌++◌, length, take, Option, Some, None, refl, ap, sym, ◌∙◌, subst, inl, inr, arith}
+use Rattle.std.proofs.Common.{◌≡◌, ℕ, zero, suc, ◌+◌, ◌≤◌, true, false, List, [], ◌∷◌, ◌++◌, length, take, Option, Some, None, refl, ap, sym, ◌∙◌, subst, inl, inr, arith}
 use Rattle.std.specs.List.{slice_get, filter_map, cons_option, AllByRecursion}
 use Rattle.std.proofs.lemmas.List.{append-nil, length_push, take_more}
 use Rattle.std.proofs.lemmas.List.Elements.{filter_map-append, Contains-append_cases}
@@ -20,8 +20,7 @@ use Rattle.rs_core.specs.declared.event.Event as services
 use Rattle.rs_core.specs.declared.fault.RsFault.{RsFault}
 use Rattle.rs_core.specs.declared.fault.RsFault.TheVariants as faults
 use Rattle.rs_core.specs.State.{RsRecord}
-use Rattle.rs_core.specs.Judging.{order, against, refusal, asks, has_actions}
-use Rattle.rs_core.specs.Machine.{asked}
+use Rattle.rs_core.specs.Judging.{order, against, refusal}
 use Rattle.rs_core.specs.Run.{offers}
 use Rattle.rs_core.specs.Step.{RsStep}
 use Rattle.ds_replica.specs.declared.event.Side.{Side}
@@ -124,22 +123,6 @@ stands_fault rs event tick faults.NotUp e = e
 stands_fault rs event tick faults.OldEndpoint e = e
 stands_fault rs event tick faults.GenerationsSpent e = e
 stands_fault rs event tick faults.NoSlot e = e
-
--- unless something was against the event, RS refuses it only if memory runs out
-pub late_fault : (rs : RsRecord) (event : services.Event) (tick : ℕ) (fault : RsFault)
-    → (fault ≢ faults.NoRoom → refusal rs event tick ≡ Some fault) → refusal rs event tick ≡ None
-    → (fault ≡ faults.NoRoom → asks has_actions (asked rs event tick) ≡ true)
-    → IsServiceFault rs event tick fault
-late_fault rs event tick faults.NoRoom h none acts = (none, acts refl)
-late_fault rs event tick faults.TickBack h none acts = h (λ e. cc)
-late_fault rs event tick faults.Worn h none acts = h (λ e. cc)
-late_fault rs event tick faults.UnknownLabel h none acts = h (λ e. cc)
-late_fault rs event tick faults.BadCause h none acts = h (λ e. cc)
-late_fault rs event tick faults.AlreadyUp h none acts = h (λ e. cc)
-late_fault rs event tick faults.NotUp h none acts = h (λ e. cc)
-late_fault rs event tick faults.OldEndpoint h none acts = h (λ e. cc)
-late_fault rs event tick faults.GenerationsSpent h none acts = h (λ e. cc)
-late_fault rs event tick faults.NoSlot h none acts = h (λ e. cc)
 
 module _ (value : SystemRecord) (event : services.Event) (tick : ℕ) (side : Side) where
   pub rs_refused : (fault : RsFault) → IsServiceFault value.rs event tick fault → SystemEventLeads (events.Service event tick side) (Refused (refusals.Service fault)) value value

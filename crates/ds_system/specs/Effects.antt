@@ -1,15 +1,11 @@
 -- The effects of an event's steps on what the code keeps: what goes to a store, and what a service writes.
-use Rattle.std.specs.Prelude.{◌≡◌, ℕ, ◌+◌, ◌≤◌, ◌⊎◌, false, List, [], ◌∷◌, ◌++◌, length, Option, Some, None, Result}
+use Rattle.std.specs.Prelude.{◌≡◌, ℕ, List, [], ◌∷◌, ◌++◌, length, Option, Some, None, Result}
 use Rattle.ds_names.specs.declared.key.Key.{Key}
 use Rattle.ds_entry.specs.declared.body.Body.{Body}
 use Rattle.ds_entry.specs.declared.body.Body.TheVariants as bodies
 use Rattle.ds_machine.specs.declared.command.Command.{Command}
 use Rattle.ds_machine.specs.declared.reply.Reply.{Reply}
-use Rattle.rs_core.specs.declared.event.Event as services
 use Rattle.rs_core.specs.declared.state.Running.{Running}
-use Rattle.rs_core.specs.Judging.{asks, has_actions}
-use Rattle.rs_core.specs.Machine.{asked}
-use Rattle.rs_core.specs.State.{RsRecord}
 use Rattle.ds_replica.specs.declared.event.Side.{Side}
 use Rattle.ds_replica.specs.declared.event.Event.TheVariants.{Ask}
 use Rattle.ds_replica.specs.declared.outcome.Outcome.TheVariants.{Replied}
@@ -30,13 +26,6 @@ AskedIfAny side None before after old new = (after ≡ before) × (new ≡ old)
 AskedIfAny side (Some command) before after old new =
     (reply : Reply) × (after ≡ before ++ reply ∷ []) × EventLeads (Ask side command) (Replied reply) old new ×
     IsTold (Ask side command) (Replied reply) old new
-
--- The empty list has room for the replies to the event's actions, at most five, and the changes that were made leave room
--- for those that the actions offer.
-pub record HasRoomToAct (rs : RsRecord) (event : services.Event) (tick : ℕ) (replies : List Reply)
-    (capacity made made_capacity : ℕ) : Type 0 where
-  pub none : replies ≡ []
-  pub room : (asks has_actions (asked rs event tick) ≡ false) ⊎ ((5 ≤ capacity) × (made + 5 ≤ made_capacity))
 
 -- Whether these commands went to the side's store, in order, with these replies, led from the old world to the new, and
 -- were reported so.

@@ -11,7 +11,7 @@ use Rattle.std.proofs.lemmas.Option.{get_or_from_slice_get, same_Some}
 use Rattle.rs_settings.specs.declared.service.Service.{Service}
 use Rattle.rs_core.specs.declared.deed.Deed.{Deed}
 use Rattle.rs_core.specs.declared.deed.Deed.TheVariants.{Begin, Resume, Halt, Replace, Lose, Forget, Hear, Ping}
-use Rattle.rs_core.specs.declared.deed.Plan.{Plan}
+use Rattle.rs_core.specs.declared.deed.Task.{Task}
 use Rattle.rs_core.specs.declared.event.Event.TheVariants.{Tick}
 use Rattle.rs_core.specs.declared.fault.RsFault.{RsFault}
 use Rattle.rs_core.specs.declared.finding.Sought.{Sought}
@@ -22,7 +22,7 @@ use Rattle.rs_core.specs.declared.state.Running.{Running}
 use Rattle.rs_core.specs.declared.state.Pause.{Pause}
 use Rattle.rs_core.specs.State.{RsRecord, state_at, service_at, no_service}
 use Rattle.rs_core.specs.Finding.{is_sought, first_sought, service_place, when_up, when_waiting}
-use Rattle.rs_core.specs.Machine.{asked, due, failed, failures_left, plan, state_after, actions_of}
+use Rattle.rs_core.specs.Machine.{asked, due, failed, failures_left, task, state_after, actions_of}
 use Rattle.rs_core.specs.Reading.{is_due, any_due, TicksActWhenDue, gives_up, given_up, given_up_in, StepsGiveUp}
 use Rattle.rs_core.proofs.SaysLemmas.{written}
 
@@ -101,7 +101,7 @@ found_due tick i (s ∷ ss) (t ∷ ts) =
 
 pub due_is_any : (s : RsRecord) (tick : ℕ) → is_some (due s tick) ≡ any_due tick s.settings.services s.states
 due_is_any s tick =
-    some_of_three (plan (Lose true)) (plan Ping) (plan Resume) (service_place s (sought.Missed tick)) (service_place s (sought.Silent tick)) (service_place s (sought.Rested tick))
+    some_of_three (task (Lose true)) (task Ping) (task Resume) (service_place s (sought.Missed tick)) (service_place s (sought.Silent tick)) (service_place s (sought.Rested tick))
     ∙ found_due tick 0 s.settings.services s.states
 
 -- ---- what a tick does
@@ -173,24 +173,24 @@ start_acts s tick place e =
     let is = waits_when (λ p. nat_le p.until tick) (state_at s place) (is_there s (sought.Rested tick) place e) in
     subst (λ (z : State). actions_of s (service_at s place) z Resume ≢ []) (sym is.1) (cons_not _ _)
 
-same_plan : (p q : Plan) → Some p ≡ Some q → p ≡ q
-same_plan p q e = cc
+same_task : (p q : Task) → Some p ≡ Some q → p ≡ q
+same_task p q e = cc
 
-due_acts : (s : RsRecord) (tick : ℕ) (p : Plan) → due s tick ≡ Some p → ActsAt s p.place p.deed
+due_acts : (s : RsRecord) (tick : ℕ) (p : Task) → due s tick ≡ Some p → ActsAt s p.place p.deed
 due_acts s tick p e = by (service_place s (sought.Missed tick)) refl (service_place s (sought.Silent tick)) refl (service_place s (sought.Rested tick)) refl e
   where
-    one : (deed : Deed) (place : ℕ) → Some (plan deed place) ≡ Some p → ActsAt s place deed → ActsAt s p.place p.deed
-    one deed place q acts = subst (λ (z : Plan). ActsAt s z.place z.deed) (same_plan (plan deed place) p q) acts
+    one : (deed : Deed) (place : ℕ) → Some (task deed place) ≡ Some p → ActsAt s place deed → ActsAt s p.place p.deed
+    one deed place q acts = subst (λ (z : Task). ActsAt s z.place z.deed) (same_task (task deed place) p q) acts
 
     by : (m : Option ℕ) → service_place s (sought.Missed tick) ≡ m → (n : Option ℕ) → service_place s (sought.Silent tick) ≡ n → (o : Option ℕ) → service_place s (sought.Rested tick) ≡ o
-        → option_or (option_map (plan (Lose true)) m) (option_or (option_map (plan Ping) n) (option_map (plan Resume) o)) ≡ Some p → ActsAt s p.place p.deed
+        → option_or (option_map (task (Lose true)) m) (option_or (option_map (task Ping) n) (option_map (task Resume) o)) ≡ Some p → ActsAt s p.place p.deed
     by (Some i) f n g o h q = one (Lose true) i q (lose_acts s tick i f)
     by None f (Some i) g o h q = one Ping i q (ping_acts s tick i g)
     by None f None g (Some i) h q = one Resume i q (start_acts s tick i h)
     by None f None g None h q = absurd (let n : None ≡ Some p = q in cc)
 
--- a result is of one plan
-pub same_asked : (a b : Option Plan) (x : Result (Option Plan) RsFault) → x ≡ Ok a → x ≡ Ok b → a ≡ b
+-- a result is of one task
+pub same_asked : (a b : Option Task) (x : Result (Option Task) RsFault) → x ≡ Ok a → x ≡ Ok b → a ≡ b
 same_asked a b x e f = cc
 
 pub ticks_act : TicksActWhenDue

@@ -13,7 +13,7 @@ use Rattle.rs_core.specs.declared.state.State.{State}
 use Rattle.rs_core.specs.declared.state.State.TheVariants.{Down, Up, Waiting, GaveUp}
 use Rattle.rs_core.specs.declared.deed.Deed.{Deed}
 use Rattle.rs_core.specs.declared.deed.Deed.TheVariants.{Begin, Resume, Halt, Replace, Lose, Ping}
-use Rattle.rs_core.specs.declared.deed.Plan.{Plan}
+use Rattle.rs_core.specs.declared.deed.Task.{Task}
 use Rattle.rs_core.specs.Action.{label_put, label_gone, start_actions, stop_actions}
 use Rattle.rs_core.specs.State.{RsRecord, state_at, service_at}
 use Rattle.rs_core.specs.Machine.{actions_of, next_after, new_endpoint, same_slot}
@@ -38,7 +38,7 @@ deed_rises s service (Up r) deed = omega arith
 deed_rises s service (Waiting p) deed = omega arith
 deed_rises s service GaveUp deed = omega arith
 
-follow_rises : (s : RsRecord) (tick : ℕ) (p : Option Plan) (actions : List Action) (t : RsRecord) → IsCarriedOut s tick p actions t → AreRising s.next (starts actions) t.next
+follow_rises : (s : RsRecord) (tick : ℕ) (p : Option Task) (actions : List Action) (t : RsRecord) → IsCarriedOut s tick p actions t → AreRising s.next (starts actions) t.next
 follow_rises s tick None actions t h =
     let n : s.next ≡ t.next = sym (ap (λ (r : RsRecord). r.next) h.after) in
     subst (λ (z : List Action). AreRising s.next (starts z) t.next) (sym h.done) (omega arith)
@@ -135,7 +135,7 @@ deed_labels s service (Up r) deed c h = absurd h
 deed_labels s service (Waiting p) deed c h = absurd h
 deed_labels s service GaveUp deed c h = absurd h
 
-follow_labels : (s : RsRecord) (tick : ℕ) (p : Option Plan) (actions : List Action) (t : RsRecord) (c : ChangeRecord) → IsCarriedOut s tick p actions t → In c (offers actions) → IsLabelOf (starts actions) c
+follow_labels : (s : RsRecord) (tick : ℕ) (p : Option Task) (actions : List Action) (t : RsRecord) (c : ChangeRecord) → IsCarriedOut s tick p actions t → In c (offers actions) → IsLabelOf (starts actions) c
 follow_labels s tick None actions t c h i = absurd (subst (λ (z : List Action). In c (offers z)) h.done i)
 follow_labels s tick (Some p) actions t c h i = subst (λ (z : List Action). IsLabelOf (starts z) c) (sym h.done) (deed_labels s (service_at s p.place) (state_at s p.place) p.deed c (subst (λ (z : List Action). In c (offers z)) h.done i))
 

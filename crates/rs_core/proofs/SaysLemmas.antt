@@ -19,7 +19,7 @@ use Rattle.rs_core.specs.declared.state.Running.{Running}
 use Rattle.rs_core.specs.declared.state.Pause.{Pause}
 use Rattle.rs_core.specs.declared.deed.Deed.{Deed}
 use Rattle.rs_core.specs.declared.deed.Deed.TheVariants.{Begin, Resume, Halt, Replace, Lose, Forget, Hear, Ping}
-use Rattle.rs_core.specs.declared.deed.Plan.{Plan}
+use Rattle.rs_core.specs.declared.deed.Task.{Task}
 use Rattle.rs_core.specs.declared.finding.Sought.TheVariants as sought
 use Rattle.rs_core.specs.Action.{IsActionInPlace, label_put, start_actions, stop_actions}
 use Rattle.rs_core.specs.State.{RsRecord, state_at, service_at, no_service}
@@ -149,10 +149,10 @@ second_false true b e q = e
 second_false false b e q = absurd (let n : false ≡ true = q in cc)
 
 -- a deed that takes a generation finds one left, if no fault applies to the event
-generation_left : (s : RsRecord) (event : Event) (tick : ℕ) (p : Plan) → refusal s event tick ≡ None → asked s event tick ≡ Ok (Some p) → takes_generation p.deed ≡ true → s.next ≤ 2097151
+generation_left : (s : RsRecord) (event : Event) (tick : ℕ) (p : Task) → refusal s event tick ≡ None → asked s event tick ≡ Ok (Some p) → takes_generation p.deed ≡ true → s.next ≤ 2097151
 generation_left s event tick p free is takes =
     let spent : asks takes_generation (asked s event tick) && nat_lt 2097151 s.next ≡ false = none_stands (against s event tick) order GenerationsSpent free (inr (inr (inr (inr (inr (inr (inr (inl refl)))))))) in
-    let here : takes_generation p.deed && nat_lt 2097151 s.next ≡ false = subst (λ (z : Result (Option Plan) RsFault). asks takes_generation z && nat_lt 2097151 s.next ≡ false) is spent in
+    let here : takes_generation p.deed && nat_lt 2097151 s.next ≡ false = subst (λ (z : Result (Option Task) RsFault). asks takes_generation z && nat_lt 2097151 s.next ≡ false) is spent in
     let q : nat_lt 2097151 s.next ≡ false = second_false (takes_generation p.deed) (nat_lt 2097151 s.next) here takes in
     grind (arith, nat_tests)
 
@@ -221,7 +221,7 @@ quiet_deed s service state Ping e = absurd (let n : true ≡ false = e in cc)
 pub quiet_steps : QuietStepsAreEmpty
 quiet_steps s t event tick actions (None, free, is, h) quiet = h.done
 quiet_steps s t event tick actions (Some p, free, is, h) quiet =
-    let none : has_actions p.deed ≡ false = subst (λ (z : Result (Option Plan) RsFault). asks has_actions z ≡ false) is quiet in
+    let none : has_actions p.deed ≡ false = subst (λ (z : Result (Option Task) RsFault). asks has_actions z ≡ false) is quiet in
     h.done ∙ quiet_deed s (service_at s p.place) (state_at s p.place) p.deed none
 
 -- ---- labels

@@ -9,7 +9,7 @@ use Rattle.rs_core.specs.declared.fault.RsFault.TheVariants.{TickBack, Worn, Unk
 use Rattle.rs_core.specs.declared.fault.RsFault.TheVariants.{OldEndpoint, GenerationsSpent, NoSlot, NoRoom}
 use Rattle.rs_core.specs.declared.deed.Deed.{Deed}
 use Rattle.rs_core.specs.declared.deed.Deed.TheVariants.{Begin, Resume, Replace, Forget, Hear}
-use Rattle.rs_core.specs.declared.deed.Plan.{Plan}
+use Rattle.rs_core.specs.declared.deed.Task.{Task}
 use Rattle.rs_core.specs.State.{RsRecord, up_count}
 use Rattle.rs_core.specs.Machine.{asked}
 
@@ -42,25 +42,25 @@ has_actions Hear = false
 has_actions _ = true
 
 -- Whether the event calls for a deed that passes the test.
-abbrev pub asks : (Deed → Bool) → Result (Option Plan) RsFault → Bool
+abbrev pub asks : (Deed → Bool) → Result (Option Task) RsFault → Bool
 asks test (Ok (Some p)) = test p.deed
 asks test (Ok None) = false
 asks test (Err fault) = false
 
 -- Whether the table answers with this fault.
-abbrev pub names_unknown : Result (Option Plan) RsFault → Bool
+abbrev pub names_unknown : Result (Option Task) RsFault → Bool
 names_unknown (Err UnknownLabel) = true
 names_unknown _ = false
 
-abbrev pub names_already_up : Result (Option Plan) RsFault → Bool
+abbrev pub names_already_up : Result (Option Task) RsFault → Bool
 names_already_up (Err AlreadyUp) = true
 names_already_up _ = false
 
-abbrev pub names_not_up : Result (Option Plan) RsFault → Bool
+abbrev pub names_not_up : Result (Option Task) RsFault → Bool
 names_not_up (Err NotUp) = true
 names_not_up _ = false
 
-abbrev pub names_old : Result (Option Plan) RsFault → Bool
+abbrev pub names_old : Result (Option Task) RsFault → Bool
 names_old (Err OldEndpoint) = true
 names_old _ = false
 

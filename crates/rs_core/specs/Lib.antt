@@ -13,3 +13,4 @@ pub mod Says
 pub mod Numbering
 pub mod Reading
 pub mod Renewal
+pub mod Planning

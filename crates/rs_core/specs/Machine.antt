@@ -16,7 +16,7 @@ use Rattle.rs_core.specs.declared.state.Running.{Running}
 use Rattle.rs_core.specs.declared.finding.Sought.TheVariants as sought
 use Rattle.rs_core.specs.declared.deed.Deed.{Deed}
 use Rattle.rs_core.specs.declared.deed.Deed.TheVariants.{Begin, Resume, Halt, Replace, Lose, Forget, Hear, Ping}
-use Rattle.rs_core.specs.declared.deed.Plan.{Plan}
+use Rattle.rs_core.specs.declared.deed.Task.{Task}
 use Rattle.rs_core.specs.Action.{start_actions, stop_actions}
 use Rattle.rs_core.specs.Slots.{SlotsRecord, next_key, with_next_taken, with_freed}
 use Rattle.rs_core.specs.State.{RsRecord, state_at}
@@ -26,33 +26,33 @@ use Rattle.rs_core.specs.Finding.{service_place}
 -- ---- what is called for
 
 -- The deed, for the service with this index.
-abbrev pub plan : Deed → ℕ → Plan
-plan deed place = record { place = place; deed = deed }
+abbrev pub task : Deed → ℕ → Task
+task deed place = record { place = place; deed = deed }
 
 -- The table's answer, for the service with this index.
-abbrev pub planned : ℕ → Result Deed RsFault → Result (Option Plan) RsFault
-planned i (Ok deed) = Ok (Some (plan deed i))
+abbrev pub planned : ℕ → Result Deed RsFault → Result (Option Task) RsFault
+planned i (Ok deed) = Ok (Some (task deed i))
 planned i (Err fault) = Err fault
 
 -- The table's answer for the service with the label.
-abbrev pub of_label : RsRecord → (State → Result Deed RsFault) → Option ℕ → Result (Option Plan) RsFault
+abbrev pub of_label : RsRecord → (State → Result Deed RsFault) → Option ℕ → Result (Option Task) RsFault
 of_label s table None = Err UnknownLabel
 of_label s table (Some i) = planned i (table (state_at s i))
 
 -- The deed for the service that is up under the endpoint.
-abbrev pub of_instance : Deed → Option ℕ → Result (Option Plan) RsFault
+abbrev pub of_instance : Deed → Option ℕ → Result (Option Task) RsFault
 of_instance deed None = Err OldEndpoint
-of_instance deed (Some i) = Ok (Some (plan deed i))
+of_instance deed (Some i) = Ok (Some (task deed i))
 
 -- The first of these that is due: a missed heartbeat, which is a death of cause 4; a ping; a start after a wait.
-abbrev pub due : RsRecord → ℕ → Option Plan
+abbrev pub due : RsRecord → ℕ → Option Task
 due s tick =
-    option_or (option_map (plan (Lose true)) (service_place s (sought.Missed tick)))
-    (option_or (option_map (plan Ping) (service_place s (sought.Silent tick)))
-    (option_map (plan Resume) (service_place s (sought.Rested tick))))
+    option_or (option_map (task (Lose true)) (service_place s (sought.Missed tick)))
+    (option_or (option_map (task Ping) (service_place s (sought.Silent tick)))
+    (option_map (task Resume) (service_place s (sought.Rested tick))))
 
 -- What the event calls for: a deed, nothing, or the table's fault.
-abbrev pub asked : RsRecord → Event → ℕ → Result (Option Plan) RsFault
+abbrev pub asked : RsRecord → Event → ℕ → Result (Option Task) RsFault
 asked s (events.Up label) tick = of_label s on_up (service_place s (sought.Label label))
 asked s (events.Stop label) tick = of_label s on_stop (service_place s (sought.Label label))
 asked s (events.Refresh label) tick = of_label s on_refresh (service_place s (sought.Label label))

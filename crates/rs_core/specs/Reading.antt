@@ -8,7 +8,7 @@ use Rattle.rs_settings.specs.declared.service.Service.{Service}
 use Rattle.rs_core.specs.declared.action.Action.{Action}
 use Rattle.rs_core.specs.declared.deed.Deed.{Deed}
 use Rattle.rs_core.specs.declared.deed.Deed.TheVariants.{Lose}
-use Rattle.rs_core.specs.declared.deed.Plan.{Plan}
+use Rattle.rs_core.specs.declared.deed.Task.{Task}
 use Rattle.rs_core.specs.declared.event.Event.{Event}
 use Rattle.rs_core.specs.declared.event.Event.TheVariants.{Tick}
 use Rattle.rs_core.specs.declared.fault.RsFault.{RsFault}
@@ -55,7 +55,7 @@ gives_up tick (Lose kill) service (Up r) = nat_lt service.limit (failures_left s
 gives_up tick _ _ _ = false
 
 -- The service that is given up by what an event calls for.
-abbrev pub given_up_in : RsRecord → ℕ → Result (Option Plan) RsFault → Option ℕ
+abbrev pub given_up_in : RsRecord → ℕ → Result (Option Task) RsFault → Option ℕ
 given_up_in s tick (Ok (Some p)) = if gives_up tick p.deed (service_at s p.place) (state_at s p.place) then Some p.place else None
 given_up_in s tick _ = None
 

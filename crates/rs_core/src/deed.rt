@@ -30,7 +30,7 @@ pub(crate) enum Deed {
 
 /// A deed, and the index in the settings of the service that it is done to.
 #[derive(Clone, Copy)]
-pub(crate) struct Plan {
+pub(crate) struct Task {
     pub place: usize,
     pub deed: Deed,
 }

@@ -15,6 +15,7 @@ mod finding;
 mod judging;
 mod law;
 mod numberer;
+mod plan;
 mod rs;
 mod slots;
 mod state;
@@ -27,5 +28,6 @@ pub use law::{
     steps_say,
 };
 pub use numberer::{Numberer, SeqSpent};
+pub use plan::Plan;
 pub use rs::Rs;
 pub use state::{Pause, Running, State};

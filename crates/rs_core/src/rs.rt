@@ -8,6 +8,7 @@ ghost use Rattle.rs_core.specs.State.{rs_of, state_at, service_at, up_count};
 ghost use Rattle.rs_core.specs.Finding.{service_place};
 ghost use Rattle.rs_core.specs.Machine.{asked, failures_of};
 ghost use Rattle.rs_core.specs.Judging.{refusal, asks, has_actions};
+ghost use Rattle.rs_core.specs.Planning.{IsPlanOf, PlanFits, acts, given_up_by};
 ghost use Rattle.rs_core.specs.Step.{RsStep};
 ghost use Rattle.rs_core.specs.Kept.{IsNotAt, IsOutOfRange, HaveTwoSlots};
 ghost use Rattle.rs_core.specs.Says.{place_of_label};
@@ -21,6 +22,7 @@ use crate::action::Actions;
 use crate::event::Event;
 use crate::fault::{NewFault, RsFault};
 use crate::finding::{Sought, place_of};
+use crate::plan::Plan;
 use crate::slots::Slots;
 use crate::state::State;
 use ds_names::{Name, NoRoom};
@@ -110,13 +112,55 @@ impl Rs {
         ensures room { IfErr result (λ fault. fault ≡ RsFault.NoRoom → asks has_actions (asked self.old event tick) ≡ true) }
         ensures unchanged { OnErr result (self.new ≡ self.old) }
     {
-        match self.judge(&event, tick) {
-            Ok(Some(plan)) => match self.follow(plan, tick) {
-                Ok(actions) => Ok(actions),
-                Err(NoRoom) => Err(RsFault::NoRoom),
-            },
-            Ok(None) => Ok(self.idle(tick)),
+        let plan = self.plan(&event, tick)?;
+        match self.carry_out(plan) {
+            Ok(actions) => Ok(actions),
+            Err(NoRoom) => Err(RsFault::NoRoom),
+        }
+    }
+
+    /// Plans an event at a tick. Changes nothing, and takes no memory.
+    ///
+    /// Refuses the event by the first fault in the order of `RsFault`, never by NoRoom.
+    pub fn plan(&self, event: &Event, tick: u64) -> Result<Plan, RsFault>
+        ensures plan { IfOk result (λ plan. IsPlanOf self.now event.now tick plan) }
+        ensures fits { IfOk result (λ plan. PlanFits self.now plan) }
+        ensures refused { IfErr result (λ fault. refusal self.now event.now tick ≡ Some fault) }
+        ensures room { IfErr result (λ fault. fault ≢ RsFault.NoRoom) }
+    {
+        match self.judge(event, tick) {
+            Ok(task) => Ok(Plan { tick, task }),
             Err(fault) => Err(fault),
+        }
+    }
+
+    /// Carries out a plan that was made for this state, and returns the actions, in order. This is the step of every
+    /// event that has this plan.
+    ///
+    /// Only a plan with actions takes memory. If memory runs out, nothing changes.
+    pub fn carry_out(&mut self, plan: Plan) -> Result<Actions, NoRoom>
+        requires { PlanFits self.old plan }
+        ensures step { IfOk result (λ actions. (event : Event) (tick : ℕ) → IsPlanOf self.old event tick plan →
+            RsStep self.old event tick actions self.new) }
+        ensures room { OnErr result (acts plan ≡ true) }
+        ensures unchanged { OnErr result (self.new ≡ self.old) }
+    {
+        match plan.task {
+            Some(task) => self.follow(task, plan.tick),
+            None => Ok(self.idle(plan.tick)),
+        }
+    }
+
+    /// Returns the index of the service that RS gives up by a plan that was made for this state: its instance fails once
+    /// more than its limit. No action reports it.
+    pub fn given_up(&self, plan: &Plan) -> Option<usize>
+        requires { PlanFits self.now plan.now }
+        ensures value { result ≡ given_up_by self.now plan.now }
+        ensures within { IfSome result (λ i. i < length self.now.states) }
+    {
+        match &plan.task {
+            Some(task) => self.given_up_in(plan.tick, task),
+            None => None,
         }
     }
 
@@ -138,14 +182,6 @@ impl Rs {
     {
         let _ = &self.alloc;
         self.place(Sought::Label(*label))
-    }
-
-    /// Returns the first fault that applies to an event at a tick, or `None`. With a fault, `event` is refused by it;
-    /// without one, only lack of memory can refuse it.
-    pub fn refusal(&self, event: &Event, tick: u64) -> Option<RsFault>
-        ensures { result ≡ refusal self.now event.now tick }
-    {
-        self.judge(event, tick).err()
     }
 
     /// Returns the generation of the next start, 1 to 2097152. No start gets 2097152.

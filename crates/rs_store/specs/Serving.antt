@@ -1,5 +1,5 @@
 -- The turns of RS and its store: a client's command, a beginning, an event.
-use Rattle.std.specs.Prelude.{◌≡◌, ◌≢◌, ◌⊎◌, ◌≤◌, ℕ, Bool, true, false, List, [], ◌∷◌, length, replicate, Option, Some, None}
+use Rattle.std.specs.Prelude.{◌≡◌, ◌≢◌, ℕ, Bool, true, false, List, [], ◌∷◌, length, replicate, Option, Some, None}
 use Rattle.ds_content.specs.Content.{ContentRecord}
 use Rattle.ds_machine.specs.declared.command.Command.{Command}
 use Rattle.ds_machine.specs.declared.reply.Reply.{Reply}
@@ -106,8 +106,3 @@ RsServes event tick rs old _ after new = ⊥
 abbrev pub EventTurn : Event → ℕ → Option RsRecord → ContentRecord → RsReply → Option RsRecord → ContentRecord → Type 0
 EventTurn event tick None old reply after new = (reply ≡ before_beginning event) × (after ≡ None) × (new ≡ old)
 EventTurn event tick (Some rs) old reply after new = RsServes event tick rs old reply after new
-
--- The empty list has room for the replies to the event's actions, at most five.
-pub record HasRoomFor (rs : RsRecord) (event : Event) (tick : ℕ) (replies : List (Option Reply)) (capacity : ℕ) : Type 0 where
-  pub none : replies ≡ []
-  pub room : (asks has_actions (asked rs event tick) ≡ false) ⊎ (5 ≤ capacity)

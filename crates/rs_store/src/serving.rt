@@ -3,19 +3,19 @@
 ghost use Rattle.std.specs.Prelude.{◌≡◌, ◌≤◌, true, [], length, vec_capacity, IfSome, IfNone};
 ghost use Rattle.std.specs.List.{AllByRecursion};
 ghost use Rattle.rs_core.specs.Action.{IsActionInPlace};
-ghost use Rattle.rs_core.specs.Judging.{asks, has_actions};
-ghost use Rattle.rs_core.specs.Machine.{asked};
+ghost use Rattle.rs_core.specs.Planning.{acts};
 ghost use Rattle.rs_to_store.specs.Asked.{command_of as command_for};
 ghost use Rattle.ds_store.specs.Turns.{Turn};
-ghost use Rattle.rs_store.specs.Serving.{ClientTurn, BeginTurn, HasRoomFor, RsRefuses, EventTurn};
+ghost use Rattle.rs_store.specs.Serving.{ClientTurn, BeginTurn, EventTurn};
 ghost use Rattle.rs_store.specs.Serving.{TurnFor, TurnsFor, before_beginning as reply_without};
 
 use crate::by_rs::is_by_rs;
 use crate::call::RsReply;
 use crate::replies::Replies;
 use ds_machine::{Command, Reply};
+use ds_names::NoRoom;
 use ds_store::Store;
-use rs_core::{Action, Actions, Event, Rs, RsFault, steps_say};
+use rs_core::{Action, Actions, Event, Plan, Rs, RsFault, steps_say};
 use rs_settings::Settings;
 use rs_to_store::command_of;
 use std::alloc::Global;
@@ -89,11 +89,15 @@ pub fn serve(
     let Some(rs) = services else {
         return without_settings(alloc, &event);
     };
-    let Some(mut replies) = room_for(alloc, rs, &event, tick) else {
-        return RsReply::Refused(out_of_room(rs, &event, tick));
+    let plan = match rs.plan(&event, tick) {
+        Ok(plan) => plan,
+        Err(fault) => return RsReply::Refused(fault),
     };
-    let given_up = rs.gives_up(&event, tick);
-    match rs.event(event, tick) {
+    let Some(mut replies) = room_for(alloc, &plan) else {
+        return RsReply::Refused(RsFault::NoRoom);
+    };
+    let given_up = rs.given_up(&plan);
+    match rs.carry_out(plan) {
         Ok(actions) => {
             pass_on(store, &actions, &mut replies);
             RsReply::Acted {
@@ -102,33 +106,23 @@ pub fn serve(
                 given_up,
             }
         }
-        Err(fault) => RsReply::Refused(fault),
+        Err(NoRoom) => RsReply::Refused(RsFault::NoRoom),
     }
 }
 
-// Allocates a list for the replies to an event's actions, or returns `None` if memory runs out. This is done before RS
-// steps, since no reply may be lost after the step. An event without actions takes no memory.
-fn room_for(alloc: Global, rs: &Rs, event: &Event, tick: u64) -> Option<Vec<Option<Reply>>>
-    ensures room { IfSome result (λ replies. HasRoomFor rs.now event.now tick replies.items (vec_capacity replies)) }
-    ensures wanted { IfNone result (asks has_actions (asked rs.now event.now tick) ≡ true) }
+// Allocates a list for the replies to a plan's actions, or returns `None` if memory runs out. This is done before RS
+// steps, since no reply may be lost after the step. A plan without actions takes no memory.
+fn room_for(alloc: Global, plan: &Plan) -> Option<Vec<Option<Reply>>>
+    ensures none { IfSome result (λ replies. replies.items ≡ []) }
+    ensures room { IfSome result (λ replies. acts plan.now ≡ true → 5 ≤ vec_capacity replies) }
+    ensures wanted { IfNone result (acts plan.now ≡ true) }
 {
-    if !rs.acts(event, tick) {
+    if !plan.acts() {
         return Some(Vec::new(alloc));
     }
     match Vec::with_capacity(alloc, MOST_ACTIONS) {
         Ok(replies) => Some(replies),
         Err(_) => None,
-    }
-}
-
-// Returns the refusal of an event for which memory ran out: the first fault against it, or else NoRoom.
-fn out_of_room(rs: &Rs, event: &Event, tick: u64) -> RsFault
-    requires { asks has_actions (asked rs.now event.now tick) ≡ true }
-    ensures { RsRefuses rs.now event.now tick result }
-{
-    match rs.refusal(event, tick) {
-        Some(fault) => fault,
-        None => RsFault::NoRoom,
     }
 }
 

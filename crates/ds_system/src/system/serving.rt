@@ -3,22 +3,22 @@
 ghost use Rattle.std.specs.Prelude.{◌≡◌, ◌<◌, ◌≤◌, ◌+◌, ◌++◌, ◌∷◌, [], true, length, vec_len, vec_capacity, IfNone, IfSome};
 ghost use Rattle.std.specs.List.{AllByRecursion};
 ghost use Rattle.rs_core.specs.Action.{IsActionInPlace};
-ghost use Rattle.rs_core.specs.Judging.{asks, has_actions};
-ghost use Rattle.rs_core.specs.Machine.{asked};
+ghost use Rattle.rs_core.specs.Planning.{acts};
 ghost use Rattle.rs_core.specs.Run.{offers};
 ghost use Rattle.rs_to_store.specs.Asked.{command_of as command_for, commands};
 ghost use Rattle.ds_system.specs.declared.event.SystemEvent.TheVariants as events;
 ghost use Rattle.ds_system.specs.Stands.{SystemEventLeads};
-ghost use Rattle.ds_system.specs.Effects.{AskedIfAny, AllAsked, HasRoomToAct};
+ghost use Rattle.ds_system.specs.Effects.{AskedIfAny, AllAsked};
 
 use crate::outcome::{SystemFault, SystemOutcome};
 use crate::replies::Replies;
 use crate::system::System;
 use ds_entry::Change;
 use ds_machine::Reply;
+use ds_names::NoRoom;
 use ds_replica::Side;
 use ds_world::World;
-use rs_core::{Action, Actions, Event, Rs, RsFault, steps_say};
+use rs_core::{Action, Actions, Event, Plan, RsFault, steps_say};
 use rs_to_store::command_of;
 use std::alloc::Global;
 
@@ -79,21 +79,16 @@ fn pass_on(
     }
 }
 
-// Makes room for the changes that an event's actions offer, and returns a list with room for the replies; `None` if
-// memory runs out. An event without actions takes no memory.
-fn room_for(
-    alloc: Global,
-    rs: &Rs,
-    made: &mut Vec<Change>,
-    event: &Event,
-    tick: u64,
-) -> Option<Vec<Reply>>
-    ensures room { IfSome result (λ replies.
-        HasRoomToAct rs.now event.now tick replies.items (vec_capacity replies) (vec_len made.new) (vec_capacity made.new)) }
-    ensures wanted { IfNone result (asks has_actions (asked rs.now event.now tick) ≡ true) }
+// Makes room for the changes that a plan's actions offer, and returns a list with room for the replies; `None` if
+// memory runs out. A plan without actions takes no memory.
+fn room_for(alloc: Global, made: &mut Vec<Change>, plan: &Plan) -> Option<Vec<Reply>>
+    ensures none { IfSome result (λ replies. replies.items ≡ []) }
+    ensures room { IfSome result (λ replies. acts plan.now ≡ true → 5 ≤ vec_capacity replies) }
+    ensures space { IfSome result (λ replies. acts plan.now ≡ true → vec_len made.new + 5 ≤ vec_capacity made.new) }
+    ensures wanted { IfNone result (acts plan.now ≡ true) }
     ensures made { made.new.items ≡ made.old.items }
 {
-    if !rs.acts(event, tick) {
+    if !plan.acts() {
         return Some(Vec::new(alloc));
     }
     let Ok(()) = made.reserve(MOST_ACTIONS) else {
@@ -111,14 +106,14 @@ impl System {
         ensures { SystemEventLeads (events.Service event tick side) result self.old self.new }
     {
         steps_say();
-        if let Some(fault) = self.rs.refusal(&event, tick) {
-            return SystemOutcome::Refused(SystemFault::Service(fault));
-        }
-        let room = room_for(self.alloc, &self.rs, &mut self.made, &event, tick);
-        let Some(mut replies) = room else {
+        let plan = match self.rs.plan(&event, tick) {
+            Ok(plan) => plan,
+            Err(fault) => return SystemOutcome::Refused(SystemFault::Service(fault)),
+        };
+        let Some(mut replies) = room_for(self.alloc, &mut self.made, &plan) else {
             return SystemOutcome::Refused(SystemFault::Service(RsFault::NoRoom));
         };
-        match self.rs.event(event, tick) {
+        match self.rs.carry_out(plan) {
             Ok(actions) => {
                 pass_on(
                     self.alloc,
@@ -133,7 +128,7 @@ impl System {
                     replies: Replies::of(replies),
                 }
             }
-            Err(fault) => SystemOutcome::Refused(SystemFault::Service(fault)),
+            Err(NoRoom) => SystemOutcome::Refused(SystemFault::Service(RsFault::NoRoom)),
         }
     }
 }

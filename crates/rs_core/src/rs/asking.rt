@@ -6,7 +6,7 @@ ghost use Rattle.rs_core.specs.Finding.{service_place};
 ghost use Rattle.rs_core.specs.Machine.{of_label, of_instance, due, asked};
 ghost use Rattle.rs_core.specs.Judging.{lack_for, refusal};
 
-use crate::deed::{Deed, Plan, on_death, on_label};
+use crate::deed::{Deed, Task, on_death, on_label};
 use crate::event::Event;
 use crate::fault::RsFault;
 use crate::finding::Sought;
@@ -16,20 +16,20 @@ use ds_names::{Endpoint, Name};
 
 impl Rs {
     // Returns what is due at the tick.
-    fn due_at(&self, tick: u64) -> Option<Plan>
+    fn due_at(&self, tick: u64) -> Option<Task>
         ensures value { result ≡ due self.now tick }
         ensures within { IfSome result (λ p. p.place < length self.now.states) }
     {
         if let Some(place) = self.place(Sought::Missed(tick)) {
             let deed = Deed::Lose(true);
-            return Some(Plan { place, deed });
+            return Some(Task { place, deed });
         }
         if let Some(place) = self.place(Sought::Silent(tick)) {
             let deed = Deed::Ping;
-            return Some(Plan { place, deed });
+            return Some(Task { place, deed });
         }
         match self.place(Sought::Rested(tick)) {
-            Some(place) => Some(Plan {
+            Some(place) => Some(Task {
                 place,
                 deed: Deed::Resume,
             }),
@@ -37,17 +37,17 @@ impl Rs {
         }
     }
 
-    fn of_instance(&self, endpoint: Endpoint, deed: Deed) -> Result<Option<Plan>, RsFault>
+    fn of_instance(&self, endpoint: Endpoint, deed: Deed) -> Result<Option<Task>, RsFault>
         ensures value { result ≡ of_instance deed (service_place self.now (Sought.Instance endpoint)) }
         ensures within { IfOk result (λ p. IfSome p (λ p. p.place < length self.now.states)) }
     {
         match self.place(Sought::Instance(endpoint)) {
-            Some(place) => Ok(Some(Plan { place, deed })),
+            Some(place) => Ok(Some(Task { place, deed })),
             None => Err(RsFault::OldEndpoint),
         }
     }
 
-    fn of_label(&self, event: &Event, label: Name) -> Result<Option<Plan>, RsFault>
+    fn of_label(&self, event: &Event, label: Name) -> Result<Option<Task>, RsFault>
         ensures value { result ≡ of_label self.now (on_label event.now) (service_place self.now (Sought.Label label)) }
         ensures within { IfOk result (λ p. IfSome p (λ p. p.place < length self.now.states)) }
     {
@@ -55,13 +55,13 @@ impl Rs {
             return Err(RsFault::UnknownLabel);
         };
         match on_label(event, &self.state_at(place)) {
-            Ok(deed) => Ok(Some(Plan { place, deed })),
+            Ok(deed) => Ok(Some(Task { place, deed })),
             Err(fault) => Err(fault),
         }
     }
 
     // Returns what the event calls for.
-    pub(crate) fn asked(&self, event: &Event, tick: u64) -> Result<Option<Plan>, RsFault>
+    pub(crate) fn asked(&self, event: &Event, tick: u64) -> Result<Option<Task>, RsFault>
         ensures value { result ≡ asked self.now event.now tick }
         ensures within { IfOk result (λ p. IfSome p (λ p. p.place < length self.now.states)) }
     {
@@ -89,10 +89,10 @@ impl Rs {
 
     // Returns what the event calls for, or `None` if that is nothing. Refuses it by the first fault of the one order. BadCause is looked
     // for early, since only a death has a cause.
-    pub(crate) fn judge(&self, event: &Event, tick: u64) -> Result<Option<Plan>, RsFault>
+    pub(crate) fn judge(&self, event: &Event, tick: u64) -> Result<Option<Task>, RsFault>
         ensures refused { IfErr result (λ fault. refusal self.now event.now tick ≡ Some fault) }
         ensures allowed { OnOk result (refusal self.now event.now tick ≡ None) }
-        ensures plan { IfOk result (λ p. asked self.now event.now tick ≡ Ok p) }
+        ensures task { IfOk result (λ p. asked self.now event.now tick ≡ Ok p) }
         ensures within { IfOk result (λ p. IfSome p (λ p. p.place < length self.now.states)) }
         ensures tick { OnOk result (tick ≤ 2 ^ 62) }
         ensures room { IfOk result (λ p. IfSome p (λ p. lack_for self.now p.deed ≡ None)) }
@@ -107,9 +107,9 @@ impl Rs {
             return Err(RsFault::BadCause);
         }
         match self.asked(event, tick) {
-            Ok(Some(plan)) => match self.lack_for(plan.deed) {
+            Ok(Some(task)) => match self.lack_for(task.deed) {
                 Some(fault) => Err(fault),
-                None => Ok(Some(plan)),
+                None => Ok(Some(task)),
             },
             Ok(None) => Ok(None),
             Err(fault) => Err(fault),

@@ -3,7 +3,7 @@
 ghost use Rattle.std.specs.Prelude.{◌≡◌, ◌<◌, ◌≤◌, ◌+◌, ◌^◌, ◌∷◌, [], true, false, length, None, IfOk, OnOk, OnErr};
 ghost use Rattle.rs_core.specs.Action.{start_actions, stop_actions};
 ghost use Rattle.rs_core.specs.State.{state_at, service_at, is_up, up_count};
-ghost use Rattle.rs_core.specs.Machine.{new_endpoint, plan};
+ghost use Rattle.rs_core.specs.Machine.{new_endpoint, task};
 ghost use Rattle.rs_core.specs.Slots.{next_key};
 ghost use Rattle.rs_core.specs.Doing.{after_start, after_stop, after_replacement, after_note, failing, forgetting, replacing};
 ghost use Rattle.rs_core.specs.Judging.{lack_for, has_actions};
@@ -11,7 +11,7 @@ ghost use Rattle.rs_core.specs.Step.{IsDone};
 ghost use Rattle.rs_core.specs.Kept.{IsAtRest};
 
 use crate::action::{Action, Actions, add_start, add_stop};
-use crate::deed::{Deed, Plan};
+use crate::deed::{Deed, Task};
 use crate::rs::Rs;
 use crate::state::{Pause, Running, State, endpoint_at, failed, failures_left};
 use ds_names::NoRoom;
@@ -27,24 +27,24 @@ impl Rs {
         Actions::new(self.alloc)
     }
 
-    // Carries out the plan.
-    pub(crate) fn follow(&mut self, plan: Plan, tick: u64) -> Result<Actions, NoRoom>
-        requires within { plan.place < length self.old.states }
+    // Does the task.
+    pub(crate) fn follow(&mut self, task: Task, tick: u64) -> Result<Actions, NoRoom>
+        requires within { task.place < length self.old.states }
         requires tick { tick ≤ 2 ^ 62 }
-        requires room { lack_for self.old plan.deed ≡ None }
-        ensures done { IfOk result (λ actions. IsDone self.old tick plan actions self.new) }
-        ensures room { OnErr result (has_actions plan.deed ≡ true) }
+        requires room { lack_for self.old task.deed ≡ None }
+        ensures done { IfOk result (λ actions. IsDone self.old tick task actions self.new) }
+        ensures room { OnErr result (has_actions task.deed ≡ true) }
         ensures unchanged { OnErr result (self.new ≡ self.old) }
     {
-        let place = plan.place;
+        let place = task.place;
         match self.state_at(place) {
-            State::Up(running) => self.follow_up(place, tick, plan.deed, running),
-            State::Waiting(pause) => match plan.deed {
+            State::Up(running) => self.follow_up(place, tick, task.deed, running),
+            State::Waiting(pause) => match task.deed {
                 Deed::Resume => self.begin(place, tick, pause.failures),
                 Deed::Forget => Ok(self.forget(place, tick, pause)),
                 _ => Ok(self.leave(place, tick)),
             },
-            State::Down | State::GaveUp => match plan.deed {
+            State::Down | State::GaveUp => match task.deed {
                 Deed::Begin => self.begin(place, tick, 0),
                 _ => Ok(self.leave(place, tick)),
             },
@@ -64,7 +64,7 @@ impl Rs {
         requires room { lack_for self.old deed ≡ None }
         requires up { state_at self.old place ≡ State.Up running }
         requires failures { running.failures ≤ 1000 }
-        ensures done { IfOk result (λ actions. IsDone self.old tick (plan deed place) actions self.new) }
+        ensures done { IfOk result (λ actions. IsDone self.old tick (task deed place) actions self.new) }
         ensures room { OnErr result (has_actions deed ≡ true) }
         ensures unchanged { OnErr result (self.new ≡ self.old) }
     {

@@ -1,17 +1,16 @@
 //! What callers read from RS between events.
 
-ghost use Rattle.std.specs.Prelude.{◌≡◌, ◌<◌, ◌≤◌, ◌^◌, ℕ, nat_le, length, slice_get, is_some, IfSome};
-ghost use Rattle.rs_core.specs.Machine.{asked, due, failures_of};
-ghost use Rattle.rs_core.specs.Judging.{asks, has_actions};
-ghost use Rattle.rs_core.specs.Reading.{any_due, deals_at, declares_at, given_up, gives_up, is_from, place_of_instance, IsFrom};
+ghost use Rattle.std.specs.Prelude.{◌≡◌, ◌<◌, ◌≤◌, ◌^◌, ℕ, nat_le, length, slice_get, is_some, Ok, Some, IfSome};
+ghost use Rattle.rs_core.specs.Machine.{due, failures_of};
+ghost use Rattle.rs_core.specs.Reading.{any_due, deals_at, declares_at, given_up, given_up_in, gives_up};
+ghost use Rattle.rs_core.specs.Reading.{is_from, place_of_instance, IsFrom};
 ghost use Rattle.rs_core.specs.Says.{place_of_label};
 ghost use Rattle.rs_settings.specs.Dealing.{may_complain, may_connect};
 
-use crate::deed::Deed;
+use crate::deed::{Deed, Task};
 use crate::due::first_due;
 use crate::event::Event;
 use crate::finding::Sought;
-use crate::judging::has_actions;
 use crate::rs::Rs;
 use crate::state::{State, failures_left};
 use ds_names::{Endpoint, Key, Name};
@@ -21,32 +20,31 @@ use rs_settings::Service;
 const LAST_TICK: u64 = 4611686018427387904;
 
 impl Rs {
-    /// Returns whether an event at a tick has actions, if no fault applies to it. `event` takes memory only then.
-    pub fn acts(&self, event: &Event, tick: u64) -> bool
-        ensures { result ≡ asks has_actions (asked self.now event.now tick) }
-    {
-        match self.asked(event, tick) {
-            Ok(Some(plan)) => has_actions(plan.deed),
-            _ => false,
-        }
-    }
-
     /// Returns the index of the service that RS gives up at the event, if no fault applies to the event: its instance
     /// fails once more than its limit. No action reports it.
     pub fn gives_up(&self, event: &Event, tick: u64) -> Option<usize>
         ensures value { result ≡ given_up self.now event.now tick }
         ensures within { IfSome result (λ i. i < length self.now.states) }
     {
-        let Ok(Some(plan)) = self.asked(event, tick) else {
-            return None;
-        };
+        match self.asked(event, tick) {
+            Ok(Some(task)) => self.given_up_in(tick, &task),
+            _ => None,
+        }
+    }
+
+    // Returns the index of the service that RS gives up by the task.
+    pub(crate) fn given_up_in(&self, tick: u64, task: &Task) -> Option<usize>
+        requires { task.now.place < length self.now.states }
+        ensures value { result ≡ given_up_in self.now tick (Ok (Some task.now)) }
+        ensures within { IfSome result (λ i. i < length self.now.states) }
+    {
         let gives_up = gives_up(
             tick,
-            plan.deed,
-            self.service_at(plan.place),
-            &self.state_at(plan.place),
+            task.deed,
+            self.service_at(task.place),
+            &self.state_at(task.place),
         );
-        if gives_up { Some(plan.place) } else { None }
+        if gives_up { Some(task.place) } else { None }
     }
 
     /// Returns the first tick, not below the last event's, at which a `Tick` has actions, or `None` if no `Tick` has
