@@ -8,3 +8,4 @@ pub mod RowLemmas
 pub mod OpenLemmas
 pub mod CloseLemmas
 pub mod CrossingLemmas
+pub mod FreeLemmas

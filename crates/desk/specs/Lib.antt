@@ -5,3 +5,4 @@ pub mod Desk
 pub mod Calls
 pub mod Opening
 pub mod Closing
+pub mod Free

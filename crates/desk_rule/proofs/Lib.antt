@@ -7,3 +7,4 @@ pub mod SeatLemmas
 pub mod NoticeLemmas
 pub mod TableLemmas
 pub mod LawLemmas
+pub mod FreeLemmas

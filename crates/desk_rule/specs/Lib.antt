@@ -6,3 +6,4 @@ pub mod Kinds
 pub mod Seat
 pub mod Laws
 pub mod Steps
+pub mod Free

@@ -1,6 +1,7 @@
 //! Laws of the rule, over definitions alone.
 
 ghost use Rattle.history.specs.History.{Stepped};
+ghost use Rattle.desk_rule.specs.Free.{FreeTurnIsGot, FreeWordIsPlace};
 ghost use Rattle.desk_rule.specs.Laws.{BitsAreOwed, HistoriesAgree, NoticesAgree, NoticesBalance};
 ghost use Rattle.desk_rule.specs.Laws.{OneSeatHolds, PostedBitsStay, PostsAreOwed, WordsFollow};
 
@@ -30,6 +31,13 @@ pub fn posted_bits_stay()
 /// A law: at most one seat holds the turn.
 pub fn one_seat_holds<M: Machine>()
     ensures { OneSeatHolds (Stepped M.stands M.steps) M.owes }
+{}
+
+/// A law: whenever no call is in its turn, the next try of any seat gets the turn, if its two steps follow each other. Word 0
+/// is then twice the place of the next call, and only another seat that takes the turn first makes a try miss it.
+pub fn free_turn_is_got<M: Machine>()
+    ensures word { FreeWordIsPlace (Stepped M.stands M.steps) M.owes }
+    ensures got { FreeTurnIsGot (Stepped M.stands M.steps) M.owes }
 {}
 
 /// A law: the raises of each server's bit are as many as its takes, plus one if the bit is pending.

@@ -7,6 +7,7 @@
 //! what it returns, and that it keeps the rule. The rule and its steps are this project's.
 #![tactic(auto)]
 
+mod free_call;
 mod law;
 mod notice;
 mod play;
@@ -16,10 +17,11 @@ mod table;
 mod turn;
 mod view;
 
+pub use free_call::call_if_free;
 pub use history::{Entry, Machine};
 pub use law::{
-    bits_are_owed, histories_agree, notices_agree, notices_balance, one_seat_holds,
-    posted_bits_stay, posts_are_owed, words_follow,
+    bits_are_owed, free_turn_is_got, histories_agree, notices_agree, notices_balance,
+    one_seat_holds, posted_bits_stay, posts_are_owed, words_follow,
 };
 pub use notice::{Act, Notice};
 pub use play::{EndTurn, Hold, JoinNote, JoinPass, Look, PostBits, SplitNote, SplitPass, TakeBits};
@@ -29,5 +31,5 @@ pub use table::{
     DeskRule, DeskSeat, DeskShared, DeskTable, DeskView, Home, LastCall, Opening, Slot,
     close_table, new_table,
 };
-pub use turn::call_in_turn;
+pub use turn::{NoTurn, call_in_turn};
 pub use view::{PassLog, View};

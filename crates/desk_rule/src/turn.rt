@@ -1,11 +1,12 @@
 //! A turn: a seat takes the turn, takes the machine out of the slot, steps it, puts it back, and ends the turn.
 
-ghost use Rattle.std.specs.Prelude.{◌≡◌, ◌≢◌, ℕ, ◌+◌, ◌*◌, ◌^◌, ◌<◌, ◌≤◌, [], ◌∷◌, length, Some, None, true, false};
-ghost use Rattle.std.specs.Prelude.{IfSome, IfNone};
+ghost use Rattle.std.specs.Prelude.{◌≡◌, ◌≢◌, ℕ, ◌+◌, ◌*◌, ◌%◌, ◌^◌, ◌<◌, ◌≤◌, [], ◌∷◌, length, Some, None, true, false};
+ghost use Rattle.std.specs.Prelude.{IfSome, IfNone, IfOk, IfErr};
 ghost use Rattle.history.specs.History.{IsLegal, Run, Stepped};
 ghost use Rattle.desk_rule.specs.History.{OwnCalls};
 ghost use Rattle.desk_rule.specs.Kinds.{EntersCall, Looks, LooksAlone, TakesTurn, TellsTurn, after_turn};
 ghost use Rattle.desk_rule.specs.Seat.{EndsTurn, HoldsTurn, IsAtTable, SameSeat};
+ghost use Rattle.desk_rule.specs.Free.{MissesTurn};
 ghost use Rattle.desk_rule.specs.Steps.{FindsWorn, HoldsTurnAt, MakesCall, Rests};
 
 use crate::play::{EndTurn, Hold};
@@ -41,6 +42,48 @@ where
     Some((place, reply))
 }
 
+/// Why a try for the turn ended without a call.
+#[derive(Clone, Copy, Drop, PartialEq, Eq)]
+pub enum NoTurn {
+    /// At each try, another seat held the turn or took it first.
+    Busy,
+    /// No place is left.
+    Worn,
+}
+
+// Tries for the turn once: loads word 0, and takes the turn if it is free.
+pub(crate) fn try_once<M: Machine>(
+    shared: &DeskShared<M>,
+    seat: &mut DeskSeat<M>,
+) -> Result<u64, NoTurn>
+    requires at { IsAtTable shared.now.table_id seat.old }
+    requires rests { Rests seat.old }
+    ensures same { SameSeat seat.old seat.new }
+    ensures turn { IfOk result (λ place. HoldsTurnAt (Stepped M.stands M.steps) seat.old place seat.new) }
+    ensures missed { IfErr result (λ stop. MissesTurn (Stepped M.stands M.steps) M.owes stop seat.old seat.new) }
+{
+    let word = look(shared, seat);
+    if word == WORN {
+        return Err(NoTurn::Worn);
+    }
+    let Some(place) = free_place(word) else {
+        return Err(NoTurn::Busy);
+    };
+    if hold(shared, seat, word) == word {
+        Ok(place)
+    } else {
+        Err(NoTurn::Busy)
+    }
+}
+
+// Returns the place of the next call by a value of word 0, or `None` if the word says that a seat holds the turn.
+fn free_place(word: u64) -> Option<u64>
+    ensures free { IfSome result (λ place. word ≡ 2 * place) }
+    ensures held { IfNone result (word % 2 ≡ 1) }
+{
+    if word % 2 == 0 { Some(word / 2) } else { None }
+}
+
 // Waits until the turn is free, and takes it. Returns the place of the call, or `None` if no place is left.
 fn wait_turn<M: Machine, W: Wait>(
     rt: &W,
@@ -54,23 +97,17 @@ fn wait_turn<M: Machine, W: Wait>(
     ensures worn { IfNone result (Looks (Stepped M.stands M.steps) seat.old.me.0 (2 ^ 63) false seat.new.me.0 × Rests seat.new) }
 {
     for _ in rt.forever() {
-        let word = look(shared, seat);
-        if word == WORN {
-            return None;
+        match try_once(shared, seat) {
+            Ok(place) => return Some(place),
+            Err(NoTurn::Worn) => return None,
+            Err(NoTurn::Busy) => thread::yield_now(),
         }
-        if word % 2 == 0 {
-            let found = hold(shared, seat, word);
-            if found == word {
-                return Some(word / 2);
-            }
-        }
-        thread::yield_now();
     }
     unreachable!()
 }
 
 // Steps the machine, and ends the turn.
-fn run_turn<M: Machine>(
+pub(crate) fn run_turn<M: Machine>(
     shared: &DeskShared<M>,
     seat: &mut DeskSeat<M>,
     command: M::Command,
