@@ -47,7 +47,7 @@ class Prover:
 
     def __init__(self, name):
         self.name, self.folder = name, ROOT / "crates" / name
-        self.kept = self.folder / "out"  # what a check of the crate as it stands has proved
+        self.kept = self.folder / "out"  # what a check of the crate itself has proved
 
     def __enter__(self):
         return self
@@ -64,7 +64,7 @@ class Prover:
         return subprocess.run(self.words(jobs), cwd=folder, **how)
 
     def prove(self, jobs):
-        """Returns whether the crate as it stands is proved."""
+        """Returns whether the crate itself is proved."""
         return self.run(self.folder, jobs).returncode == 0
 
     def copy(self, room):

@@ -19,7 +19,7 @@ WRITING = threading.Lock()
 
 
 class Twice(Exception):
-    """An edit that stands in both folders of its crate."""
+    """An edit that is in both folders of its crate."""
 
 
 @dataclasses.dataclass(frozen=True)

@@ -55,6 +55,7 @@ module _ (cs : List ChangeRecord) (i : ℕ) (c : ChangeRecord) (at : slice_get c
       has_one (puts_of (take i cs)) (puts_of (drop (i + 1) cs)) (Changed c)
       (ap (λ l. l ++ puts_of (drop (i + 1) cs)) (put_added p) ∙ sym (puts_append (take (i + 1) cs) (drop (i + 1) cs)) ∙ ap puts_of (take-append-drop (i + 1) cs) ∙ none)
 
-pub on_err : {T E : Type 0} (r : Result T E) (P : Type 0) → P → OnErr r P
-on_err (Ok x) P p = tt
-on_err (Err e) P p = p
+-- An error where a put is held leaves entries to return.
+pub put_on_err : {T E : Type 0} (h : Holding) (i : ℕ) (c : ChangeRecord) → slice_get (held_changes h) i ≡ Some c → leaves_value c ≡ true → (r : Result T E) → OnErr r (entries_of (held_items h) ≢ [])
+put_on_err h i c at put (Ok x) = tt
+put_on_err h i c at put (Err e) = λ none. some_put (held_changes h) i c at put (sym (held_puts h) ∙ none)

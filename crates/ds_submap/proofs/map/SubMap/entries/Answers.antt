@@ -10,7 +10,7 @@ use Rattle.ds_entry.specs.Item.{IsItem}
 use Rattle.ds_held.specs.Held.{held_changes, held_items, IsSound}
 use Rattle.ds_submap.specs.Floors.{AreSwept}
 use Rattle.ds_submap.specs.Map.{SubMapRecord}
-use Rattle.ds_submap.proofs.EntryLemmas.{held_puts, on_err, put_added, puts_of, some_put, tombstone_passed}
+use Rattle.ds_submap.proofs.EntryLemmas.{held_puts, put_added, put_on_err, puts_of, tombstone_passed}
 use Rattle.ds_submap.proofs.MapLemmas.{entries_swept}
 use Rattle.ds_submap.proofs.map.SubMap.entries.Goals as goal
 use Rattle.ds_submap.proofs.map.SubMap.entries.Goals.{After-loop-index, In-Some, in-Put+in_ok-copy+in_ok-push, in_default-body}
@@ -72,15 +72,18 @@ returns-clause-floors c =
     let sound : IsSound c.args.self.now.held = subst (λ (m : SubMapRecord). IsSound m.held) c.self.view_is c.self.invariant.sound in
     subst (AreSwept (held_items c.args.self.now.held)) (sym (all_puts c)) (entries_swept c.args.self.now.held sound)
 
-some_entry : (c : In-Some) (b : Body) → c.in-Some.change.now.body ≡ b → is_some (value_in b) ≡ true → entries_of (held_items c.args.self.now.held) ≢ []
-some_entry c b is put none =
-    some_put (held_changes c.args.self.now.held) c.loop-index.index c.in-Some.change.now (there c) (ap (λ (b : Body). is_some (value_in b)) is ∙ put)
-    (sym (held_puts c.args.self.now.held) ∙ none)
+-- the body of the change is a put
+is_put_there : (c : In-Some) (b : Body) → c.in-Some.change.now.body ≡ b → is_some (value_in b) ≡ true → leaves_value c.in-Some.change.now ≡ true
+is_put_there c b is put = ap (λ (b : Body). is_some (value_in b)) is ∙ put
 
 pub returns-in_err-copy-clause-room : goal.returns-in_err-copy-clause-room
 returns-in_err-copy-clause-room c =
-    on_err c.from_residual.result _ (some_entry (goal.at.returns-in_err-copy-clause-room c).In-Some c.body.result.now (sym c.body.ensures.value) (ap (λ (b : Body). is_some (value_in b)) c.in-Put.is))
+    let d = (goal.at.returns-in_err-copy-clause-room c).In-Some in
+    put_on_err c.args.self.now.held c.loop-index.index c.in-Some.change.now (there d)
+    (is_put_there d c.body.result.now (sym c.body.ensures.value) (ap (λ (b : Body). is_some (value_in b)) c.in-Put.is)) c.from_residual.result
 
 pub returns-in_err-push-clause-room : goal.returns-in_err-push-clause-room
 returns-in_err-push-clause-room c =
-    on_err c.from_residual-in_err-push.result _ (some_entry (goal.at.returns-in_err-push-clause-room c).In-Some c.body.result.now (sym c.body.ensures.value) (ap (λ (b : Body). is_some (value_in b)) c.in-Put.is))
+    let d = (goal.at.returns-in_err-push-clause-room c).In-Some in
+    put_on_err c.args.self.now.held c.loop-index.index c.in-Some.change.now (there d)
+    (is_put_there d c.body.result.now (sym c.body.ensures.value) (ap (λ (b : Body). is_some (value_in b)) c.in-Put.is)) c.from_residual-in_err-push.result
