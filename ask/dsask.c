@@ -4,6 +4,7 @@
 #include "text.h"
 #include "usage.h"
 #include <errno.h>
+#include <fcntl.h>
 #include <poll.h>
 #include <signal.h>
 #include <stdio.h>
@@ -110,6 +111,7 @@ static int connected(const char *path) {
     struct sockaddr_un address = {.sun_family = AF_UNIX};
     snprintf(address.sun_path, sizeof address.sun_path, "%s", path);
     int it = socket(AF_UNIX, SOCK_STREAM | SOCK_CLOEXEC, 0);
+    if (it >= 0 && it <= STDERR_FILENO) it = fcntl(it, F_DUPFD_CLOEXEC, STDERR_FILENO + 1); /* standard input was closed */
     if (it >= 0 && !connect(it, (struct sockaddr *)&address, sizeof address)) return it;
     fprintf(stderr, "dsask: %s: %s\n", path, strerror(errno));
     return -1;

@@ -1,7 +1,7 @@
 #!/bin/sh
 # watch.sh SOCKET NAME: prints a line each time that the driver NAME starts or dies, as the dsfleet at SOCKET holds its label. ^C ends it.
 set -eu
-ask=${DSFLEET_ASK:-dsfleet-ask}
+ask=${DSASK:-dsask}
 socket=$1 name=$2
 sub= # the number of the subscription, once it is known
 room=$(mktemp -d)

@@ -1,4 +1,4 @@
-"""Scenes of bridges with their clients, and as processes: sockets, descriptors, logs, `dsfleet/ask`. scenes.py lists these."""
+"""Scenes of bridges with their clients, and as processes: sockets, descriptors, logs, `dsask`. scenes.py lists these."""
 import contextlib
 import fcntl
 import json
@@ -11,12 +11,11 @@ import subprocess
 import threading
 import time
 
-from fleets import PATIENCE, ROOT, Gone, free_port, until
+from fleets import PATIENCE, ROOT, Gone, dsask, free_port, until
 from scenes import number, numbers, offer, shows
 
 PLACES = 512  # clients that a bridge serves at once
 ROOM = 64 << 20  # bytes of answers that may wait for all of them
-ASK = ROOT / "dsfleet" / "ask"
 NATIVE = ("answers_that_nobody_reads", "places_are_for_clients_that_read", "few_descriptors_are_told", "many_refused_items", "many_costly_lines")  # not under valgrind's memory, pace and limits
 
 soft, hard = resource.getrlimit(resource.RLIMIT_NOFILE)
@@ -471,53 +470,53 @@ def the_version_and_bad_addresses(fleet, draw):
     assert not os.path.exists(place) and not os.path.exists(f"{place}.lock")
 
 
-# ---- dsfleet/ask ----
+# ---- dsask ----
 
 
 def asked_from_a_shell(fleet, draw):
-    """`dsfleet/ask` takes lines from arguments, a file, nothing or a pipe, a last line without newline, and many answers at once."""
-    bridge = fleet.start()
+    """`dsask` takes lines from arguments, a file, nothing or a pipe, a last line without newline, and many answers at once."""
+    bridge, ask = fleet.start(), dsask()
     lines = numbers("a", 3)
     file = f"{fleet.home}/lines"
     with open(file, "w") as to:
         to.write("".join(f"offer {it}\n" for it in lines) + "all")
     with open(file) as given:
         wanted = "".join(f"{it}\n" for it in (*["taken"] * 3, *lines, "shown 3"))
-        assert ran(ASK, bridge.socket, stdin=given) == (0, wanted, "")
-    assert ran(ASK, bridge.socket, stdin=subprocess.DEVNULL) == (0, "", "")
-    assert ran("sh", "-c", f"exec {ASK} {bridge.socket} <&-") == (0, "", "")
-    assert ran(ASK, bridge.socket, "retrieve a0 u32", "all", stdin=subprocess.DEVNULL)[:2] == (0, "".join(f"{it}\n" for it in ("found 7", *lines, "shown 3")))
-    assert ran(ASK, bridge.socket, input="all") == (0, "".join(f"{it}\n" for it in (*lines, "shown 3")), "")
+        assert ran(ask, bridge.socket, stdin=given) == (0, wanted, "")
+    assert ran(ask, bridge.socket, stdin=subprocess.DEVNULL) == (0, "", "")
+    assert ran("sh", "-c", f"exec {ask} {bridge.socket} <&-") == (0, "", "")
+    assert ran(ask, bridge.socket, "retrieve a0 u32", "all", stdin=subprocess.DEVNULL)[:2] == (0, "".join(f"{it}\n" for it in ("found 7", *lines, "shown 3")))
+    assert ran(ask, bridge.socket, input="all") == (0, "".join(f"{it}\n" for it in (*lines, "shown 3")), "")
     offer(bridge, *large(200))
-    status, out, err = ran(ASK, bridge.socket, input="all\n" * 100)
+    status, out, err = ran(ask, bridge.socket, input="all\n" * 100)
     assert (status, out.count("shown 203"), err) == (0, 100, ""), f"{status} {out[-200:]} {err}"
-    assert ran("sh", "-c", f"{ASK} {bridge.socket} all | head -n 1") == (0, f"{lines[0]}\n", "")
+    assert ran("sh", "-c", f"{ask} {bridge.socket} all | head -n 1") == (0, f"{lines[0]}\n", "")
 
 
 def asked_in_vain(fleet, draw):
-    """Without a socket or an argument, with an unknown option, or if the store ends, it has a message and a status, and no traceback."""
-    bridge = fleet.start()
-    status, out, err = ran(ASK, "--help")
-    assert (status, err) == (0, "") and out.startswith("usage: ask "), out
+    """Without a socket or an argument, with an unknown option, or if the store ends, it has a message and a status."""
+    bridge, ask = fleet.start(), dsask()
+    status, out, err = ran(ask, "--help")
+    assert (status, err) == (0, "") and out.startswith("usage: dsask "), out
     for words, wanted, part in (
-        ([], 2, "usage: "), (["--other", "x"], 2, "no such option"), ([f"{fleet.home}/none", "all"], 1, "No such file"),
-        ([f"{fleet.home}/{'x' * 200}", "all"], 1, "too long"), ([fleet.home, "all"], 1, "ask: "),
+        ([], 2, "a socket is wanted"), (["--other", "x"], 2, "no such option"), ([f"{fleet.home}/none", "all"], 1, "No such file"),
+        ([f"{fleet.home}/{'x' * 200}", "all"], 2, "too long"), ([fleet.home, "all"], 1, "ask: "),
     ):
-        status, out, err = ran(ASK, *words)
-        assert (status, out) == (wanted, "") and part in err and "Traceback" not in err, f"{words}: {status} {out} {err}"
+        status, out, err = ran(ask, *words)
+        assert (status, out) == (wanted, "") and part in err, f"{words}: {status} {out} {err}"
     fleet.pause_server()
-    with subprocess.Popen([ASK, bridge.socket, f"offer {number('a', 1, 1)}"], stdout=subprocess.PIPE, stderr=subprocess.PIPE, text=True) as asks:
+    with subprocess.Popen([ask, bridge.socket, f"offer {number('a', 1, 1)}"], stdout=subprocess.PIPE, stderr=subprocess.PIPE, text=True) as asks:
         until(lambda: bridge.state()["untold"] != "0", "it has sent its line", 5)
         bridge.kill()
         out, err = asks.communicate(timeout=30)
-        assert (asks.returncode, out) == (1, "") and "hung up" in err and "Traceback" not in err, f"{asks.returncode} {out} {err}"
+        assert (asks.returncode, out) == (1, "") and "hung up" in err, f"{asks.returncode} {out} {err}"
     fleet.resume_server()
     bridge.start()
     bridge.serves()
-    words = ["env", "--default-signal=INT", ASK, bridge.socket]  # since a command in the background ignores the signal
+    words = ["env", "--default-signal=INT", ask, bridge.socket]  # since a command in the background ignores the signal
     with subprocess.Popen(words, stdin=subprocess.PIPE, stdout=subprocess.PIPE, stderr=subprocess.PIPE, text=True) as asks:
         asks.stdin.write("all\n")
         asks.stdin.flush()
         assert asks.stdout.readline().startswith("shown") or asks.stdout.readline().startswith("shown")
         asks.send_signal(signal.SIGINT)
-        assert asks.wait(30) == 130 and asks.stderr.read() == ""
+        assert asks.wait(30) == -signal.SIGINT and asks.stderr.read() == ""

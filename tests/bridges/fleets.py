@@ -2,7 +2,9 @@
 
 Each server is a process in a folder of its own, on a free port of the loopback. Each bridge is a `dsfleet` with a socket there.
 """
+import atexit
 import contextlib
+import functools
 import os
 import pathlib
 import re
@@ -47,6 +49,15 @@ def build(library, program, *flags, folder=ROOT / "dsfleet"):
     ran = subprocess.run([folder / "build", library, program, *flags], capture_output=True, text=True)
     if ran.returncode:
         raise AssertionError(f"dsfleet/build: {ran.stderr[:3000]}")
+    return program
+
+
+@functools.cache
+def dsask():
+    """Builds dsask, once, and returns its path."""
+    program = pathlib.Path(tempfile.mkdtemp(prefix="dsask")) / "dsask"
+    atexit.register(shutil.rmtree, program.parent)
+    subprocess.run([ROOT / "ask" / "build", program], check=True)
     return program
 
 

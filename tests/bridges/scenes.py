@@ -9,7 +9,7 @@ import time
 import behaviour
 import model
 import stores
-from fleets import ROOT, Fleet, Gone, Names, Proxy, until
+from fleets import ROOT, Fleet, Gone, Names, Proxy, dsask, until
 from model import lines as reader
 from model.store import Store
 from scripted import Scripted
@@ -902,14 +902,14 @@ def a_driver_comes_back(fleet, draw):
     for name in ("one", "two", "three"):
         fleet.start(at=name)
     page = (ROOT / "docs" / "guide" / "hosts.md").read_text()
-    block = next(it for it in re.findall(r"(?:^    .*\n|^\n)+", page, re.MULTILINE) if "$ dsfleet/ask" in it)
+    block = next(it for it in re.findall(r"(?:^    .*\n|^\n)+", page, re.MULTILINE) if "$ /tmp/dsask" in it)
     for asked in re.split(r"^    \$ ", block, flags=re.MULTILINE)[1:]:
         command, *wanted = [it.removeprefix("    ") for it in asked.rstrip().splitlines()]
         words = [it.replace("/tmp/", f"{fleet.home}/") for it in shlex.split(command)]
         wanted = [it for it in wanted if it]
 
         def answers():
-            return subprocess.run([ROOT / words[0], *words[1:]], capture_output=True, text=True, timeout=30).stdout.splitlines()
+            return subprocess.run([dsask(), *words[1:]], capture_output=True, text=True, timeout=30).stdout.splitlines()
 
         given = answers()
         assert given == wanted, f"{command}: {given} instead of {wanted}"
@@ -920,7 +920,7 @@ def a_shell_script_watches(fleet, draw):
     """examples/shell/watch.sh prints where a driver is, each time that this changes, and nothing about others. Its client ends with it."""
     here, there = fleet.start(), fleet.start()
     here.ask("publish 0/2 new one.eth0 label 3.0 = 3/16")
-    words, named = [ROOT / "examples/shell/watch.sh", there.socket, "one.eth0"], {**os.environ, "DSFLEET_ASK": str(ROOT / "dsfleet/ask")}
+    words, named = [ROOT / "examples/shell/watch.sh", there.socket, "one.eth0"], {**os.environ, "DSASK": str(dsask())}
     with subprocess.Popen(words, env=named, stdin=subprocess.DEVNULL, stdout=subprocess.PIPE, text=True) as watch:
         late = threading.Timer(60, watch.kill)
         late.start()
