@@ -4,6 +4,8 @@
 #include <stdio.h>
 #include <string.h>
 
+struct ds_caller *ds_self;
+
 static int error_of(uint32_t refusal) {
     switch (refusal) {
     case 0: return 0;

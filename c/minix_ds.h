@@ -55,6 +55,9 @@ struct ds_caller {
     uint64_t given[DS_MAX_KEYS]; /* a mark for each entry that ds_check returned, 0 if free: 32 KB, so no call takes memory for them */
 };
 
+/* The caller of a process that has one, for the calls of minix/ds.h, which have MINIX's own signatures. It begins as NULL: set it first. */
+extern struct ds_caller *ds_self;
+
 /* Publishes where a service is. Only RS, whose endpoint is 0/2, may do so. Publishing the same endpoint again changes nothing. */
 int ds_publish_label(struct ds_caller *caller, const char *label, ds_endpoint_t endpoint, int flags);
 /* Publishes a number, a string, or memory of at most 1024 bytes, in the caller's name. */

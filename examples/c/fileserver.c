@@ -207,7 +207,9 @@ static void reply(unsigned long round) {
 /* The driver that died replied before its death. */
 static void reply_late(uint32_t generation) {
     struct ds_answer answer;
-    ds_table_reply(&table, generation, FIRST_SLOT, units + 1, &answer);
+    if (ds_table_reply(&table, generation, FIRST_SLOT, units + 1, &answer) != 0) {
+        give_up("the table is closed");
+    }
     printf("fs: a reply from %u/%d is refused: %s\n", generation, FIRST_SLOT, ds_refusal_text(answer.refusal));
 }
 

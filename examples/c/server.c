@@ -77,7 +77,9 @@ static void carry_out(struct client *client, char *line, size_t length) {
     char said[64];
     struct ds_answer answer;
     unsigned sub;
-    ds_call_line(&store, line, length, &answer);
+    if (ds_call_line(&store, line, length, &answer) != 0) {
+        return; /* the store is closed at the end of main alone */
+    }
     if (answer.word == DS_BADLINE) {
         send_to(client, said, (size_t)sprintf(said, "badline 1 %lu\n\n", (unsigned long)answer.count));
     } else if (answer.word == DS_NOREQUEST) {

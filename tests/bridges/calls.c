@@ -49,13 +49,13 @@ static struct ds_fleet *joined(struct ds_handle *store, const char *url) {
 static void offer(struct ds_handle *store, const char *line) {
     struct ds_request request = {.command = DS_MERGE, .text_length = strlen(line)};
     struct ds_answer answer;
-    ds_call(store, &request, line, strlen(line), &answer);
+    if (ds_call(store, &request, line, strlen(line), &answer)) exit(1);
 }
 
 static uint64_t held(struct ds_handle *store) {
     struct ds_request request = {.command = DS_SNAPSHOT};
     struct ds_answer answer;
-    ds_call(store, &request, NULL, 0, &answer);
+    if (ds_call(store, &request, NULL, 0, &answer)) exit(1);
     return answer.pieces;
 }
 
@@ -134,7 +134,7 @@ static void shares(struct ds_handle *one, struct ds_handle *two, const char *url
     printf("step: %s\n", ds_fleet_word(ds_fleet_step(here, 5000)));
     printf("step: %s\n", ds_fleet_word(ds_fleet_step(there, 5000)));
     printf("caught up: %llu held\n", (unsigned long long)held(two));
-    ds_call(two, &follow, "a.", 2, &answer);
+    if (ds_call(two, &follow, "a.", 2, &answer)) exit(1);
     offer(one, "ab u32 d 1.2 = 1\n");
     uint64_t mark = ds_fleet_mark(here);
     printf("told: %d\n", ds_fleet_is_told(here, mark));

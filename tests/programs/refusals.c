@@ -31,7 +31,9 @@ static void ask(const char *line) {
         exit(1);
     }
     if (said.refusal != 0) {
-        ds_text(&store, 0, text, sizeof text, &given);
+        if (ds_text(&store, 0, text, sizeof text, &given) != 0) {
+            exit(1);
+        }
         printf("%s: %.*s", ds_refusal_text(said.refusal), (int)given.length, text);
     }
 }

@@ -71,7 +71,7 @@ int main(void) {
     if (ds_open(&store, 1, 0, 256)) return 1;
     int words[16] = {0};
     for (int i = 0; i < CALLS; i++) {
-        ds_call(&store, &ask[i], texts, sizeof texts - 1, &full[i]);
+        if (ds_call(&store, &ask[i], texts, sizeof texts - 1, &full[i])) return 1;
         words[full[i].word]++;
         bad += !whole(&full[i], &wanting);
     }
