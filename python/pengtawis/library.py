@@ -14,11 +14,21 @@ from .values import Version
 
 PLACES = [os.path.join(it, "lib/pengtawis/libds.so.1") for it in (os.path.expanduser("~/.local"), "/usr/local")]
 NAME = "libds.so.1"  # by which the system's loader finds it, as Debian's package has it
-Command = enum.IntEnum("Command", "PUBLISH DELETE SWEEP RETRIEVE NAMEOF SUBSCRIBE CHECK SINCE SNAPSHOT PAGE MERGE", start=0)
+
+
+class Command(enum.IntEnum):
+    """The numbers of enum ds_command."""
+
+    PUBLISH, DELETE, SWEEP, RETRIEVE, NAMEOF, SUBSCRIBE, CHECK, SINCE, SNAPSHOT, PAGE, MERGE = range(11)
+
+    @property
+    def word(self) -> str:
+        return self.name.lower()
+
+
 CHANGED, NO_REQUEST, BAD_LINE = 0, 13, 15  # of enum ds_word
 WHOLE, WANTING = 0, 20  # of enum ds_stop
 REQUEST = struct.Struct("@4Q7I2H6B64s0Q")  # struct ds_request: unlike ctypes, struct refuses a number that is out of range
-OPENING = struct.Struct("@2QI")
 Self = TypeVar("Self", bound="Handle")
 ROOM = 1 << 16  # bytes of text that are fetched at a time
 PIECE = 2204  # DS_MAX_PIECE
@@ -82,13 +92,6 @@ def loaded(path: str) -> ctypes.PyDLL:
         call = getattr(library, name)
         call.argtypes, call.restype = (c_void_p, *words), c_uint32
     return library
-
-
-def packed(layout: struct.Struct, *parts: Any) -> bytes:
-    try:
-        return layout.pack(*parts)
-    except struct.error as wrong:
-        raise ValueError(f"of the wrong type or out of range: {wrong}") from None
 
 
 class Handle:

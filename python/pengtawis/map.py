@@ -3,6 +3,7 @@ from __future__ import annotations
 
 from typing import Iterable, Optional
 
+from . import wrong
 from .library import Handle
 from .values import Endpoint, Items, Merged, lines_of, mask_of
 
@@ -20,8 +21,12 @@ class Map(Handle):
 
     def __init__(self, pattern: str = ".*", kinds: Iterable[type] = (Endpoint,), library: Optional[str] = None) -> None:
         super().__init__(library, "ds_map_close")
-        spelled = pattern.encode()
+        spelled = wrong.spelled("pattern", pattern)
         self._call("ds_map_new", mask_of(kinds), spelled, len(spelled))
+        self._pattern = pattern
+
+    def __repr__(self) -> str:
+        return f"<Map of {self._pattern!r}{'' if self._handle else ', closed'}>"
 
     def take(self, items: Items) -> Merged:
         """Takes items in order, up to the first that is refused. That one and those after it may be taken again later."""
@@ -31,6 +36,7 @@ class Map(Handle):
 
     def label(self, name: str) -> Endpoint:
         """Returns where the label is now. If it was deleted, or never taken, raises NotFound."""
-        spelled = name.encode()
+        spelled = wrong.spelled("name", name)
+        wrong.named("name", spelled)
         answer = self._ask("ds_map_label", spelled, len(spelled))
         return Endpoint(answer.value, answer.value_slot)

@@ -8,7 +8,7 @@ import struct
 from ctypes import byref, c_char, c_uint8, c_uint16, c_uint32, c_uint64
 from typing import FrozenSet, Iterator, List, NamedTuple, Optional, Union, cast
 
-from .library import packed
+from . import wrong
 from .refusals import NUMBERED, NotAllowed, NotFound, Refused
 from .store import Pair, Store
 from .values import Endpoint, bit_of
@@ -21,7 +21,8 @@ State = enum.IntEnum("State", "DOWN UP WAITING GIVENUP", start=0)
 State.__doc__ = "What a service is. One that waits starts at `until`; one that was given up, at an `up` or a `restart`."
 Kind = enum.IntEnum("Kind", "UP DOWN REFRESH RESTART DEATH BEAT TICK", start=0)  # of an event
 EVENT = struct.Struct("@Q3IHB64s0Q")  # struct ds_rs_event
-INSTANCE = struct.Struct("@IH")  # a generation and a slot
+OPENING = ("`next`", 2**32 - 1), ("`slot`", 65535)
+PARTS = ("`tick`", 2**64 - 1), ("the kind", 6), ("`cause`", 2**32 - 1), *wrong.endpoint_parts("endpoint")  # of an event
 NEVER, WHOLE_TEXT = 2**64 - 1, 2**32 - 1
 REFUSED = 12  # of enum ds_word
 
@@ -111,7 +112,7 @@ class Rs(Store):
         incarnation: Optional[int] = None, first: int = 0, ring: int = 256, library: Optional[str] = None,
     ) -> None:
         super().__init__(incarnation, first, ring, library)
-        packed(INSTANCE, next, slot)  # which refuses what is out of range
+        wrong.check(OPENING, (next, slot))
         self._settle("ds_rs_open", settings, next, slot)
 
     def renew(self, settings: str) -> None:
@@ -171,18 +172,18 @@ class Rs(Store):
 
     def may_publish(self, endpoint: Pair, name: str, kind: type) -> bool:
         """Returns whether an instance is up and its settings let it publish under this key. Only RS publishes labels."""
-        return self._may("ds_rs_may_publish", endpoint, name.encode(), bit_of(kind))
+        return self._may("ds_rs_may_publish", endpoint, wrong.spelled("name", name), bit_of(kind))
 
     def may_complain(self, endpoint: Pair, label: str) -> bool:
         """Returns whether an instance is up and may complain of a service, so that a supervisor reports its death by COMPLAINT."""
-        return self._may("ds_rs_may_complain", endpoint, label.encode())
+        return self._may("ds_rs_may_complain", endpoint, wrong.spelled("label", label))
 
     def may_connect(self, endpoint: Pair, label: str) -> bool:
         """Returns whether an instance is up and may connect to a service."""
-        return self._may("ds_rs_may_connect", endpoint, label.encode())
+        return self._may("ds_rs_may_connect", endpoint, wrong.spelled("label", label))
 
     def _settle(self, call: str, settings: str, *numbers: int) -> None:
-        text, fault = settings.encode(), FaultOfC()
+        text, fault = wrong.spelled("settings", settings), FaultOfC()
         self._leave()  # since RS forgets the last answer
         try:
             self._call(call, text, len(text), *numbers, byref(fault))
@@ -192,7 +193,7 @@ class Rs(Store):
             raise
 
     def _may(self, call: str, endpoint: Pair, spelled: bytes, *kind: int) -> bool:
-        packed(INSTANCE, *endpoint)
+        wrong.check(wrong.endpoint_parts("endpoint"), wrong.pair("endpoint", endpoint))
         try:
             self._call(call, *endpoint, *kind, spelled, len(spelled))
         except NotAllowed:
@@ -200,8 +201,11 @@ class Rs(Store):
         return True
 
     def _event(self, tick: int, kind: Kind, cause: int = 0, endpoint: Pair = (0, 0), label: str = "") -> Acted:
-        spelled = label.encode()
-        answer = self._ask("ds_rs_event", packed(EVENT, tick, kind, cause, *endpoint, len(spelled), spelled))
+        spelled = wrong.spelled("label", label)
+        wrong.check(PARTS, (tick, kind, cause, *wrong.pair("endpoint", endpoint)))
+        if kind < Kind.DEATH:
+            wrong.named("label", spelled)
+        answer = self._ask("ds_rs_event", EVENT.pack(tick, kind, cause, *endpoint, len(spelled), spelled))
         return Acted([self._action(at) for at in range(answer.count)], answer.subscriptions())
 
     def _action(self, index: int) -> Action:

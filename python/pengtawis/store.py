@@ -2,14 +2,16 @@
 from __future__ import annotations
 
 import io
+import struct
 import time
 from ctypes import addressof, byref, c_char, c_size_t
 from typing import Any, Dict, FrozenSet, Iterable, Iterator, List, Optional, Tuple, Type, TypeVar, Union, cast
 
-from .library import CHANGED, OPENING, PIECE, REQUEST, ROOM, WANTING, WHOLE, Answer, Command, Given, Handle, fault_of, packed
+from . import wrong
+from .library import CHANGED, PIECE, REQUEST, ROOM, WANTING, WHOLE, Answer, Command, Given, Handle, fault_of
 from .refusals import BadItems, NoRoom, Refused
 from .values import (
-    KINDS, Cursor, Done, Endpoint, Items, Merged, Page, Reading, Subscribed, Swept, Value, bit_of, kind_of, lines_of, mask_of,
+    KINDS, Change, Cursor, Done, Endpoint, Items, Merged, Page, Reading, Subscribed, Swept, Value, bit_of, kind_of, lines_of, mask_of,
 )
 
 MOST = 256  # items of one answer, but for a snapshot's, and of one merge
@@ -43,8 +45,30 @@ class Store(Handle):
         self._kept: Dict[int, io.BytesIO] = {}  # by subscription: what a check fetched before memory ran out
         self._owed: FrozenSet[int] = frozenset()
         opening = time.time_ns() if incarnation is None else incarnation, first, ring
-        packed(OPENING, *opening)  # which refuses what is out of range
+        wrong.check(wrong.OPENING, opening)
         self._call("ds_open", *opening)
+        self._incarnation = opening[0]
+
+    def __repr__(self) -> str:
+        return f"<{type(self).__name__} of incarnation {self._incarnation}{'' if self._handle else ', closed'}>"
+
+    def __bool__(self) -> bool:
+        return True  # also while it is empty
+
+    def __len__(self) -> int:
+        """Returns how many live entries it holds."""
+        return self._ask("ds_call_line", b"show", 4).count
+
+    def __iter__(self) -> Iterator[Change]:
+        """Iterates over the live entries, by name, as they are now. A snapshot has the tombstones and the floors, too.
+
+        >>> with Store() as store:
+        ...     _ = store.publish(RS, "eth0", Endpoint(3, 16), version=(3, 0))
+        ...     len(store), [(it.name, str(it.value)) for it in store]
+        (1, [('eth0', '3/16')])
+        """
+        self._ask("ds_call_line", b"show", 4)
+        return cast(Iterator[Change], iter(Items(self._text())))
 
     def publish(self, caller: Pair, name: str, value: Value, version: Pair, overwrite: bool = False) -> Done:
         """Puts a value under a key, over a live entry only with `overwrite`. `changed` is False if it was held already.
@@ -62,8 +86,8 @@ class Store(Handle):
     ) -> List[Union[Done, Exception]]:
         """Publishes entries, each a name, a value and a version, by one call of the library.
 
-        Returns, for each, what `publish` would return or raise. A number that is out of range raises ValueError, and a value of another
-        type TypeError; then nothing is published.
+        Returns, for each, what `publish` would return or raise. A number that the library can't be handed raises ValueError, and an
+        argument of another type TypeError; then nothing is published.
 
         >>> with Store() as store:
         ...     _ = store.publish(RS, "eth0", Endpoint(3, 16), version=(3, 0))
@@ -81,7 +105,7 @@ class Store(Handle):
         self._leave()
         # One call answers all, since none of these answers has a text.
         self._call("ds_run", b"".join(requests), count, b"".join(texts), length, answers, count, byref(c_size_t()))
-        return [fault_of(it) or done(it) for it in answers]
+        return [told(*it) for it in zip(answers, requests, texts)]
 
     def delete(self, caller: Pair, name: str, kind: type, version: Pair) -> Done:
         """Ends a live entry, and leaves a tombstone. RS deletes a label by version (its generation, 1)."""
@@ -113,7 +137,7 @@ class Store(Handle):
 
         `sub` is 0 to 127, and a pattern has at most 128 bytes. Exists: the number is in use, and `overwrite` is False.
         """
-        text, mask = pattern.encode(), mask_of(kinds)
+        text, mask = wrong.spelled("pattern", pattern), mask_of(kinds)
         answer = self._request(Command.SUBSCRIBE, text, sub=sub, kinds=mask, initial=initial, overwrite=overwrite)
         self._kept.pop(sub, None)
         return Subscribed(answer.after, answer.subscriptions())
@@ -205,7 +229,7 @@ class Store(Handle):
 
     def line(self, line: str) -> str:
         """Returns the answer to a line of a script, as dsctl prints it. A refusal is raised. BadLine: the line can't be read."""
-        spelled, self._owed = line.encode(), frozenset()
+        spelled, self._owed = wrong.spelled("line", line), frozenset()
         self._owed = self._ask("ds_call_line", spelled, len(spelled)).subscriptions()
         return self.text()
 
@@ -240,12 +264,16 @@ class Store(Handle):
         self._fetched = 0
 
     def _request(self, command: Command, text: bytes = b"", *parts: Any, **others: Any) -> Answer:
-        return self._ask("ds_call", request_of(command, text, *parts, **others), text, len(text))
+        request = request_of(command, text, *parts, **others)
+        try:
+            return self._ask("ds_call", request, text, len(text))
+        except ValueError as fault:
+            raise named(fault, request, text) from None
 
     def _reading(self, command: Command, pattern: str, kinds: Iterable[type], **parts: Any) -> Reading:
         mask = mask_of(kinds)
         under = (pattern, mask) != (".*", 15)  # else it is everything, for which no pattern is read
-        answer = self._request(command, pattern.encode() if under else b"", kinds=mask, under=under, **parts)
+        answer = self._request(command, wrong.spelled("pattern", pattern) if under else b"", kinds=mask, under=under, **parts)
         cursor = Cursor(answer.before, answer.after)
         return Reading(Items(self._text()), cursor)
 
@@ -291,9 +319,33 @@ def request_of(
     kinds: int = 0, name: str = "", *, cursor: Pair = NONE, sub: int = 0, most: int = 0, overwrite: bool = False,
     initial: bool = False, under: bool = False, behind: int = 0, text_at: int = 0, text_length: Optional[int] = None,
 ) -> bytes:
-    spelled, length = name.encode(), len(text) if text_length is None else text_length
-    numbers = (*cursor, text_at, length, command, at[0], *version, number, sub, most, at[1], slot)
-    return packed(REQUEST, *numbers, kinds, overwrite, initial, under, behind, len(spelled), spelled)
+    spelled, length = wrong.spelled("name", name), len(text) if text_length is None else text_length
+    try:
+        numbers = (*cursor, text_at, length, command, at[0], *version, number, sub, most, at[1], slot)
+        return REQUEST.pack(*numbers, kinds, overwrite, initial, under, behind, len(spelled), spelled)
+    except (TypeError, LookupError, struct.error):
+        for what, it in (("cursor", cursor), (wrong.NAMES.get(command.word, {}).get("caller", "caller"), at), ("version", version)):
+            wrong.pair(what, it)
+        numbers = (*cursor, text_at, length, command, at[0], *version, number, sub, most, at[1], slot)
+        wrong.check(wrong.request_parts(command.word, command is Command.PUBLISH and kinds == 1), numbers)
+        wrong.named(wrong.NAMES.get(command.word, {}).get("name", "name"), spelled)
+        raise
+
+
+def named(fault: ValueError, request: bytes, text: bytes) -> ValueError:
+    """Returns the fault of a request. For a request without a command, the fault that names the argument."""
+    if type(fault) is ValueError:
+        try:
+            wrong.check_request(REQUEST, request, Command(REQUEST.unpack(request)[4]).word, text)
+        except ValueError as better:
+            return better
+    return fault
+
+
+def told(answer: Answer, request: bytes, text: bytes) -> Union[Done, Exception]:
+    """Returns the answer to one publication of several, or why it was refused."""
+    fault = fault_of(answer)
+    return done(answer) if fault is None else named(fault, request, text) if isinstance(fault, ValueError) else fault
 
 
 def done(answer: Answer) -> Done:

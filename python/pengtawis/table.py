@@ -2,18 +2,18 @@
 from __future__ import annotations
 
 import ctypes
-import struct
 from ctypes import POINTER, byref, c_size_t, c_uint8, c_uint16, c_uint32, c_uint64
 from typing import List, NamedTuple, Optional, Union
 
-from .library import Handle, packed
+from . import wrong
+from .library import Handle
 from .map import Map
 from .refusals import NUMBERED, Refused
 from .rs import Class
 from .store import Pair
 from .values import Endpoint
 
-REQUEST, INSTANCE = struct.Struct("@QB"), struct.Struct("@IHQ")  # an id and a unit; an endpoint and an id
+ID, UNIT = ("`id`", 2**64 - 1), ("`unit`", 255)
 
 # What a server has to do.
 StartPort = NamedTuple("StartPort", [("unit", int), ("endpoint", Endpoint)])
@@ -58,9 +58,13 @@ class Table(Handle):
 
     def assign(self, unit: int, service_class: Class, label: str) -> None:
         """Assigns a unit to the driver with a label: a block or a character driver in a FileTable, a network driver in a NetworkTable."""
-        packed(REQUEST, 0, unit)
-        spelled = label.encode()
-        self._ask("ds_table_assign", unit, Class(service_class), spelled, len(spelled))
+        spelled = wrong.spelled("label", label)
+        wrong.check((UNIT,), (unit,))
+        wrong.named("label", spelled)
+        try:
+            self._ask("ds_table_assign", unit, Class(service_class), spelled, len(spelled))
+        except ValueError as fault:
+            raise ValueError(f"`service_class` isn't one of a {type(self).__name__}") if type(fault) is ValueError else fault from None
 
     def follow(self, drivers: Map) -> Moved:
         """Takes what the map has of the labels of the units. Call it after each `take` of the map."""
@@ -71,7 +75,7 @@ class Table(Handle):
 
         If it isn't accepted, `refused` is TwoIds, NoDevice or NoRoom, and isn't raised.
         """
-        packed(REQUEST, id, unit)
+        wrong.check((ID, UNIT), (id, unit))
         return self._follow("ds_table_submit", drivers, id, unit)
 
     def reply(self, endpoint: Pair, id: int) -> Moved:
@@ -79,7 +83,7 @@ class Table(Handle):
 
         NotPending: no request of this id waits for a reply. OldEndpoint: the reply is of an older instance.
         """
-        packed(INSTANCE, *endpoint, id)
+        wrong.check((*wrong.endpoint_parts("endpoint"), ID), (*wrong.pair("endpoint", endpoint), id))
         self._ask("ds_table_reply", *endpoint, id)
         return Moved(self._moves())
 

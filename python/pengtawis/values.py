@@ -17,6 +17,18 @@ class Endpoint(NamedTuple):
     def __str__(self) -> str:
         return f"{self.generation}/{self.slot}"
 
+    @classmethod
+    def parse(cls, text: str) -> Endpoint:
+        """Returns the endpoint of a text, as DS_ENDPOINT of a service has it. ValueError: it isn't one.
+
+        >>> Endpoint.parse("3/16")
+        Endpoint(generation=3, slot=16)
+        """
+        found = re.fullmatch(r"(0|[1-9]\d{0,6})/(0|[1-9]\d{0,3})", text, re.ASCII)
+        if not found or int(found[1]) > 2097151 or int(found[2]) > 1023:
+            raise ValueError(f"an endpoint is GENERATION/SLOT, and not {text!r}")
+        return cls(int(found[1]), int(found[2]))
+
 
 RS = Endpoint(0, 2)  # the reincarnation server, which publishes labels and sweeps
 Value = Union[Endpoint, int, str, bytes]
@@ -110,7 +122,7 @@ def change_of(line: str) -> Change:
 
 def kind_of(value: Value) -> type:
     for kind in KINDS:
-        if isinstance(value, kind):
+        if isinstance(value, kind) and not isinstance(value, bool):
             return kind
     raise TypeError(f"a value is an Endpoint, an int, a str or bytes, and not {type(value).__name__}")
 

@@ -404,6 +404,110 @@ class Numbers(unittest.TestCase):
             self.assertEqual([it.value for it in store.snapshot().items], [ETH, b"", "", 'two  words, "quoted"'])
 
 
+class Named(unittest.TestCase):
+    """A wrong argument is named, and the store is unchanged."""
+
+    CALLS = [
+        ("`version` is a pair", TypeError, lambda it: it.publish(ETH, "mtu", 1, version=3)),
+        ("`version` is a pair", TypeError, lambda it: it.publish(ETH, "mtu", 1, version=(3, 1, 2))),
+        ("`version`'s number is an int, and not str", TypeError, lambda it: it.publish(ETH, "mtu", 1, (3, "1"))),
+        ("`version`'s number is 0 to 4294967294, and not -1", ValueError, lambda it: it.publish(ETH, "mtu", 1, (3, -1))),
+        ("`version`'s epoch is 0 to 2097151, and not 2097152", ValueError, lambda it: it.publish(ETH, "mtu", 1, (2097152, 1))),
+        ("`caller` is a pair", TypeError, lambda it: it.publish("3/17", "mtu", 1, (3, 1))),
+        ("`caller`'s generation is 0 to 2097151", ValueError, lambda it: it.delete((2**21, 2), "mtu", int, (3, 1))),
+        ("`caller`'s slot is 0 to 1023, and not 1024", ValueError, lambda it: it.publish((3, 1024), "mtu", 1, (3, 1))),
+        ("`endpoint`'s slot is 0 to 1023, and not 70000", ValueError, lambda it: it.nameof((3, 70000))),
+        ("`endpoint` is a pair", TypeError, lambda it: it.nameof("3/17")),
+        ("`value` is 0 to 4294967295, and not 4294967296", ValueError, lambda it: it.publish(ETH, "mtu", 2**32, (3, 1))),
+        ("`value`'s generation is 0 to 2097151", ValueError, lambda it: it.publish(RS, "tty", Endpoint(2**21, 1), (2**21 - 1, 0))),
+        ("`value`'s slot is 0 to 1023", ValueError, lambda it: it.publish(RS, "tty", Endpoint(4, 1024), (4, 0))),
+        ("`value` has at most 256 printable", ValueError, lambda it: it.publish(ETH, "mtu", "\n", (3, 1))),
+        ("`value` has at most 1024 bytes, and not 1025", ValueError, lambda it: it.publish(ETH, "mtu", bytes(1025), (3, 1))),
+        ("a value is an Endpoint, .* and not bool", TypeError, lambda it: it.publish(ETH, "mtu", True, (3, 1))),
+        ("`name` has 1 to 64 .* isn't 'm u'", ValueError, lambda it: it.publish(ETH, "m u", 1, (3, 1))),
+        ("`name` has 1 to 64 .* isn't ''", ValueError, lambda it: it.retrieve("", int)),
+        ("`name` has 1 to 64", ValueError, lambda it: it.retrieve("m" * 300, int)),
+        ("`name` is a str, and not bytes", TypeError, lambda it: it.retrieve(b"mtu", int)),
+        ("`owner` has 1 to 64", ValueError, lambda it: it.sweep(RS, "eth 0", 3)),
+        ("`generation` is 0 to 2097151, and not 2097152", ValueError, lambda it: it.sweep(RS, "eth0", 2097152)),
+        ("`after` has 1 to 64", ValueError, lambda it: it.page(("m u", int))),
+        ("`cursor` is a pair", TypeError, lambda it: next(it.since(1))),
+        ("`cursor`'s position is 0 to", ValueError, lambda it: next(it.since((1, 2**64)))),
+        ("`sub` is an int, and not str", TypeError, lambda it: it.subscribe("eth", ".*")),
+        ("`sub` is 0 to 127, and not -1", ValueError, lambda it: it.check(-1)),
+        ("`most` is 1 to 256, and not -1", ValueError, lambda it: it.check(4, most=-1)),
+        ("`pattern` is a str, and not bytes", TypeError, lambda it: it.subscribe(4, b".*")),
+        ("`pattern` is a str, and not int", TypeError, lambda it: it.snapshot(7)),
+        ("`kinds` has at least one of Endpoint, int, str, bytes", ValueError, lambda it: it.subscribe(4, ".*", [])),
+        ("`kinds` has at least one", ValueError, lambda it: it.snapshot("eth.*", [])),
+        ("`line` is a str, and not bytes", TypeError, lambda it: it.line(b"show")),
+        ("`ring` is 1 to 4096, and not -1", ValueError, lambda it: Store(ring=-1)),
+        ("`incarnation` is an int, and not str", TypeError, lambda it: Store("1")),
+        ("`pattern` is a str, and not NoneType", TypeError, lambda it: Map(None)),
+        ("`name` has 1 to 64", ValueError, lambda it: Map().label("m u")),
+    ]
+
+    def test_each(self):
+        for said, kind, call in self.CALLS:
+            with self.subTest(said), opened(LABEL) as store:
+                with self.assertRaisesRegex(kind, said) as raised:
+                    call(store)
+                self.assertIs(type(raised.exception), kind)
+                self.assertIsNone(raised.exception.__cause__)
+                self.assertEqual(store.line("all"), "eth0 label rs 3.0 = 3/17\nshown 1\n")
+
+    def test_those_of_several_publications(self):
+        with opened(LABEL) as store:
+            told = store.publish_all(ETH, [("a b", 1, (3, 1)), ("mtu", 1, (3, 1)), ("s", "\n", (3, 1))])
+            self.assertRegex(str(told[0]), "`name` has 1 to 64")
+            self.assertRegex(str(told[2]), "`value` has at most 256")
+            self.assertEqual(store.retrieve("mtu", int), 1)
+
+    def test_endpoints_from_text(self):
+        for text in ("0/2", "3/16", "2097151/1023"):
+            self.assertEqual(str(Endpoint.parse(text)), text)
+        for text in ("", "3", "3/", "/3", "3/16/1", "03/16", "3/1024", "2097152/1", "-3/16", "3 /16", "3/16\n", "\u0663/16"):
+            with self.subTest(text):
+                self.assertRaisesRegex(ValueError, "GENERATION/SLOT", Endpoint.parse, text)
+
+
+class Entries(unittest.TestCase):
+    """A store is a collection of its live entries."""
+
+    def test_those_that_live(self):
+        with opened(LABEL, MTU) as store:
+            store.publish(ETH, "mac", b"RT", (3, 2))
+            store.publish(ETH, "gone", 1, (3, 3))
+            store.delete(ETH, "gone", int, (3, 4))
+            self.assertEqual((len(store), [(it.name, it.value) for it in store]), (3, [("eth0", ETH), ("mac", b"RT"), ("mtu", 1500)]))
+            self.assertEqual(list(store), list(iter(store)))
+            store.sweep(RS, "eth0", 3)
+            self.assertEqual([it.name for it in store], ["eth0"])
+
+    def test_none(self):
+        with Store(7) as store:
+            self.assertEqual((len(store), list(store), bool(store)), (0, [], True))
+            self.assertEqual(repr(store), "<Store of incarnation 7>")
+        self.assertEqual(repr(store), "<Store of incarnation 7, closed>")
+        self.assertTrue(store)
+        self.assertRaises(refusals.IsClosed, len, store)
+        self.assertRaises(refusals.IsClosed, iter, store)
+
+    def test_many_and_a_check_that_goes_on(self):
+        """A store with more than one buffer's text, and a check whose text isn't lost by it."""
+        with opened(LABEL, ring=4096) as store:
+            store.subscribe(40, ".*")
+            for at in range(LARGE):
+                store.publish(ETH, f"m{at:04}", bytes(1024), (3, at))
+            self.assertEqual([it.name for it in store], ["eth0"] + [f"m{at:04}" for at in range(LARGE)])
+            self.assertEqual((len(store), len(store.check(40))), (LARGE + 1, LARGE + 1))
+
+    def test_a_map_has_a_repr(self):
+        with Map("eth.*") as drivers:
+            self.assertEqual(repr(drivers), "<Map of 'eth.*'>")
+        self.assertEqual(repr(drivers), "<Map of 'eth.*', closed>")
+
+
 class Closing(unittest.TestCase):
     def test_closed_once_or_more(self):
         with opened(LABEL) as store:
