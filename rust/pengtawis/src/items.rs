@@ -55,6 +55,65 @@ impl<'items> IntoIterator for &'items Items {
     }
 }
 
+impl IntoIterator for Items {
+    type Item = OwnedItem;
+    type IntoIter = OwnedItems;
+
+    fn into_iter(self) -> OwnedItems {
+        OwnedItems { at: 0, text: self.text }
+    }
+}
+
+/// An item that has its own line. Iterating over [`Items`] by value returns it.
+///
+/// ```
+/// use pengtawis::{Item, Items};
+///
+/// for it in Items::from(b"! tty 1\n".to_vec()) {
+///     assert_eq!(it.item(), Item::Floor { owner: "tty", generation: 1 });
+/// }
+/// ```
+#[derive(Clone, Debug, PartialEq, Eq)]
+pub struct OwnedItem {
+    line: String,
+}
+
+impl OwnedItem {
+    /// Returns what the item says.
+    pub fn item(&self) -> Item<'_> {
+        Item::read(&self.line).unwrap_or(Item::Floor { owner: "", generation: 0 }) // an item's line was read when it was made
+    }
+
+    /// Returns its line, without the newline.
+    pub fn line(&self) -> &str {
+        &self.line
+    }
+}
+
+/// Iterates over the items of [`Items`] by value, in order. A line that isn't an item's is skipped, as by [`Items::iter`].
+#[derive(Clone, Debug)]
+pub struct OwnedItems {
+    text: Vec<u8>,
+    at: usize,
+}
+
+impl Iterator for OwnedItems {
+    type Item = OwnedItem;
+
+    fn next(&mut self) -> Option<OwnedItem> {
+        while self.at < self.text.len() {
+            let rest = &self.text[self.at..];
+            let line = rest.split(|it| *it == b'\n').next().unwrap_or(rest);
+            self.at += line.len() + 1;
+            match std::str::from_utf8(line) {
+                Ok(it) if Item::read(it).is_some() => return Some(OwnedItem { line: it.to_owned() }),
+                _ => {}
+            }
+        }
+        None
+    }
+}
+
 /// Iterates over the items of [`Items`], in order.
 #[derive(Clone, Debug)]
 pub struct ItemsIter<'items> {

@@ -22,13 +22,13 @@ mod table;
 mod values;
 
 pub use error::{Error, Refusal, Stopped};
-pub use items::{Body, Change, Item, Items, ItemsIter};
+pub use items::{Body, Change, Item, Items, ItemsIter, OwnedItem, OwnedItems};
 pub use map::Map;
 pub use rs::{Acted, Action, Cause, Rs, Service, SettingsFault, State};
 pub use shown::Shown;
 pub use store::{Found, Store};
 pub use table::{Class, Move, Moves, Server, Table};
-pub use values::{Cursor, Done, Endpoint, Kind, Kinds, Merged, Owed, Scope, Subscribed, Swept, Value, Version, RS};
+pub use values::{Cursor, Done, Endpoint, Kind, Kinds, Merged, NoEndpoint, Owed, Scope, Subscribed, Swept, Value, Version, RS};
 
 /// The examples of the guide.
 #[cfg(doctest)]

@@ -52,17 +52,17 @@ impl Store {
 
     /// Puts a value under a key, over a live entry only with `overwrite`. A name has 1 to 64 ASCII letters, digits, `.`, `_` and `-`.
     pub fn publish<'a>(
-        &mut self, caller: Endpoint, name: &str, value: impl Into<Value<'a>>, version: Version, overwrite: bool,
+        &mut self, caller: Endpoint, name: &str, value: impl Into<Value<'a>>, version: impl Into<Version>, overwrite: bool,
     ) -> Result<Done, Error> {
-        let value = value.into();
+        let (value, version) = (value.into(), version.into());
         let (number, slot, text) = value.parts();
         let request = Request { value: number, value_slot: slot, overwrite: overwrite.into(), ..of(command::PUBLISH, caller, version) };
         self.ask_done(keyed(request, name, value.kind())?, text)
     }
 
     /// Ends a live entry, and leaves a tombstone. When a driver dies, RS ends its label, and then [sweeps](Store::sweep) its entries.
-    pub fn delete(&mut self, caller: Endpoint, name: &str, kind: Kind, version: Version) -> Result<Done, Error> {
-        self.ask_done(keyed(of(command::DELETE, caller, version), name, kind)?, &[])
+    pub fn delete(&mut self, caller: Endpoint, name: &str, kind: Kind, version: impl Into<Version>) -> Result<Done, Error> {
+        self.ask_done(keyed(of(command::DELETE, caller, version.into()), name, kind)?, &[])
     }
 
     /// Raises the floor of a dead owner, which drops the entries that it published up to this generation. Its label stays.

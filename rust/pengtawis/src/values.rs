@@ -2,6 +2,7 @@
 
 use std::fmt;
 use std::ops::BitOr;
+use std::str::FromStr;
 
 /// Names a process by its generation, at most 2097151, and its process slot, at most 1023.
 #[derive(Clone, Copy, Debug, PartialEq, Eq, PartialOrd, Ord, Hash)]
@@ -9,6 +10,9 @@ pub struct Endpoint {
     pub generation: u32,
     pub slot: u16,
 }
+
+const MAX_GENERATION: u32 = 2_097_151;
+const MAX_SLOT: u16 = 1023;
 
 /// The reincarnation server, which publishes labels and sweeps.
 pub const RS: Endpoint = Endpoint::new(0, 2);
@@ -25,6 +29,38 @@ impl fmt::Display for Endpoint {
     }
 }
 
+/// A text isn't an endpoint.
+#[derive(Clone, Copy, Debug, PartialEq, Eq)]
+pub struct NoEndpoint;
+
+impl fmt::Display for NoEndpoint {
+    fn fmt(&self, to: &mut fmt::Formatter<'_>) -> fmt::Result {
+        to.write_str("an endpoint is GENERATION/SLOT, at most 2097151/1023")
+    }
+}
+
+impl std::error::Error for NoEndpoint {}
+
+/// Reads an endpoint as it is displayed, and as a service has it in DS_ENDPOINT.
+///
+/// ```
+/// assert_eq!("3/16".parse(), Ok(pengtawis::Endpoint::new(3, 16)));
+/// assert!("3/1024".parse::<pengtawis::Endpoint>().is_err());
+/// ```
+impl FromStr for Endpoint {
+    type Err = NoEndpoint;
+
+    fn from_str(text: &str) -> Result<Endpoint, NoEndpoint> {
+        let (generation, slot) = text.split_once('/').ok_or(NoEndpoint)?;
+        let it = Endpoint { generation: generation.parse().map_err(|_| NoEndpoint)?, slot: slot.parse().map_err(|_| NoEndpoint)? };
+        // Rust reads `+3` and `03` as numbers, too.
+        if it.generation > MAX_GENERATION || it.slot > MAX_SLOT || it.to_string() != text {
+            return Err(NoEndpoint);
+        }
+        Ok(it)
+    }
+}
+
 /// An owner's generation, and a number that it counts. A label's is the generation of its endpoint, and 0, or 1 for its deletion.
 #[derive(Clone, Copy, Debug, Default, PartialEq, Eq, PartialOrd, Ord, Hash)]
 pub struct Version {
@@ -34,6 +70,13 @@ pub struct Version {
 
 impl Version {
     pub const fn new(epoch: u32, seq: u32) -> Version {
+        Version { epoch, seq }
+    }
+}
+
+/// `(3, 0)` is version 3.0.
+impl From<(u32, u32)> for Version {
+    fn from((epoch, seq): (u32, u32)) -> Version {
         Version { epoch, seq }
     }
 }
@@ -137,6 +180,18 @@ impl From<u32> for Value<'_> {
 impl<'a> From<&'a str> for Value<'a> {
     fn from(text: &'a str) -> Self {
         Value::Str(text)
+    }
+}
+
+impl<'a> From<&'a String> for Value<'a> {
+    fn from(text: &'a String) -> Self {
+        Value::Str(text)
+    }
+}
+
+impl<'a> From<&'a Vec<u8>> for Value<'a> {
+    fn from(bytes: &'a Vec<u8>) -> Self {
+        Value::Mem(bytes)
     }
 }
 

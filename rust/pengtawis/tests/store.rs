@@ -1,7 +1,8 @@
 //! What a store and a map answer, by each call.
 
 use pengtawis::{
-    Body, Cursor, Done, Endpoint, Error, Item, Items, Kind, Kinds, Map, Merged, Owed, Refusal, Scope, Stopped, Store, Value, Version, RS,
+    Body, Cursor, Done, Endpoint, Error, Item, Items, Kind, Kinds, Map, Merged, NoEndpoint, Owed, Refusal, Scope, Stopped, Store, Value,
+    Version, RS,
 };
 
 const ETH: Endpoint = Endpoint::new(3, 16);
@@ -54,6 +55,42 @@ fn values_of_each_kind() {
         }
     }
     assert_eq!(names, wanted.iter().map(|it| it.0).collect::<Vec<_>>());
+}
+
+#[test]
+fn versions_and_values_in_other_forms() {
+    let (mut store, text, bytes) = (with_eth(), String::from("plain"), vec![1, 2]);
+    assert!(store.publish(ETH, "s", &text, (3, 1), false).unwrap().changed);
+    assert!(store.publish(ETH, "m", &bytes, (3, 2), false).unwrap().changed);
+    assert_eq!((store.retrieve::<String>("s"), store.retrieve::<Vec<u8>>("m")), (Ok(text), Ok(bytes)));
+    assert!(store.delete(ETH, "s", Kind::Str, (3, 3)).unwrap().changed);
+    assert_eq!(Version::from((3, 1)), version(3, 1));
+}
+
+#[test]
+fn endpoints_from_text() {
+    for (text, wanted) in [("0/2", RS), ("3/16", ETH), ("2097151/1023", Endpoint::new(2_097_151, 1023))] {
+        assert_eq!(text.parse(), Ok(wanted));
+        assert_eq!(wanted.to_string(), text);
+    }
+    for text in ["", "3", "3/", "/3", "3/16/1", "03/16", "+3/16", "3/1024", "2097152/1", "-3/16", "3/ 16", "3/16\n", "3/99999"] {
+        assert_eq!(text.parse::<Endpoint>(), Err(NoEndpoint), "{text}");
+    }
+    assert_eq!(NoEndpoint.to_string(), "an endpoint is GENERATION/SLOT, at most 2097151/1023");
+}
+
+#[test]
+fn items_by_value() {
+    let mut store = with_eth();
+    store.publish(ETH, "mtu", 1500, (3, 1), false).unwrap();
+    store.sweep(RS, "eth0", 2).unwrap();
+    let items = store.snapshot(None).unwrap().items().unwrap();
+    let owned: Vec<_> = items.clone().into_iter().collect();
+    assert_eq!(owned.iter().map(|it| it.item()).collect::<Vec<_>>(), items.iter().collect::<Vec<_>>());
+    assert_eq!(owned.iter().map(|it| format!("{}\n", it.line())).collect::<String>(), shown(&items));
+    assert_eq!(owned.len(), 3);
+    let spoiled = Items::from(b"no item\n\n! tty 1\n\xff\nmtu u32 tty 1.0 = 1".to_vec());
+    assert_eq!(spoiled.into_iter().map(|it| it.line().to_owned()).collect::<Vec<_>>(), ["! tty 1", "mtu u32 tty 1.0 = 1"]);
 }
 
 #[test]
