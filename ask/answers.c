@@ -17,7 +17,7 @@ size_t answer_length(const char *bytes, size_t length) {
 
 bool answer_is_notice(const char *answer, size_t length) { return text_begins(answer, length, "notice "); }
 
-/* Written at once, so a pipe's reader has each answer as soon as it came. */
+/* Written at once, so a pipe's reader has each answer on arrival. */
 static bool write_out(const char *bytes, size_t length) {
     while (length) {
         ssize_t put = write(STDOUT_FILENO, bytes, length);
@@ -42,7 +42,7 @@ bool printing_put(struct printing *printing, const char *answer, size_t length) 
     return fine;
 }
 
-/* ---- what is watched ---- */
+/* ---- watching ---- */
 
 bool watching_begin(struct watching *watching, struct text *to) {
     return text_print(to, "subscribe %d \"", watching->sub) && text_put(to, watching->pattern, strlen(watching->pattern))

@@ -6,9 +6,9 @@
 #include <stdbool.h>
 #include <stddef.h>
 
-/* Returns how many bytes the first answer has, with its empty line, or 0 if it isn't whole. */
+/* Returns how many bytes the first answer has, with the empty line, or 0 if the answer isn't whole. */
 size_t answer_length(const char *bytes, size_t length);
-/* Whether it is a notice, which answers no line. */
+/* Whether an answer is a notice, which answers no line. */
 bool answer_is_notice(const char *answer, size_t length);
 
 /* How answers are printed. */
@@ -19,16 +19,16 @@ struct printing {
 
 /* These return false, with errno, if standard output can't be written or memory runs out. */
 
-/* Prints an answer without its empty line. */
+/* Prints an answer without the empty line. */
 bool printing_put(struct printing *printing, const char *answer, size_t length);
 
-/* What is watched, and the subscription for it: the first from `sub` to `last_sub` that may be used. */
+/* A watched pattern, and its subscription: the first from `sub` to `last_sub` that may be used. */
 struct watching { const char *pattern; int kinds, sub, last_sub; bool refused; };
 
 /* Puts the lines to begin with. */
 bool watching_begin(struct watching *watching, struct text *to);
-/* Takes an answer: prints the items in it, and puts the lines to continue with. After a refusal there are none, and it
- * returns false with `refused` set and errno EPIPE, since standard error has the reason already. */
+/* Takes an answer: prints the items, and puts the lines to continue with. After a refusal there are none, and the result
+ * is false with `refused` set and errno EPIPE, since standard error has the reason already. */
 bool watching_take(struct watching *watching, const char *answer, size_t length, struct text *to);
 
 #endif

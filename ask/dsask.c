@@ -57,13 +57,13 @@ static const char lines[] =
 
 struct options { struct watching watching; const char *socket; char **line; int count; };
 
-/* A connection, what is still to be sent, and how many answers are missing. */
+/* A connection, the bytes still to be sent, and how many answers are missing. */
 struct asking {
     int socket;
     bool reads;            /* standard input hasn't ended */
     bool prompts;
     size_t owed;
-    char last;             /* the last byte of what was given */
+    char last;             /* the last byte of the lines */
     struct text unsent, came;
     struct printing printing;
     struct watching *watching; /* or NULL */
@@ -135,7 +135,7 @@ static bool read_input(struct asking *asking) {
     return asking->last == '\n' || give(asking, "\n", 1);
 }
 
-/* What it said before it hung up is read all the same. */
+/* Bytes that the other end sent before a hang-up are read all the same. */
 static void send_some(struct asking *asking) {
     ssize_t put = send(asking->socket, asking->unsent.bytes, asking->unsent.length, MSG_DONTWAIT | MSG_NOSIGNAL);
     if (put > 0) text_drop(&asking->unsent, (size_t)put);
@@ -159,7 +159,7 @@ static bool take_answers(struct asking *asking) {
     return true;
 }
 
-/* Returns false where it hung up, memory ran out, or nobody reads what is printed. */
+/* Returns false where the other end hung up, memory ran out, or nobody reads the output. */
 static bool receive(struct asking *asking) {
     if (!text_room(&asking->came, PIECE)) return false;
     ssize_t length = recv(asking->socket, asking->came.bytes + asking->came.length, PIECE, 0);
@@ -175,7 +175,7 @@ static void prompt(const struct asking *asking) {
     fflush(stdout);
 }
 
-/* Runs until each line has its answer, and standard input has ended. */
+/* Runs until each line has an answer, and standard input has ended. */
 static bool run(struct asking *asking) {
     prompt(asking);
     while (asking->owed || asking->reads || asking->watching) {

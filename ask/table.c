@@ -26,7 +26,7 @@ static const char *cause_of(const struct row *row) {
     return row->cause < sizeof words / sizeof *words ? words[row->cause] : "?";
 }
 
-/* The time in its largest unit. */
+/* The time in the largest unit. */
 static void spell(unsigned long long seconds, char text[WORD]) {
     static const struct { unsigned long long seconds; char letter; } units[] = {{86400, 'd'}, {3600, 'h'}, {60, 'm'}, {1, 's'}};
     size_t unit = 0;
@@ -41,7 +41,7 @@ static bool put_row(const struct row *row, int width, struct text *to) {
                       row->failures, cause_of(row), row->text);
 }
 
-/* The longest label, which is what comes before the first space of a line. */
+/* The longest label: the text before the first space of a line. */
 static int width_of(const char *answer, size_t length) {
     int width = (int)strlen("LABEL");
     for (const char *line = answer, *end = answer + length; line < end; line = (const char *)memchr(line, '\n', (size_t)(end - line)) + 1)

@@ -14,7 +14,7 @@ static const char version_name[] = "redis_version:";
 enum {
     LEAST_VERSION = 7,
     TURN = 20,      /* milliseconds between two looks at a connection */
-    LIMIT = 5000,   /* that all of it may take */
+    LIMIT = 5000,   /* for the whole check */
     MOVES = 4       /* from one node of a cluster to another */
 };
 
@@ -27,7 +27,7 @@ static const char *const commands[] = {
 
 static const char fault[] = "fault", warning[] = "warning";
 
-/* Prints a line; `todo` says what is wrong, or what to do. */
+/* Prints a line; `todo` says the fault, or the remedy. */
 static bool report(bool is_good, const char *bad, const char *what, const char *todo) {
     if (is_good) printf("good %s\n", what);
     else printf("%s %s: %s\n", bad, what, todo);
@@ -36,7 +36,7 @@ static bool report(bool is_good, const char *bad, const char *what, const char *
 
 static const char *stream_of(const struct ds_fleet_options *options) { return options->stream ? options->stream : "ds"; }
 
-/* What a bridge asks in other ways: these do nothing. */
+/* Requests of a bridge, here in forms without an effect. */
 static void ask_others(struct link *link, const struct ds_fleet_options *options, const char *stream) {
     link_ask(link, "EVAL %s 1 %s:items", "return 0", stream);
     link_ask(link, "DISCARD");
@@ -46,7 +46,7 @@ static void ask_others(struct link *link, const struct ds_fleet_options *options
     if (options->replicas) link_ask(link, "WAIT 0 1");
 }
 
-/* Waits for a master, and for its answers. Returns why there are none, or NULL. */
+/* Waits for a master and its answers. Returns why there are none, or NULL. */
 static const char *ask_server(struct master *master, struct link *link, const struct ds_fleet_options *options) {
     const char *stream = stream_of(options);
     uint64_t end = clock_now() + LIMIT;
@@ -73,7 +73,7 @@ static const char *ask_server(struct master *master, struct link *link, const st
     }
 }
 
-/* Returns the node that has the stream, `HOST:PORT`, if it is another one than was asked. */
+/* Returns the node that has the stream, `HOST:PORT`, if another node was asked. */
 static const char *moved_to(const struct link *link) {
     for (size_t i = 0; i < link->came; i++) {
         if (is_error_of(link->answers[i], "MOVED ")) return strrchr(link->answers[i]->str, ' ') + 1;
@@ -81,7 +81,7 @@ static const char *moved_to(const struct link *link) {
     return NULL;
 }
 
-/* Asks a server, and the node that it names, as a bridge does. */
+/* Asks a server, and the node named by the server, as a bridge does. */
 static const char *ask_node(struct master *master, struct link *link, const struct ds_fleet_options *options) {
     const char *why = ask_server(master, link, options), *place;
     for (int moves = 0; !why && moves < MOVES && (place = moved_to(link)); moves++) {

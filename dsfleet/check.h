@@ -4,8 +4,8 @@
 
 #include "ds_fleet.h"
 
-/* Asks the first server that answers, and prints a line `good`, `warning` or `fault`, a space and what it is, for each
- * thing looked at. Nothing is written in redis. Returns whether there is no fault. */
+/* Asks the first server that answers. Prints a line `good`, `warning` or `fault`, a space and a sentence, for each thing looked at. Writes
+ * nothing in redis. Returns whether there is no fault. */
 bool check_server(const struct ds_fleet_options *options);
 
 #endif

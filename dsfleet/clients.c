@@ -39,7 +39,7 @@ bool clients_add(struct clients *clients, int socket) {
 /* Bytes of answers that wait for a client. */
 static size_t backlog(const struct client *client) { return client->held.length + client->wire.out.length; }
 
-/* Whether its next lines may be answered: its last ones are, and it reads. */
+/* Whether the client's next lines may be answered: the last ones are, and the client reads. */
 static bool is_free(const struct clients *clients, const struct client *client) {
     return !client->held.length && client->wire.out.length < clients->limits.output;
 }
@@ -51,7 +51,7 @@ struct pollfd clients_watched(const struct clients *clients, const struct client
     return (struct pollfd){.fd = client->socket, .events = (short)((reads ? POLLIN : 0) | (writes ? POLLOUT : 0))};
 }
 
-/* Drops a client's answers. The lines that it sent before are still carried out. */
+/* Drops a client's answers. The lines that the client sent before are still carried out. */
 static void hang_up(struct client *client) {
     client->gone = true;
     text_free(&client->held);
@@ -123,7 +123,7 @@ static bool is_turn_over(const struct clients *clients, const struct client *cli
     return clock_now() >= clients->turn_end || (holds && backlog(client) >= CLIENT_FEW);
 }
 
-/* Marks what the stream has to have before the held answers are released. */
+/* Sets the watermark of the held answers: the entry that the stream must have before they are released. */
 static void mark_held(struct clients *clients, struct client *client) {
     client->mark = client->was_held ? ds_fleet_mark_held(clients->fleet) : ds_fleet_mark(clients->fleet);
 }
@@ -154,8 +154,8 @@ static bool answer_lines(struct clients *clients, struct client *client) {
     return fine;
 }
 
-/* Room for long answers goes by turns to the client that was refused it first, and to the newest one. By the first rule
- * alone a client waits long after many that don't read; by the second alone, for ever after those that come later. */
+/* Room for long answers goes by turns to the client that was refused first, and to the newest one. By the first rule alone a client waits long
+ * after many that don't read; by the second alone, for ever after those that come later. */
 void clients_answer(struct clients *clients) {
     size_t count = clients->count, first = clients->first;
     clients->turn_end = clock_now() + CLIENTS_TURN;
@@ -173,7 +173,7 @@ void clients_answer(struct clients *clients) {
     clients->hurries = false;
 }
 
-/* ---- notices, and what is written ---- */
+/* ---- notices and writing ---- */
 
 void clients_owe(struct clients *clients, const uint8_t owed[16]) {
     for (size_t i = 0; i < clients->count; i++) wire_owe(&clients->client[i]->wire, owed);

@@ -1,10 +1,9 @@
-/* The clients of dsfleet: their lines are answered by the store, once the stream has what they changed. Used by
- * dsfleet.c alone.
+/* The clients of dsfleet: the store answers their lines, once the stream has their changes. Used by dsfleet.c alone.
  *
- * The store's handle keeps the text of its last answer alone, and the carrier asks it in each turn. So an answer is
- * fetched whole, and a question whose answer may be long isn't asked before there is room for it: CLIENTS_WAIT bytes
+ * The store's handle keeps the text of the last answer alone, and the carrier asks the store in each turn. So an answer is
+ * fetched whole, and a question whose answer may be long waits until there is room: CLIENTS_WAIT bytes
  * over all clients, past which each may have CLIENT_FEW bytes of short answers. Half of that room, and half of the
- * places, are for clients that read: where a client needs one and slow clients have more than their half, the one
+ * places, are for clients that read: where a client needs one and slow clients have more than their half, the client
  * that has read nothing for longest is dropped. */
 #ifndef DSFLEET_CLIENTS_H
 #define DSFLEET_CLIENTS_H
@@ -21,10 +20,10 @@ enum {
     CLIENTS_WAIT = 64 << 20, /* bytes that wait for all clients */
     CLIENT_SLOW = 1000,      /* milliseconds: a client that leaves an answer unread for so long is slow */
     CLIENTS_TURN = 50,       /* milliseconds of one turn after which no long answer begins */
-    CLIENT_ENDPOINT = 16     /* bytes of an endpoint, with its zero */
+    CLIENT_ENDPOINT = 16     /* bytes of an endpoint, with the terminating zero */
 };
 
-/* What an administrator may set. */
+/* The limits that an administrator may set. */
 struct clients_limits {
     size_t clients;    /* at once */
     size_t output;     /* bytes that wait for a client before more is answered: WIRE_WAITS */
@@ -35,13 +34,13 @@ struct clients_limits {
 struct client {
     int socket;
     enum role role;
-    char endpoint[CLIENT_ENDPOINT]; /* the one under which it acts, by `as`; or nothing */
-    bool gone;             /* it reads no more answers: it hung up */
-    bool failed;           /* out of memory for it */
-    uint64_t heard;        /* when it last sent something, in milliseconds */
-    uint64_t moved;        /* when it last had no answer to read, or read some of one, in milliseconds */
-    struct wire wire;      /* it owns the subscriptions that it made: their numbers are free once it is gone */
-    struct text held;      /* answers to what isn't in the stream yet */
+    char endpoint[CLIENT_ENDPOINT]; /* of the client, by `as`; or nothing */
+    bool gone;             /* hung up: reads no more answers */
+    bool failed;           /* out of memory for this client */
+    uint64_t heard;        /* when the client last sent something, in milliseconds */
+    uint64_t moved;        /* when the client last had no answer to read, or read some of one, in milliseconds */
+    struct wire wire;      /* the subscriptions of this client: their numbers are free once the client is gone */
+    struct text held;      /* answers whose changes aren't in the stream yet */
     bool was_held;         /* one of them says that a change was held before */
     uint64_t mark;         /* held may be written once everything before this mark is in the stream */
 };
@@ -56,32 +55,32 @@ struct clients {
     size_t count, first; /* first: the one whose lines are answered first */
     size_t waiting;      /* bytes of answers that wait for all of them */
     bool refused;        /* of this turn: a line wasn't answered yet, */
-    bool crowded;        /* one of them until there is room for its answer; */
+    bool crowded;        /* one of them until there is room for the answer; */
     bool long_one;       /* a line was answered whose answer may be long; */
     bool hurries;        /* no more of these */
-    uint64_t turn_end;   /* when what is left of the clients' lines waits for the next turn */
+    uint64_t turn_end;   /* when the rest of the clients' lines waits for the next turn */
     bool newest;         /* in this turn the newest client comes first */
 };
 
-/* Takes in a client by its socket, which is closed with it. Returns false, and closes the socket, if there are too
- * many clients or memory runs out. A process that may do nothing is taken in for as long as it takes to hang up. */
+/* Adds a client by a socket, which is closed with the client. Returns false, and closes the socket, if there are too
+ * many clients or memory runs out. A process without rights is a client for as long as its hang-up takes. */
 bool clients_add(struct clients *clients, int socket);
 /* Drops clients that sent nothing for as long as the limit says, are owed no answer, and listen to nothing. */
 void clients_drop_idle(struct clients *clients);
-/* Drops the client that has read nothing for longest, for another one that needs its place or its room, where slow
+/* Drops the client that has read nothing for longest, for another one that needs the place or the room, where slow
  * clients have more than half of the places, or of the room. */
 bool clients_drop_slowest(struct clients *clients, bool for_place);
-/* How a client is to be watched by poll: for reading while its last lines are answered and it reads its answers, for
- * writing where something is to be written; and always for hanging up, which poll reports by itself. */
+/* How poll is to watch a client: for reading while the last lines are answered and the client reads answers, for
+ * writing where bytes wait; and always for hanging up, which poll reports anyway. */
 struct pollfd clients_watched(const struct clients *clients, const struct client *client);
-/* Reads what a client has sent, or notes that it hung up, by what poll reported. */
+/* Reads the client's lines, or notes a hang-up, by poll's report. */
 void clients_read(struct client *client, short events);
 /* Answers the lines of each client whose last ones are answered. Of a client that hung up only the changes are
  * carried out. */
 void clients_answer(struct clients *clients);
 /* Owes the notices of a mask to clients that listen. */
 void clients_owe(struct clients *clients, const uint8_t owed[16]);
-/* Releases held answers whose changes are in the stream by now, writes what can be written, and drops clients that
+/* Releases held answers whose changes are in the stream by now, writes as much as goes without waiting, and drops clients that
  * have all their answers or hung up. Returns true where a client has lines that can be answered at once. */
 bool clients_write(struct clients *clients);
 /* Whether each client has all its answers. */

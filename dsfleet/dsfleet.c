@@ -40,8 +40,8 @@ struct program {
 
 /* ---- a turn ---- */
 
-/* Accepts waiting clients, up to the limit. If that fails, say since there are no descriptors left, the listener rests:
- * poll would report it again and again. */
+/* Accepts waiting clients, up to the limit. If that fails, say for lack of descriptors, the listener rests:
+ * poll would report the listener again and again. */
 static void admit(struct program *program) {
     struct pollfd waiting = {.fd = program->place.listener, .events = POLLIN};
     while (poll(&waiting, 1, 0) > 0) {
@@ -53,7 +53,7 @@ static void admit(struct program *program) {
     }
 }
 
-/* Waits until there is something to do, and reads what clients sent. */
+/* Waits for an event, and reads the clients' lines. */
 static void wait_and_read(struct program *program, bool ready) {
     enum { SIGNALS, BELL, LISTENER, FIRST_CLIENT };
     struct pollfd polled[FIRST_CLIENT + CLIENTS], *clients = polled + FIRST_CLIENT;
@@ -71,7 +71,7 @@ static void wait_and_read(struct program *program, bool ready) {
     if (polled[LISTENER].revents) admit(program);
 }
 
-/* The address without its user and password. */
+/* The address without user and password. */
 static const char *public_part(const char *url) {
     static const char mark[] = "://";
     const char *front = strstr(url, mark), *rest = front ? front + strlen(mark) : url;
@@ -79,7 +79,7 @@ static const char *public_part(const char *url) {
     return at ? at + 1 : rest;
 }
 
-/* Logs once what it waits for, if the socket isn't made soon. */
+/* Logs once why dsfleet waits, if the socket isn't made soon. */
 static void tell_waiting(struct program *program, enum ds_fleet_word word) {
     bool is_soon = word == DS_FLEET_LATE && clock_now() < program->begun + SECOND;
     if (program->told_waiting || program->place.listener >= 0 || is_soon) return;
@@ -88,7 +88,7 @@ static void tell_waiting(struct program *program, enum ds_fleet_word word) {
             public_part(program->url), program->place.path);
 }
 
-/* What is done each second. */
+/* The work of each second. */
 static void look_after(struct program *program, enum ds_fleet_word word) {
     uint64_t now = clock_now();
     if (now < program->looked_at + SECOND) return;
@@ -115,7 +115,7 @@ static int turn(struct program *program, bool *ready) {
     tell_waiting(program, word);
     look_after(program, word);
     bool is_unfit = word == DS_FLEET_BADSCOPE || word == DS_FLEET_BADNAME;
-    bool is_misused = is_unfit && program->place.listener < 0; /* one that serves may find its scope again */
+    bool is_misused = is_unfit && program->place.listener < 0; /* a dsfleet that serves may find the scope again */
     if (word != DS_FLEET_CLOSED && !is_misused) return GO_ON;
     log_say(&program->log, LOG_ERROR, "%s: %s", ds_fleet_word(word), options_explained(word));
     return is_misused ? USAGE : FAILED;
@@ -134,7 +134,7 @@ static int run(struct program *program) {
 
 /* ---- beginning and ending ---- */
 
-/* Returns large blocks to the system when they are freed. By default glibc keeps them once it has freed some. */
+/* Returns large blocks to the system when they are freed. By default glibc keeps blocks of a size that was freed once. */
 static void give_memory_back(void) {
 #ifdef M_MMAP_THRESHOLD
     mallopt(M_MMAP_THRESHOLD, LARGE);
@@ -142,7 +142,7 @@ static void give_memory_back(void) {
 #endif
 }
 
-/* Raises the limit of descriptors to what all clients need, as far as the system allows. */
+/* Raises the limit of descriptors to the number for all clients, as far as the system allows. */
 static void allow_descriptors(struct program *program) {
     struct rlimit limit;
     rlim_t wanted = program->clients.limits.clients + DESCRIPTORS;

@@ -1,4 +1,4 @@
-/* What dsfleet says of itself. See figures.h. */
+/* The answers to `state` and to `metrics`. See figures.h. */
 #include "figures.h"
 #include "clock.h"
 #include <string.h>

@@ -1,4 +1,4 @@
-/* What dsfleet says of itself: the answers to `state` and to `metrics`. */
+/* The answers to `state` and to `metrics`. */
 #ifndef DSFLEET_FIGURES_H
 #define DSFLEET_FIGURES_H
 

@@ -85,7 +85,7 @@ static bool read_password(void *to, char *path) {
     return *password != '\0';
 }
 
-/* Returns where the password of a URL begins, or NULL if it has none. The last `@` ends it. */
+/* Returns where the password of a URL begins, or NULL without a password. The last `@` is the end. */
 static char *password_of(char *url) {
     char *front = strstr(url, "://"), *at = strrchr(url, '@');
     char *user = front ? front + strlen("://") : NULL;
@@ -94,7 +94,7 @@ static char *password_of(char *url) {
     return colon && colon + 1 < at ? colon + 1 : NULL;
 }
 
-/* Copies the URL, and overwrites the password among the words, where `ps` shows it. */
+/* Copies the URL, and overwrites the password among the words, which `ps` shows. */
 static bool take_url(char *word, struct options *options) {
     options->url = strdup(word);
     options->fleet.url = options->url;
@@ -110,14 +110,14 @@ static char *variable(const char *name) {
     return it && *it ? it : NULL;
 }
 
-/* Takes the password of the environment, if no file has one. That of redis-cli may be another server's, so a URL's
- * comes before it. */
+/* Takes the password of the environment, if no file has one. REDISCLI_AUTH may be another server's, so a URL's password
+ * comes first. */
 static void find_password(struct ds_fleet_options *fleet, char *url) {
     if (!fleet->password) fleet->password = variable("DSFLEET_PASSWORD");
     if (!fleet->password && !password_of(url)) fleet->password = variable("REDISCLI_AUTH");
 }
 
-/* Reads the words that aren't options, and the environment, and sets what depends on several options. */
+/* Reads the words that aren't options, and the environment, and sets the fields that depend on several options. */
 static int finish_options(const struct usage *usage, int count, char **words, struct options *options) {
     int wanted = options->checks ? 1 : 2;
     if (count != wanted) return usage_refuse(usage, options->checks ? "an address of redis is wanted" : "a socket and an address of redis are wanted");
@@ -133,7 +133,7 @@ static int finish_options(const struct usage *usage, int count, char **words, st
     options->fleet.replicas = (int)options->replicas;
     options->fleet.within = (int)options->within;
     if (options->rights.readers == NO_GROUP) return GO_ON;
-    if (options->access.group == NO_GROUP) options->access.group = getegid(); /* else a folder with setgid gives its own */
+    if (options->access.group == NO_GROUP) options->access.group = getegid(); /* else a folder with setgid decides */
     options->rights.writers = options->access.group;
     if (!options->access.mode) options->access.mode = READABLE;
     return GO_ON;

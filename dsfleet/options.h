@@ -21,10 +21,10 @@ struct options {
     bool shows_password; /* the words have one, which other users could see */
 };
 
-/* Reads the words. Returns GO_ON, or the status to end with after it printed what is to be known. A password in a URL
+/* Reads the words. Returns GO_ON, or the exit status after a message. A password in a URL
  * among the words is overwritten there. */
 int options_read(int count, char **words, struct options *options);
-/* What a fault of usage is, that the carrier reports by a word. */
+/* The sentence on a fault of usage that the carrier reports by a word. */
 const char *options_explained(enum ds_fleet_word word);
 
 #endif

@@ -1,10 +1,10 @@
-/* What one client says. See session.h. */
+/* A client's session. See session.h. */
 #include "session.h"
 #include "figures.h"
 #include "lines.h"
 #include <string.h>
 
-/* ---- what a client may ---- */
+/* ---- rights ---- */
 
 /* The word by which a line is refused before the store reads it, or NULL. An offer has no sender. */
 static const char *refusal_of(const struct client *client, const struct request *line) {
@@ -36,7 +36,7 @@ static long free_sub(const struct clients *clients) {
 
 /* ---- answers ---- */
 
-/* Whose line it is, and whether the answer says that a change is held. */
+/* The caller of a line, and whether the answer says that a change is held. */
 struct turn { struct clients *clients; struct client *client; bool holds; };
 
 static bool refuse(struct turn *turn, const char *word) { return lines_put_refused(word, &turn->client->held); }
@@ -157,12 +157,12 @@ void session_carry_out(struct clients *clients, struct client *client, const cha
     bool is_whole = !client->wire.too_long;
     client->wire.too_long = false;
     if (is_whole && request_is(&it, "as")) {
-        answer_as(&(struct turn){.clients = clients, .client = client}, &it); /* the lines after it are judged by it */
-        text_free(&client->held);                                             /* nobody reads it */
+        answer_as(&(struct turn){.clients = clients, .client = client}, &it); /* decides on the lines that follow */
+        text_free(&client->held);                                             /* nobody reads the answer */
         return;
     }
     if (!is_whole || !lines_is_short(line, length) || refusal_of(client, &it)) return;
-    if (request_is(&it, "subscribe")) return; /* it would be nobody's */
+    if (request_is(&it, "subscribe")) return; /* the subscription would be nobody's */
     lines_answer(clients->store, line, length, NULL, &said);
     clients_owe(clients, said.owed);
 }

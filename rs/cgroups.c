@@ -25,7 +25,7 @@ void cgroups_kill(int cgroup) {
     close(file);
 }
 
-/* Removes a folder after those in it; what isn't a folder goes with it. Returns false if a process is in one of them. */
+/* Removes a folder with all folders and files in it. Returns false if a process is in one of the folders. */
 static bool remove_in(int in, const char *name) {
     int file = open_folder(in, name);
     DIR *folder = file < 0 ? NULL : fdopendir(file);
@@ -50,7 +50,7 @@ static bool is_marked(const char *path) {
     return (getxattr(path, "trusted.delegate", mark, 1) == 1 || getxattr(path, "user.delegate", mark, 1) == 1) && *mark == '1';
 }
 
-/* Finds the cgroup of dsrs itself, if it is delegated: at one of the places where version 2 is mounted. */
+/* Finds the cgroup of dsrs itself, if systemd delegated one: at one of the places where version 2 is mounted. */
 static bool find_own(char path[PATH_MAX]) {
     static const char *const mounts[] = {"/sys/fs/cgroup", "/sys/fs/cgroup/unified"};
     char line[PATH_MAX], own[PATH_MAX] = "";
@@ -64,7 +64,7 @@ static bool find_own(char path[PATH_MAX]) {
     return false;
 }
 
-/* ---- what an earlier run left ---- */
+/* ---- cgroups of an earlier run ---- */
 
 static bool is_name_of_instance(const char *name) {
     unsigned generation, slot;

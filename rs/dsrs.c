@@ -1,4 +1,4 @@
-/* dsrs: a supervisor of processes. RS of the library decides, and dsrs carries it out. docs/guide/supervise.md. */
+/* dsrs: a supervisor of processes. RS of the library decides, and dsrs carries the decisions out. docs/guide/supervise.md. */
 #include "clock.h"
 #include "heard.h"
 #include "leftovers.h"
@@ -136,14 +136,14 @@ static void empty_folder(const char *path) {
     if (folder) closedir(folder);
 }
 
-/* Whether it is a folder of this user, in which nobody else may make files. */
+/* Whether a path is a folder of this user, in which nobody else may make files. */
 static bool is_own_folder(const char *path) {
     struct stat it;
     return !lstat(path, &it) && S_ISDIR(it.st_mode) && it.st_uid == geteuid() && !(it.st_mode & (S_IWGRP | S_IWOTH));
 }
 
-/* Makes the folder of sockets. Its path is absolute, since services have other working directories. Anybody may pass
- * through it. */
+/* Makes the folder of sockets, which any process may pass through. The path is absolute, since services have other working
+ * directories. */
 static int open_folder(struct host *host) {
     char path[PLACE_PATH + 2], *whole;
     snprintf(path, sizeof path, "%s.d", host->place.path);
@@ -169,7 +169,7 @@ static void look_at_limit(struct host *host) {
             (unsigned long long)limit.rlim_cur, (unsigned long long)wanted);
 }
 
-/* A child of a dsrs that was killed has its socket and its lock until it executes the program of its service, or the kernel kills it. */
+/* A child of a dsrs that was killed keeps the socket and the lock until the child executes a service's program, or the kernel kills it. */
 static void wait_for_place(const struct place *place) {
     for (int times = 0; times < PLACE_LOOKS && place_is_taken(place); times++) poll(NULL, 0, PLACE_PAUSE);
 }
@@ -186,7 +186,7 @@ static int open_all(struct host *host) {
     if (!watch_open(&host->signals, host->epoll, signals_open(signals, sizeof signals / sizeof *signals), EPOLLIN)) return failed(host, "signalfd");
     int timer = timerfd_create(CLOCK_MONOTONIC, TFD_NONBLOCK | TFD_CLOEXEC);
     if (!watch_open(&host->timer, host->epoll, timer, EPOLLIN)) return failed(host, "timerfd");
-    if (prctl(PR_SET_CHILD_SUBREAPER, 1)) return failed(host, "subreaper"); /* what a dead instance leaves is ours */
+    if (prctl(PR_SET_CHILD_SUBREAPER, 1)) return failed(host, "subreaper"); /* dsrs reaps the children of a dead instance */
     if (!rs_open(rs)) return FAILED; /* settings with a fault end nobody */
     if (!cgroups_open(&rs->instances.cgroups, host->cgroup, &rs->events)) return FAILED;
     leftovers_end(host->folder, &rs->events);
@@ -201,7 +201,7 @@ static void close_all(struct host *host) {
     rs_close(&host->rs);
     cgroups_close(&host->rs.instances.cgroups);
     if (host->heard.file >= 0) empty_folder(host->folder);
-    if (*host->folder) rmdir(host->folder); /* unless an earlier run's sockets are in it */
+    if (*host->folder) rmdir(host->folder); /* unless the folder has an earlier run's sockets */
     place_leave(&host->place);
     log_close(&host->log);
 }
@@ -217,7 +217,7 @@ static void begin_end(struct host *host) {
     rs->ends_at = clock_now() + rs->instances.grace + LAST_LOGS;
 }
 
-/* What has its grace is killed now, and what is to end later gets none. */
+/* Kills the processes that are within their grace period. Processes that end later get none. */
 static void end_graces(struct rs *rs) {
     rs->instances.grace = 0;
     rs->ends_at = clock_now();
@@ -282,7 +282,7 @@ static void take_in(struct rs *rs) {
     }
 }
 
-/* Orders the next turn for when something is due by the clock: at a time, unless that is 0, and what else there is. */
+/* Orders the next turn at a time, unless that is 0, and at every other time at which something is due. */
 static void set_timer(struct host *host, uint64_t at) {
     struct rs *rs = &host->rs;
     bool rests = host->admit_at || rs->peers.of_public >= PEERS_PUBLIC;
@@ -306,8 +306,8 @@ static void read_timer(struct host *host) {
     if (host->admit_at && clock_now() >= host->admit_at) host->admit_at = 0;
 }
 
-/* What was said is heard before anybody is missed, and what a dead instance said before its death is. Things are freed
- * after all that an event may point to is done. Returns false once all is down. */
+/* Lines are read before heartbeats are missed, and the lines of a dead instance before its death. Memory that an event may point to is
+ * freed at the end of the turn. Returns false once all is down. */
 static bool turn(struct host *host, bool *more) {
     struct rs *rs = &host->rs;
     watch_wait(host->epoll, *more);
@@ -322,7 +322,7 @@ static bool turn(struct host *host, bool *more) {
     rs_bury(rs);
     rs_tick(rs);
     instances_turn(&rs->instances);
-    rs_bury(rs); /* what couldn't begin */
+    rs_bury(rs); /* starts that failed */
     *more = rs->ending ? rs_go_down(rs) : reload_turn(rs);
     take_in(rs);
     rs_keep_step(rs);
@@ -339,12 +339,12 @@ static bool turn(struct host *host, bool *more) {
     return !is_down || logs;
 }
 
-/* What the last instances left ends before dsrs does, unless it can't be killed. */
+/* Processes of the last instances end before dsrs does, unless they can't be killed. */
 static void end_strays(const struct instances *all) {
     for (int times = 0; times < STRAYS_LOOKS && strays_kill(all); times++) poll(NULL, 0, STRAYS_PAUSE);
 }
 
-/* Serves until a signal ends it. */
+/* Serves until a signal arrives. */
 static void run(struct host *host) {
     bool more = true;
     rs_begin(&host->rs);
@@ -356,7 +356,7 @@ static void run(struct host *host) {
 static void prepare(struct host *host, const struct options *options) {
     struct rs *rs = &host->rs;
     host->listener.file = host->signals.file = host->timer.file = host->heard.file = -1;
-    /* All may read; what more somebody may say is judged line by line. */
+    /* Any process may read; each other right is judged by the line. */
     host->place = (struct place){.path = options->socket, .access = {.mode = 0666, .group = NO_GROUP}, .log = &host->log, .lock = -1, .listener = -1};
     host->cgroup = options->cgroup;
     rs->path = options->settings;
@@ -376,11 +376,11 @@ static void prepare(struct host *host, const struct options *options) {
 }
 
 int main(int count, char **words) {
-    static struct host host; /* all zeros, so its store is closed */
+    static struct host host; /* all zeros, so the store is closed */
     struct options options = {.tick = TICK, .grace = GRACE, .slot = SLOT};
     int status = read_words(count, words, &options);
     if (status != GO_ON) return status;
-    unsetenv(STREAM); /* it isn't for services */
+    unsetenv(STREAM); /* services don't inherit the variable */
     log_open(&host.log, options.logs_json);
     prepare(&host, &options);
     status = open_all(&host);

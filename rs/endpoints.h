@@ -1,4 +1,4 @@
-/* The sockets of an instance: the pair by which it speaks to dsrs, and the one at which others connect to its endpoint. */
+/* The sockets of an instance: the pair that connects the process with dsrs, and the listening socket of the endpoint. */
 #ifndef DSRS_ENDPOINTS_H
 #define DSRS_ENDPOINTS_H
 

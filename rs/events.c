@@ -1,4 +1,4 @@
-/* What happened. See events.h. */
+/* Events. See events.h. */
 #include "events.h"
 #include "clock.h"
 #include <stdarg.h>

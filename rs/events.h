@@ -1,4 +1,4 @@
-/* What happened: written to standard error, and kept for the line `log`, the last EVENTS of them. */
+/* Events: each is written to standard error, and the last EVENTS are kept for the line `log`. */
 #ifndef DSRS_EVENTS_H
 #define DSRS_EVENTS_H
 
@@ -7,7 +7,7 @@
 #include <stdbool.h>
 #include <stdint.h>
 
-enum { EVENTS = 1024, EVENT = 160 /* bytes of one, with its zero */ };
+enum { EVENTS = 1024, EVENT = 160 /* bytes of an event, with the terminating zero */ };
 
 struct events {
     struct log *log;

@@ -14,7 +14,7 @@ enum { BLOCK = 64, LINE = 11, MOST = 2097152 /* the generation that no instance 
 static bool write_number(struct generations *generations, uint32_t next) {
     char line[LINE + 1];
     snprintf(line, sizeof line, "%010u\n", next);
-    errno = ENOSPC; /* in case that not all of it is written */
+    errno = ENOSPC; /* in case of a short write */
     if (pwrite(generations->file, line, LINE, 0) != LINE || fdatasync(generations->file)) return false;
     generations->kept = next;
     return true;
@@ -31,7 +31,7 @@ static uint32_t read_number(int file) {
     return is_number && next <= MOST ? next : 0;
 }
 
-/* Opens the file for this dsrs alone. Returns -1, with errno: EBUSY if another one has it. */
+/* Opens the file for this dsrs alone. Returns -1, with errno: EBUSY if another dsrs has the file. */
 static int open_alone(const char *path) {
     int file = open(path, O_RDWR | O_CREAT | O_CLOEXEC, 0600);
     if (file < 0 || !flock(file, LOCK_EX | LOCK_NB)) return file;
@@ -42,7 +42,7 @@ static int open_alone(const char *path) {
     return -1;
 }
 
-/* Makes the file again if somebody removed it. */
+/* Makes the file anew if somebody removed the name. */
 static bool is_there(struct generations *generations) {
     struct stat it;
     if (fstat(generations->file, &it)) return false;

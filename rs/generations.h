@@ -8,11 +8,11 @@
 
 struct generations { const char *path; int file; uint32_t kept; };
 
-/* Opens the file, or makes it, and returns the generation that comes next. Returns 0, with errno, if the file can't be
- * read or written; errno is EINVAL if it holds something else, and EBUSY if another dsrs has it. */
+/* Opens or makes the file, and returns the next generation. Returns 0, with errno, if the file can't be read or written: EINVAL if
+ * the text isn't a generation, EBUSY if another dsrs has the file. */
 uint32_t generations_open(struct generations *generations, const char *path);
-/* Makes sure that the file has a number above this generation. Returns false, with errno, if it can't be written. When a
- * number is written, a file that somebody removed is made again. */
+/* Makes sure that the file has a number above this generation. Returns false, with errno, if the number can't be written. A file
+ * that somebody removed is made anew then. */
 bool generations_keep(struct generations *generations, uint32_t next);
 /* Writes which generation comes next, without the rest of the block, and closes the file. */
 void generations_close(struct generations *generations, uint32_t next);

@@ -31,7 +31,7 @@ static bool reap(pid_t child) {
     return !waitid(P_PID, (id_t)child, &how, WEXITED | WNOHANG) && how.si_pid;
 }
 
-/* Returns the instance that a child left, if nothing else is in its group; or NULL. */
+/* Returns the instance whose first process a child was, if nothing else is in the group; or NULL. */
 static struct instance *left_alone(const struct instances *all, pid_t child) {
     uint32_t generation;
     uint16_t slot;
@@ -48,7 +48,7 @@ static bool is_first(const struct instances *all, pid_t child) {
     return false;
 }
 
-/* A child that is dying has no environment any more. It may be one that was killed here a moment ago. Returns whether it may. */
+/* A dying child has no environment any more, also when dsrs killed the child a moment ago. Returns whether a child may be dying. */
 static bool note_dying(struct instances *all) {
     bool found = false;
     for (struct instance *it = all->first; it; it = it->next) {
@@ -59,7 +59,7 @@ static bool note_dying(struct instances *all) {
     return found;
 }
 
-/* Kills what left the groups that are empty now. Returns whether some of that may be dying. */
+/* Kills the processes that left the groups that are empty now. Returns whether some of them may be dying. */
 static bool kill_left(struct instances *all, const struct text *numbers) {
     struct proc_seen seen;
     size_t at = 0;
@@ -76,7 +76,7 @@ static bool kill_left(struct instances *all, const struct text *numbers) {
     return is_dying;
 }
 
-/* Children of what is reaped here became children of dsrs when it ended, maybe after the listing: then the groups are looked at once more. */
+/* Children of a process that is reaped here become children of dsrs at its end, maybe after the listing: then the groups are looked at again. */
 bool groups_look(struct instances *all) {
     bool is_done = true, again = note_alone(all, true);
     while (again) {

@@ -1,13 +1,13 @@
-/* The groups of instances whose first process has ended, and what left them. The first process stays a zombie until nothing else is in its
- * group, so the number of the group isn't given to others meanwhile. */
+/* The process groups of instances whose first process has ended, and the processes that left those groups. The first process stays a zombie
+ * until the group is empty, so the kernel gives the number of the group to no other process meanwhile. */
 #ifndef DSRS_GROUPS_H
 #define DSRS_GROUPS_H
 
 #include "instances.h"
 
-/* Reaps what has ended in these groups, but for the first processes, and notes which of them are alone. Once nothing else is in the group,
- * what left it, and is a child of dsrs by now, is killed, and the first process isn't alone before its end. Returns false if the groups are
- * to be looked at again soon, since the children of dsrs can't be listed now, or one is dying. */
+/* Reaps the processes of these groups that have ended, but for the first ones, and notes which groups are empty. The processes that left an
+ * empty group, and are children of dsrs by now, are killed; until they have ended, the group counts as not empty. Returns false if the
+ * groups are to be looked at again soon, since the children of dsrs can't be listed now, or one is dying. */
 bool groups_look(struct instances *all);
 
 #endif

@@ -1,4 +1,4 @@
-/* What services say by the protocol of sd_notify. See heard.h. */
+/* Messages of services by the protocol of sd_notify. See heard.h. */
 #include "heard.h"
 #include <ctype.h>
 #include <stdio.h>

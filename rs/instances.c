@@ -22,11 +22,11 @@ enum {
     PAUSE_FIRST = 100, PAUSE_MOST = 800 /* milliseconds until a start for which something was short is tried again */
 };
 
-/* ---- its beginning ---- */
+/* ---- start ---- */
 
 static void name_cgroup(const struct instance *it, char name[ENDPOINT]) { snprintf(name, ENDPOINT, "%u.%u", it->generation, it->slot); }
 
-/* Its name is that of the endpoint's socket. */
+/* The cgroup has the name of the endpoint's socket. */
 static bool open_cgroup(const struct instances *all, struct instance *it) {
     if (all->cgroups.folder < 0) return true;
     char name[ENDPOINT];
@@ -41,7 +41,7 @@ static bool begin_process(struct instances *all, struct instance *it) {
     if (!descriptors_are_there(DESCRIPTORS)) return false;
     if (it->listener < 0 && !endpoints_open(all, it)) return false;
     if (it->cgroup < 0 && !open_cgroup(all, it)) return false;
-    uint64_t silence = 2 * (uint64_t)it->service->settings.period * all->tick * 1000; /* RS takes it for dead after two periods */
+    uint64_t silence = 2 * (uint64_t)it->service->settings.period * all->tick * 1000; /* RS takes a silent instance for dead after two periods */
     const struct service *service = it->service;
     struct process process = {
         .services = all->services, .folder = service->label, .label = service->label, .input = -1, .output = service->output.to,
@@ -53,7 +53,7 @@ static bool begin_process(struct instances *all, struct instance *it) {
     close(it->theirs);
     it->theirs = -1;
     it->pid = pid;
-    watch_open(&it->pidfd, all->epoll, pidfd, EPOLLIN); /* otherwise instances_stir finds its end */
+    watch_open(&it->pidfd, all->epoll, pidfd, EPOLLIN); /* otherwise instances_stir finds the end */
     return true;
 }
 
@@ -63,7 +63,7 @@ void instances_fail(struct instances *all, struct instance *it, const char *why)
     it->cause = CAUSE_EXIT;
 }
 
-/* Whether others use up what is short, for a while, so that the service has no part in it. */
+/* Whether a resource is exhausted for a while by others, so that the service isn't to blame. */
 static bool is_shortage(int error) {
     static const int shortages[] = {EAGAIN, ENOMEM, EMFILE, ENFILE, ENOSPC, EDQUOT, ENOBUFS, EROFS};
     for (size_t i = 0; i < sizeof shortages / sizeof *shortages; i++)
@@ -101,7 +101,7 @@ static void ask_for_sweep(struct instances *all) {
     if (!all->sweep_at) all->sweep_at = all->swept_at && now < soonest ? soonest : now;
 }
 
-/* Frees an instance of which nothing is left but its first process, which has ended. */
+/* Frees an instance whose only process is the first one, which has ended. */
 static void drop(struct instances *all, struct instance *gone) {
     struct instance **link = &all->first;
     while (*link != gone) link = &(*link)->next;
@@ -138,16 +138,16 @@ struct instance *instances_start(struct instances *all, struct service *service,
     return it;
 }
 
-/* ---- its end ---- */
+/* ---- end ---- */
 
-/* Signals the group. Its number is its own, since its first process isn't reaped. A child that hasn't called setsid yet is in no group
- * of its own, so it is signalled by itself. */
+/* Signals the group. The number is the group's own, since its first process isn't reaped. A child that hasn't called setsid yet has no group,
+ * so the child is signalled alone. */
 static void signal_group(const struct instance *it, int number) {
     if (!it->pid) return;
     if (kill(-it->pid, number)) syscall(SYS_pidfd_send_signal, it->pidfd.file, number, NULL, 0);
 }
 
-/* Its cgroup has who left the group, too. */
+/* The cgroup also has the processes that left the group. */
 static void kill_all(const struct instance *it) {
     signal_group(it, SIGKILL);
     cgroups_kill(it->cgroup);
@@ -193,7 +193,7 @@ void instances_stir(struct instances *all) {
     all->look_at = clock_now();
     ask_for_sweep(all);
     for (struct instance *it = all->first; it; it = it->next)
-        if (it->pid && !it->is_over && !it->pidfd.wanted) it->pidfd.ready = EPOLLIN; /* the epoll had no memory for it */
+        if (it->pid && !it->is_over && !it->pidfd.wanted) it->pidfd.ready = EPOLLIN; /* the epoll had no memory for the descriptor */
 }
 
 void instances_note_end(struct instances *all, struct instance *it) {
@@ -203,7 +203,7 @@ void instances_note_end(struct instances *all, struct instance *it) {
     it->is_over = true;
     watch_for(&it->pidfd, all->epoll, 0);
     instances_stir(all);
-    if (it->state != INSTANCE_RUNS) return; /* RS had it killed, or the rest of its group has the grace that is left */
+    if (it->state != INSTANCE_RUNS) return; /* RS killed the instance, or the rest of the group has a grace period */
     kill_all(it);
     it->died = true;
     it->cause = cause_of(&how);
@@ -212,8 +212,8 @@ void instances_note_end(struct instances *all, struct instance *it) {
     endpoints_close(all, it);
 }
 
-/* Whether nothing of it is left but its first process, which has ended. What left the group has no grace of its own. Nobody reports
- * its end, so the cgroup is looked at again. */
+/* Whether the first process alone is left, and has ended. Processes that left the group have no grace period of their own. Nobody reports
+ * their end, so the cgroup is looked at again. */
 static bool is_gone(const struct instances *all, struct instance *it) {
     char name[ENDPOINT];
     if (it->pid && !it->is_alone) return false;
@@ -224,14 +224,14 @@ static bool is_gone(const struct instances *all, struct instance *it) {
     return false;
 }
 
-/* Who left the group of a dead instance becomes a child of dsrs when its own parent ends, which may be a little later. */
+/* A process that left the group of a dead instance becomes a child of dsrs when its parent ends, which may be a little later. */
 static void sweep(struct instances *all) {
     if (!all->sweep_at || clock_now() < all->sweep_at) return;
     all->swept_at = clock_now();
     all->sweep_at = strays_kill(all) ? all->swept_at + SWEEP_EACH : 0;
 }
 
-/* Whether a start that waits has what it waits for, or may look for it again. */
+/* Whether a waiting start may begin, or may check again. */
 static bool may_begin(const struct instances *all, const struct instance *it) {
     return it->state == INSTANCE_WAITS && clock_now() >= it->again_at && !is_something_left(all, it->service);
 }

@@ -1,6 +1,5 @@
-/* The instances of services: RS's `start` and `kill`, carried out. An instance is a process group that dsrs began, with
- * the endpoint that RS gave it, in a cgroup of its own where there are cgroups. Nothing of an older instance of a label runs
- * when the next one begins. */
+/* The instances of services: RS's `start` and `kill`, carried out. An instance is a process group that dsrs began, with the endpoint from
+ * RS, in a cgroup where there are cgroups. No process of an older instance of a label runs when the next instance begins. */
 #ifndef DSRS_INSTANCES_H
 #define DSRS_INSTANCES_H
 
@@ -13,38 +12,38 @@
 #include <sys/types.h>
 
 enum {
-    ENDPOINT = 16,            /* bytes of an endpoint's text, with its zero */
+    ENDPOINT = 16,            /* bytes of an endpoint's text, with the terminating zero */
     INSTANCES = 3 * SERVICES  /* of each service one that runs, one that waits, and one that ends */
 };
 
 enum instance_state {
-    INSTANCE_WAITS, /* until nothing of an older instance of its label is left, or something that is short is there again */
+    INSTANCE_WAITS, /* until the older instance of the label has no process, or a resource is available again */
     INSTANCE_RUNS,
-    INSTANCE_ENDS   /* it was killed or has died, and some process of it isn't reaped yet */
+    INSTANCE_ENDS   /* killed or dead, and some process isn't reaped yet */
 };
 
 struct instance {
-    struct watch pidfd;   /* of its first process, until that is reaped */
+    struct watch pidfd;   /* of the first process, until that is reaped */
     struct instance *next;
     struct service *service;
     uint32_t generation;
     uint16_t slot;
     char endpoint[ENDPOINT];
     enum instance_state state;
-    pid_t pid;            /* of its first process, and of its group; 0 before it begins. Nobody else has the number while it isn't reaped */
-    bool is_over;         /* its first process has ended. It is reaped once nothing else is in its group */
+    pid_t pid;            /* of the first process and the group; 0 before the start. No other process has the number until the first one is reaped */
+    bool is_over;         /* the first process has ended. Once its group is empty, dsrs reaps the process */
     bool is_alone;        /* the last look found nothing else there */
     uint64_t stray_at;    /* when a process that had left the group was killed last, by clock_now; or 0 */
-    int socket, theirs;   /* dsrs' end of the pair of sockets, until a peer has it; the end of the process, until that begins */
-    int cgroup;           /* its own, or -1 */
+    int socket, theirs;   /* dsrs' end of the pair of sockets, until a peer has that; the process' end, until the process begins */
+    int cgroup;           /* the cgroup's, or -1 */
     int listener;         /* where others connect to the instance */
-    uint64_t kill_at;     /* when what is left of it is killed, by clock_now; 0: it is already */
-    uint64_t again_at;    /* when its beginning is tried again, by clock_now, */
-    uint64_t pause;       /* and for how many milliseconds it waits then; 0: nothing was short */
-    uint64_t pinged_at;   /* the tick at which RS began it, or asked it for a heartbeat last, */
+    uint64_t kill_at;     /* when the processes that are left are killed, by clock_now; 0: already */
+    uint64_t again_at;    /* when the start is tried again, by clock_now, */
+    uint64_t pause;       /* and the back-off in milliseconds; 0: no resource was exhausted */
+    uint64_t pinged_at;   /* the tick at which RS began the instance, or last asked for a heartbeat, */
     uint64_t beat_at;     /* and that of the last heartbeat; 0: none was heard */
-    bool is_ready;        /* it sent READY=1 */
-    bool died;            /* by itself, or it couldn't begin, and RS isn't told yet */
+    bool is_ready;        /* READY=1 was received */
+    bool died;            /* dead or not begun, and RS hasn't learnt that yet */
     enum cause cause;     /* of that death */
 };
 
@@ -64,7 +63,7 @@ struct instances {
 };
 
 /* Carries out RS's `start`, and returns the instance: the process begins in this turn or a later one, and the endpoint's socket listens
- * before. What is short for a while, such as descriptors, is waited for. A start that fails otherwise is a death of the instance. */
+ * before. A start that lacks a resource for a while, such as descriptors, waits. A start that fails otherwise is a death of the instance. */
 struct instance *instances_start(struct instances *all, struct service *service, uint32_t generation, uint16_t slot);
 /* Ends an instance, of whose end RS knows. Gently: by SIGTERM, and SIGKILL after the grace. */
 void instances_kill(struct instances *all, struct instance *instance, bool gently);
@@ -77,9 +76,9 @@ struct instance *instances_by_pid(const struct instances *all, pid_t pid);
 bool instances_has(const struct instances *all, const struct service *service);
 /* Notes that a child of dsrs has ended. */
 void instances_stir(struct instances *all);
-/* Notes the death of an instance if its first process has ended, and kills the rest of its group, unless that has its grace. */
+/* Notes the death of an instance whose first process has ended, and kills the rest of the group, unless that has a grace period. */
 void instances_note_end(struct instances *all, struct instance *instance);
-/* Kills what had its grace, frees instances of which nothing is left, and begins processes that waited for that. */
+/* Kills processes whose grace period has passed, frees instances without processes, and begins the starts that waited for these. */
 void instances_turn(struct instances *all);
 /* Returns when instances_turn has something to do by the clock, or 0. */
 uint64_t instances_due(const struct instances *all);

@@ -1,4 +1,4 @@
-/* What a run left that was killed. See leftovers.h. */
+/* Leftover processes of a run that was killed. See leftovers.h. */
 #include "leftovers.h"
 #include "clock.h"
 #include "proc.h"
@@ -25,7 +25,7 @@ static bool sees(pid_t pid, const char *endpoints) {
     return !stat(endpoints, &ours) && !stat(path, &theirs) && ours.st_dev == theirs.st_dev && ours.st_ino == theirs.st_ino;
 }
 
-/* Whether dsrs was started by a process, or by one that this process started: a service may start its supervisor anew. */
+/* Whether a process is an ancestor of dsrs, or a descendant of that ancestor: a service may start its supervisor anew. */
 static bool is_above(pid_t pid) {
     struct proc_seen seen = {.parent = getpid()};
     while (seen.parent > 1 && seen.parent != pid)
@@ -33,7 +33,7 @@ static bool is_above(pid_t pid) {
     return seen.parent == pid;
 }
 
-/* Kills a process if an earlier run began it. The descriptor keeps its number from being another's meanwhile. Returns whether it did. */
+/* Kills a process if an earlier run began it. The descriptor holds the number meanwhile. Returns whether the process was killed. */
 static bool kill_left(pid_t pid, const char *endpoints) {
     uint32_t generation;
     uint16_t slot;

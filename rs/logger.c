@@ -11,7 +11,7 @@
 #include <sys/wait.h>
 #include <unistd.h>
 
-enum { PAUSE = 1000 /* milliseconds between its end and its next start */ };
+enum { PAUSE = 1000 /* milliseconds between the end and the next start */ };
 
 void logger_open(struct logger *logger, int input) {
     *logger = (struct logger){.pidfd.file = -1, .input = input, .due = input < 0 ? 0 : clock_now()};
@@ -22,7 +22,7 @@ void logger_end(struct logger *logger, uint64_t grace) {
     logger->due = logger->pid ? clock_now() + grace : 0;
 }
 
-/* A child that hasn't made its group yet is killed by itself. */
+/* A child that hasn't made a group yet is killed alone. */
 static void end_group(const struct logger *logger) {
     kill(-logger->pid, SIGKILL);
     kill(logger->pid, SIGKILL);
@@ -47,7 +47,7 @@ static void begin(struct logger *logger, const char *services, const char *label
     logger->due = clock_now() + PAUSE;
 }
 
-/* Its group is killed before it is reaped, since afterwards the number may be another's. */
+/* The group is killed before the process is reaped, since afterwards the number may be another's. */
 static void reap(struct logger *logger, const char *label, int epoll, struct events *events) {
     siginfo_t how = {0};
     if (waitid(P_PIDFD, (id_t)logger->pidfd.file, &how, WEXITED | WNOHANG | WNOWAIT) || !how.si_pid) return;

@@ -1,4 +1,4 @@
-/* What services print. See output.h. */
+/* The output of services. See output.h. */
 #include "output.h"
 #include "clock.h"
 #include "descriptors.h"
@@ -22,7 +22,7 @@ void output_open(struct output *output, int epoll, bool has_logger) {
 
 /* ---- lines ---- */
 
-/* Waits until standard error has room, or it took too long. */
+/* Waits until standard error has room, or the time is over. */
 static void wait_for_room(struct outlet *outlet) {
     struct pollfd it = {.fd = outlet->log->descriptor, .events = POLLOUT};
     uint64_t begun = clock_now();
@@ -60,7 +60,7 @@ bool outlet_push(struct outlet *outlet, uint64_t until) {
 
 /* ---- pieces ---- */
 
-/* Reads a piece into an outlet that holds nothing. Returns how many bytes it has, or a number below 1. */
+/* Reads a piece into an empty outlet. Returns the number of bytes, or a number below 1. */
 static ssize_t read_piece(struct output *output, const char *label, struct outlet *outlet) {
     ssize_t got = read(output->from.file, outlet->bytes, sizeof outlet->bytes);
     outlet->output = output;
@@ -83,7 +83,7 @@ void output_watch(struct output *output, int epoll, const struct outlet *outlet)
 
 /* ---- ends ---- */
 
-/* Returns an outlet that waits for nobody, with what another one holds of an output. */
+/* Returns an outlet that waits for nobody, with the bytes of an output that another outlet holds. */
 static struct outlet last_of(const struct output *output, const char *label, struct outlet *outlet) {
     struct outlet last = {.log = outlet->log, .label = label, .is_last = true, .patience = outlet->patience};
     if (outlet->output == output) {
@@ -109,7 +109,7 @@ void output_end(struct output *output) {
     output->to = -1;
 }
 
-/* A process that lives on may hold the other end, and write without end. So what is there now is the last of it. */
+/* A process that lives on may hold the other end, and write without end. So the bytes in the pipe now are the last. */
 void output_close(struct output *output, int epoll, const char *label, struct outlet *outlet) {
     struct outlet last = last_of(output, label, outlet);
     int left = 0;

@@ -1,4 +1,4 @@
-/* What services print: each line goes to the log with the label in front. A service that prints faster than it is read waits at its pipe.
+/* The output of services: each line goes to the log with the label in front. A service that prints faster than dsrs reads waits at the pipe.
  * While standard error is full, no service is read, so no line is lost. */
 #ifndef DSRS_OUTPUT_H
 #define DSRS_OUTPUT_H
@@ -20,13 +20,13 @@ struct output {
     char line[OUTPUT_LINE];
 };
 
-/* Where lines go. It holds what was read of one service and isn't passed on yet. */
+/* Where lines go. Holds the bytes of one service that were read and not passed on yet. */
 struct outlet {
     struct log *log;
-    struct watch room;      /* standard error, watched while it is full */
+    struct watch room;      /* standard error, watched while full */
     bool is_full;
     uint64_t patience;      /* milliseconds that outputs may wait for room when they are closed */
-    bool is_last;           /* nothing waits any more: while it is full, lines are left out */
+    bool is_last;           /* nothing waits any more: while standard error is full, lines are left out */
     struct output *output;  /* whose bytes these are, */
     const char *label;
     size_t at, count;       /* from which one on they aren't passed on, and how many there are */
@@ -38,15 +38,15 @@ void output_open(struct output *output, int epoll, bool has_logger);
 /* Lets a log program read, after the lines that dsrs has read are passed on; or dsrs, once there is none. */
 void output_hand_over(struct output *output, const char *label, struct outlet *outlet);
 void output_take_back(struct output *output);
-/* Passes on what the outlet holds, until a time by clock_now. Returns whether that was all. */
+/* Passes on the bytes in the outlet, until a time by clock_now. Returns whether that was all. */
 bool outlet_push(struct outlet *outlet, uint64_t until);
 /* Reads some kilobytes into an outlet that holds nothing, and passes them on. Returns whether that was all. */
 bool output_pass(struct output *output, const char *label, struct outlet *outlet, uint64_t until);
 /* Watches a pipe unless the outlet is full. */
 void output_watch(struct output *output, int epoll, const struct outlet *outlet);
-/* Closes the end that instances write to: a log program reads what is left. */
+/* Closes the end for writing: a log program reads the rest. */
 void output_end(struct output *output);
-/* Passes on what is in the pipe, and closes it. */
+/* Passes on the bytes in the pipe, and closes the pipe. */
 void output_close(struct output *output, int epoll, const char *label, struct outlet *outlet);
 
 #endif

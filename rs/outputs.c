@@ -1,4 +1,4 @@
-/* What all services print, and their log programs. See outputs.h. */
+/* The outputs of all services, and their log programs. See outputs.h. */
 #include "outputs.h"
 #include "clock.h"
 #include <limits.h>
@@ -7,7 +7,7 @@
 #include <unistd.h>
 
 enum {
-    OUTPUT_TURN = 2, /* milliseconds of a turn for what services print, */
+    OUTPUT_TURN = 2, /* milliseconds of a turn for the output of services, */
     LAST_LINES = 200 /* and at the end, while standard error is full */
 };
 
@@ -19,7 +19,7 @@ static bool has_log_program(const struct rs *rs, const struct service *service) 
     return length < (int)sizeof program && !access(program, F_OK);
 }
 
-/* What it prints goes to its log program, if it has one. */
+/* The output goes to the service's log program, if there is one. */
 void outputs_open(struct rs *rs, struct service *service) {
     bool has_logger = has_log_program(rs, service);
     output_open(&service->output, rs->instances.epoll, has_logger);
@@ -38,7 +38,7 @@ void outputs_list_logs(struct rs *rs) {
 
 /* A log program may have come, or gone, since the last start of its service. */
 void outputs_look(struct rs *rs, struct service *it) {
-    if (it->output.from.file < 0) outputs_open(rs, it), outputs_list_logs(rs); /* there were no descriptors for it */
+    if (it->output.from.file < 0) outputs_open(rs, it), outputs_list_logs(rs); /* no descriptors were free */
     bool had = it->logger.input >= 0, has = it->output.to >= 0 && has_log_program(rs, it);
     if (it->output.from.file < 0 || had == has || it->logger.pid) return;
     if (has) output_hand_over(&it->output, it->label, &rs->outlet);
@@ -70,13 +70,13 @@ void outputs_watch(struct rs *rs, uint64_t *due) {
         if (*it->label) output_watch(&it->output, rs->instances.epoll, outlet);
     watch_for(&outlet->room, rs->instances.epoll, outlet->is_full ? EPOLLOUT : 0);
     if (!outlet->is_full || outlet->room.wanted) return;
-    outlet->is_full = false; /* it is tried again */
+    outlet->is_full = false; /* to be tried again */
     if (!*due || clock_now() + OUTPUT_TURN < *due) *due = clock_now() + OUTPUT_TURN;
 }
 
 /* ---- log programs ---- */
 
-/* What is left of its output is passed on. */
+/* The rest of the output is passed on. */
 static void forget_service(struct rs *rs, struct service *service) {
     output_close(&service->output, rs->instances.epoll, service->label, &rs->outlet);
     *service->label = '\0';

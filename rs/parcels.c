@@ -10,7 +10,7 @@ void parcels_take(struct parcels *parcels, size_t at, int file) {
     parcels->parcel[parcels->count++].file = file;
 }
 
-/* Drops the first descriptor, and moves the others with what was sent. */
+/* Drops the first descriptor, and moves the others by the bytes that were sent. */
 static void drop_first(struct parcels *parcels) {
     close(parcels->parcel[0].file);
     memmove(parcels->parcel, parcels->parcel + 1, --parcels->count * sizeof *parcels->parcel);
@@ -31,7 +31,7 @@ static ssize_t send_bytes(int socket, char *bytes, size_t length, int file) {
     return sendmsg(socket, &message, MSG_DONTWAIT | MSG_NOSIGNAL);
 }
 
-/* How many bytes go at once: those before the next descriptor, or just the lines that one comes with, up to an empty one. So a
+/* How many bytes are sent at once: those before the next descriptor, or the lines of the next descriptor alone, up to an empty line. So a
  * descriptor always belongs to the last line that was received with it. */
 static size_t piece_length(const struct parcels *parcels, const struct text *text) {
     if (!parcels->count) return text->length;

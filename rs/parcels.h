@@ -10,16 +10,16 @@ enum { PARCELS = 2 /* that wait for one peer here; the kernel keeps a few hundre
 
 struct parcels {
     size_t count;
-    struct { size_t at; int file; } parcel[PARCELS]; /* at: the place of its lines in what waits to be sent */
+    struct { size_t at; int file; } parcel[PARCELS]; /* at: the place of the descriptor's lines in the bytes to be sent */
 };
 
 /* Takes a descriptor over, which goes with the lines from a place on, up to an empty one. Fewer than PARCELS wait already, and
  * none of them for a later place. */
 void parcels_take(struct parcels *parcels, size_t at, int file);
-/* Sends what it can of the text without waiting, and drops that. Returns false, with errno, if nothing can be sent. Where too many
- * descriptors are under way, the lines go without theirs. */
+/* Sends as much of the text as goes without waiting, and drops that. Returns false, with errno, if nothing can be sent. Where too many
+ * descriptors are in flight, the lines are sent without theirs. */
 bool parcels_send(struct parcels *parcels, struct text *text, int socket);
-/* Closes what waits. */
+/* Closes the descriptors that wait. */
 void parcels_drop(struct parcels *parcels);
 
 #endif

@@ -63,7 +63,7 @@ static bool has_room(const struct peer *peer) { return !peer->gone && peer->wire
 
 static bool may_answer(const struct peer *peer) { return has_room(peer) && peer->parcels.count < PARCELS; }
 
-/* Whether it has a line that may be answered. */
+/* Whether the peer has a line that may be answered. */
 static bool is_ready(const struct peer *peer) {
     return may_answer(peer) && wire_has_line(&peer->wire);
 }
@@ -114,7 +114,7 @@ void peers_turn(struct rs *rs) {
     }
 }
 
-/* What its socket held when it died is less than PEERS_LAST. Its descendants, which live still, may write without end. */
+/* A dead instance's socket held fewer bytes than PEERS_LAST. Its descendants, which live still, may write without end. */
 void peers_finish(struct rs *rs, struct instance *instance) {
     struct peer *peer = peer_of(&rs->peers, instance);
     size_t count = 0, all = 0;
@@ -129,7 +129,7 @@ void peers_finish(struct rs *rs, struct instance *instance) {
     } while (count && all < PEERS_LAST && may_answer(peer));
 }
 
-/* ---- what they are sent ---- */
+/* ---- bytes to be sent ---- */
 
 void peers_tell(struct peers *peers, const struct instance *instance, const char *line) {
     struct peer *peer = peer_of(peers, instance);
@@ -157,7 +157,7 @@ void peers_owe(struct peers *peers, const uint8_t owed[16]) {
     for (size_t i = 0; i < peers->count; i++) wire_owe(&peers->peer[i]->wire, owed);
 }
 
-/* Gives up what a peer that hung up was to be sent. The lines that it sent before are still carried out, if they may
+/* Gives up the bytes for a peer that hung up. The lines that the peer sent before are still carried out, if they may
  * change something. */
 static void hang_up(struct peer *peer) {
     peer->wire.ended = true;
@@ -171,7 +171,7 @@ static void write_out(struct peer *peer) {
     if (!parcels_send(&peer->parcels, &peer->wire.out, peer->socket.file) && errno != EAGAIN && errno != EINTR) hang_up(peer);
 }
 
-/* One that has ended and isn't written to isn't watched, since its hang-up would be reported again and again. */
+/* A peer that has ended and isn't written to isn't watched, since the hang-up would be reported again and again. */
 static void watch_peer(struct peers *peers, struct peer *peer) {
     const struct wire *wire = &peer->wire;
     bool reads = !wire->ended && may_answer(peer) && wire->in.length < WIRE_READS;

@@ -1,5 +1,5 @@
-/* Who speaks to dsrs by lines: instances, each over the socket that it was given, and the public, over the socket of dsrs.
- * What holds the socket of an instance speaks for it. */
+/* The peers of dsrs, which send lines: instances, each over a socket of its own, and the public, over the socket of dsrs. A process that
+ * holds the socket of an instance speaks for the instance. */
 #ifndef DSRS_PEERS_H
 #define DSRS_PEERS_H
 
@@ -23,11 +23,11 @@ enum {
 struct peer {
     struct watch socket;
     bool is_instance;
-    struct instance *instance; /* until it ends */
+    struct instance *instance; /* until the instance ends */
     uid_t user;                /* of one of the public */
-    bool gone;                 /* it is freed at the end of the turn */
-    struct wire wire;          /* it owns what it was leased of the public's subscriptions */
-    struct parcels parcels;    /* descriptors that go with bytes of what it is to be sent */
+    bool gone;                 /* freed at the end of the turn */
+    struct wire wire;          /* of the public's subscriptions, those that this peer has leased */
+    struct parcels parcels;    /* descriptors that go with bytes to be sent */
 };
 
 struct peers {
@@ -40,22 +40,22 @@ struct rs;
 
 /* Whether a user of the public may start and stop services: root, and the user of dsrs. */
 bool peers_may_order(uid_t user);
-/* Takes in a peer by its socket, which is closed with it, or if there is no place or memory for it. */
+/* Adds a peer by a socket, which is closed with the peer, or if there is no place or memory for a peer. */
 void peers_add(struct peers *peers, int socket, struct instance *instance, uid_t user);
-/* Reads what has come, and answers lines. */
+/* Reads the bytes that have arrived, and answers lines. */
 void peers_turn(struct rs *rs);
-/* Answers all that an instance sent before it died. */
+/* Answers all lines that an instance sent before its death. */
 void peers_finish(struct rs *rs, struct instance *instance);
-/* Ends an instance's voice, whatever process holds its socket. */
+/* Ends the peer of an instance, whatever process holds the socket. */
 void peers_forget(struct peers *peers, const struct instance *instance);
 /* Sends an instance a line of dsrs' own. */
 void peers_tell(struct peers *peers, const struct instance *instance, const char *line);
 /* Gives an instance's peer and another instance an end each of a new pair of connected sockets: the peer with the line
- * that is put for it next, the other with a line `peer ENDPOINT`. Returns NULL, or why not: `full` or `noroom`. */
+ * that is put next, the other instance with a line `peer ENDPOINT`. Returns NULL, or why not: `full` or `noroom`. */
 const char *peers_connect(struct peers *peers, struct peer *from, const struct instance *to);
 /* Owes the notices of a mask to those who listen. */
 void peers_owe(struct peers *peers, const uint8_t owed[16]);
-/* Writes what can be written, and frees who is gone. Returns whether some peer has lines that can be answered at once. */
+/* Writes as much as goes without waiting, and frees peers that are gone. Returns whether some peer has lines that can be answered at once. */
 bool peers_send(struct peers *peers);
 void peers_close(struct peers *peers);
 

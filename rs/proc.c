@@ -1,4 +1,4 @@
-/* What the kernel reports of processes. See proc.h. */
+/* The kernel's reports on processes. See proc.h. */
 #include "proc.h"
 #include <dirent.h>
 #include <fcntl.h>

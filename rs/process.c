@@ -21,7 +21,7 @@ enum { VARIABLES = 9, VARIABLE = 192 /* bytes of one; paths of sockets are short
  * may have had another thread. */
 struct variables { size_t count; char text[VARIABLES][VARIABLE]; };
 
-/* ---- its environment ---- */
+/* ---- environment ---- */
 
 __attribute__((format(printf, 2, 3))) static void set(struct variables *own, const char *format, ...) {
     va_list given;
@@ -44,7 +44,7 @@ static void set_all(struct variables *own, const struct process *process) {
     set(own, "WATCHDOG_PID=%d", getpid());
 }
 
-/* Whether dsrs gives a variable to some processes. Such a one of its own isn't passed on. */
+/* Whether dsrs sets a variable for some processes. A variable of that name in dsrs' own environment isn't passed on. */
 static bool is_given(const char *variable) {
     static const char *const names[] = {"DS_LABEL", "DS_ENDPOINT", "DS_FOLDER", "DS_FD", "DS_LISTEN", "DS_SUB", "NOTIFY_SOCKET",
                                         "WATCHDOG_USEC", "WATCHDOG_PID"};
@@ -90,13 +90,13 @@ static bool set_descriptors(const struct process *process) {
     return !close_range(has_sockets ? PROCESS_LISTENER + 1 : PROCESS_SOCKET, ~0U, 0);
 }
 
-/* The child. A change of user in `run` clears PDEATHSIG; the end of its socket tells it then that dsrs ended. */
+/* The child. A change of user in `run` clears PDEATHSIG; then the end of the socket reports the end of dsrs. */
 static _Noreturn void become(const struct process *process, pid_t parent) {
     char folder[PATH_MAX];
     if (process->endpoint) setsid();
     else setpgid(0, 0);
     prctl(PR_SET_PDEATHSIG, SIGKILL);
-    if (getppid() != parent) _exit(NOT_RUN); /* it ended before the line above */
+    if (getppid() != parent) _exit(NOT_RUN); /* dsrs ended before the line above */
     reset_signals();
     int length = snprintf(folder, sizeof folder, "%s/%s", process->services, process->folder);
     errno = ENAMETOOLONG;
@@ -105,7 +105,7 @@ static _Noreturn void become(const struct process *process, pid_t parent) {
     _exit(NOT_RUN);
 }
 
-/* Forks, straight into the cgroup if there is one. The descriptor of the child is made with it, so there is no child without one. Only a
+/* Forks, straight into the cgroup if there is one. The child's descriptor is made with the child, so every child has one. Only a
  * cgroup needs clone3, which the filters of many containers refuse. */
 static pid_t fork_into(int cgroup, int *pidfd) {
     long flags = CLONE_PIDFD | SIGCHLD;

@@ -1,4 +1,4 @@
-/* A process that dsrs begins: what it is given at its start. Used by instances.c and logger.c. */
+/* A process that dsrs begins, and its environment. Used by instances.c and logger.c. */
 #ifndef DSRS_PROCESS_H
 #define DSRS_PROCESS_H
 
@@ -10,19 +10,18 @@ enum { PROCESS_SOCKET = 3, PROCESS_LISTENER = 4 }; /* descriptors of an instance
 struct process {
     const char *services, *folder; /* SERVICES/FOLDER/run is executed, in its folder */
     const char *label;
-    int input, output;     /* what becomes its standard input, or -1: /dev/null; its standard output and error, or -1: those of dsrs */
+    int input, output;     /* becomes standard input, or -1: /dev/null; standard output and error, or -1: those of dsrs */
     const char *endpoint;  /* of an instance; NULL, for a log program, and then the rest isn't used */
     const char *endpoints; /* the folder of sockets */
     int socket, listener;
-    int cgroup;            /* that it begins in, or -1 */
-    int first_sub;         /* the first of its subscriptions, or -1 */
-    uint64_t silence;      /* for how many microseconds it may be silent; 0: for ever */
+    int cgroup;            /* of the process, or -1 */
+    int first_sub;         /* the first of the instance's subscriptions, or -1 */
+    uint64_t silence;      /* for how many microseconds the process may be silent; 0: for ever */
 };
 
-/* Forks a process that becomes `run`. It ends with dsrs. An instance is the leader of a new session, and so of
- * a new group; a log program of a new group in the session of dsrs. Returns its number, and a descriptor of it by which its end is
- * seen; or -1 with errno, and then nothing began. If `run` can't be executed, the process ends with status 127 after a line to
- * standard error. */
+/* Forks a process that becomes `run`, and ends with dsrs. An instance is the leader of a new session, and so of a new group; a log program
+ * is the leader of a new group in the session of dsrs. Returns the process' number, and a descriptor by which dsrs sees the end; or -1 with
+ * errno, and then nothing began. If `run` can't be executed, the process ends with status 127 after a line to standard error. */
 pid_t process_begin(const struct process *process, int *pidfd);
 
 #endif

@@ -11,7 +11,7 @@ static bool is_in_use(struct rs *rs, const struct text *settings) {
     return true;
 }
 
-/* Ends a reload that is done, refused or called off: what it took down and the settings in force have is started again. */
+/* Ends a reload that is done, refused or called off: services that the reload stopped, and that the settings in force have, start again. */
 static void finish(struct rs *rs) {
     for (size_t i = 0; i < rs->services; i++) {
         struct service *it = rs->service[i];
@@ -22,8 +22,8 @@ static void finish(struct rs *rs) {
     notify("READY=1");
 }
 
-/* Judges the settings, and notes which services they leave out. An empty file, as a full disk leaves it, isn't taken for settings that leave
- * out all. */
+/* Judges the settings, and notes which services they leave out. An empty file, as a full disk leaves one, doesn't count as settings without
+ * services. */
 static bool judge(struct rs *rs, const struct text *settings) {
     struct ds_handle judged = DS_CLOSED;
     struct ds_rs_service found;
@@ -76,12 +76,12 @@ static void take(struct rs *rs) {
         if (*it->label && it->is_left_out) outputs_end_log(it, rs->instances.grace);
 }
 
-/* What a refusal of RS means here, if its word doesn't say it. */
+/* The meaning of RS's refusal for a reload, if the word doesn't say that. */
 static const char *meaning(uint32_t refusal) {
     return refusal == DS_NOSLOT ? ", fewer slots than in use; 64 without `slots`" : "";
 }
 
-/* RS judges the settings before it says who is still up, so those that it refuses stop nobody. */
+/* RS judges the settings before the services that are still up, so refused settings stop no service. */
 static bool renew(struct rs *rs) {
     struct ds_settings_fault fault = {.service = UINT32_MAX};
     if (!is_one_up(rs) && is_something_left(rs)) return false;
@@ -99,7 +99,7 @@ static bool renew(struct rs *rs) {
     return true;
 }
 
-/* Where memory runs out for it, RS learns it a little later. */
+/* Where memory runs out, RS learns of the service a little later. */
 static void grant(struct rs *rs, struct service *it) {
     if (it->wish == WISH_NOTHING) return;
     if (rs_tell(rs, it->wish == WISH_START ? DS_RS_UP : DS_RS_REFRESH, it->label)) it->wish = WISH_NOTHING;

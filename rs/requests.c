@@ -1,4 +1,4 @@
-/* Who may say what. See requests.h. */
+/* The rights of peers. See requests.h. */
 #include "requests.h"
 #include "lines.h"
 #include "rs.h"
@@ -28,7 +28,7 @@ static bool answer_store(struct rs *rs, struct peer *peer, const struct request 
     return fits;
 }
 
-/* Whether the settings let an instance publish `new|over NAME KIND ..`. What can't be read is left to the store. */
+/* Whether the settings let an instance publish `new|over NAME KIND ..`. The store judges a line that can't be read. */
 static bool may_publish(struct rs *rs, const struct instance *instance, struct request *rest) {
     static const struct { const char *word; enum ds_kinds kind; } kinds[] = {
         {"label", DS_LABEL}, {"u32", DS_U32}, {"str", DS_STR}, {"mem", DS_MEM},
@@ -43,7 +43,7 @@ static bool may_publish(struct rs *rs, const struct instance *instance, struct r
     return true;
 }
 
-/* An instance publishes under its own endpoint, and what the settings let it publish. */
+/* An instance publishes under its own endpoint, and only names that the settings allow. */
 static bool answer_change(struct rs *rs, struct peer *peer, const struct request *it) {
     struct request rest = *it;
     const char *part;
@@ -56,7 +56,7 @@ static bool answer_change(struct rs *rs, struct peer *peer, const struct request
 
 /* ---- subscriptions ---- */
 
-/* A server among the services has eight subscriptions of its own. Each of the public's is leased to the first who uses it. */
+/* A server among the services has eight subscriptions of its own. Each of the public's is leased to the first peer that uses the number. */
 static bool may_use(struct rs *rs, struct peer *peer, long sub) {
     if (peer->instance) return peer->instance->service->server == sub / SERVER_SUBS;
     if (sub / SERVER_SUBS != PUBLIC_SERVER) return false;
@@ -97,8 +97,8 @@ static const char *barred(struct rs *rs, const struct peer *peer, const struct i
     return from == other || judge(&rs->store, from->generation, from->slot, label, strlen(label)) ? "notallowed" : NULL;
 }
 
-/* `complain ENDPOINT`: an instance says that an instance of a driver is wrong. By its endpoint, so a late complaint hits no
- * newer instance. */
+/* `complain ENDPOINT`: an instance reports that an instance of a driver is wrong. A late complaint names an old endpoint, so no newer instance
+ * is hit. */
 static bool answer_complaint(struct rs *rs, struct peer *peer, const struct request *it) {
     const struct instance *about = read_instance(rs, it);
     const char *why = barred(rs, peer, about, ds_rs_may_complain);

@@ -52,7 +52,7 @@ static struct service *add_service(struct rs *rs, const struct ds_rs_service *se
     return it;
 }
 
-/* A process gets its period at its start, and whether it is a server; what else is new holds at once. */
+/* A process learns its period, and whether it is a server, at its start; the other settings hold at once. */
 static bool needs_another_instance(const struct ds_rs_service *old, const struct ds_rs_service *new) {
     return old->period != new->period || old->service_class != new->service_class || old->has_unit != new->has_unit || old->unit != new->unit;
 }
@@ -113,7 +113,7 @@ void rs_close(struct rs *rs) {
     text_free(&rs->other);
 }
 
-/* ---- events, and what answers them ---- */
+/* ---- events, and their answers ---- */
 
 struct ds_rs_event rs_of_label(enum ds_rs_event_kind kind, const char *label, size_t length) {
     struct ds_rs_event event = {.kind = kind};
@@ -187,7 +187,8 @@ static void note_cause(struct rs *rs, const struct ds_rs_event *event) {
     rs->is_gentle = event->kind == DS_RS_DOWN || event->kind == DS_RS_REFRESH;
 }
 
-/* Writes the generation of the next start, before RS can use it. Returns whether the file has it. A fault is reported once. */
+/* Writes the generation of the next start, before RS can use that generation. Returns whether the file has the number. A fault is reported
+ * once. */
 static bool keep_generation(struct rs *rs) {
     uint32_t next;
     bool fails = !ds_rs_next(&rs->store, &next) && !generations_keep(&rs->generations, next);
@@ -203,8 +204,8 @@ static bool is_start_due(struct rs *rs) {
     return false;
 }
 
-/* Whether RS finds a missing heartbeat at a tick, or asks for one: both come before starts. One that hasn't sent a heartbeat yet may have
- * time for its `startup`, so it isn't counted. */
+/* Whether RS finds a missing heartbeat at a tick, or asks for one: both come before starts. An instance without a first heartbeat may have
+ * time left from `startup`, so such an instance isn't counted. */
 static bool is_heartbeat_due(const struct rs *rs) {
     for (const struct instance *it = rs->instances.first; it; it = it->next) {
         uint64_t period = it->service->settings.period;
@@ -232,11 +233,11 @@ static void note_beat(struct rs *rs, const struct ds_rs_event *event, const stru
     if (it) it->beat_at = event->tick;
 }
 
-/* Owes the notices of what RS did, and notes which servers get one. */
+/* Owes the notices of RS's actions, and notes which servers get one. */
 static void note_told(struct rs *rs, const uint8_t owed[16]) {
     for (size_t i = 0; i < rs->peers.count; i++) {
         struct peer *peer = rs->peers.peer[i];
-        const struct instance *it = peer->instance; /* of one that is gone it may be freed */
+        const struct instance *it = peer->instance; /* the label of a service that is gone may be freed */
         if (!peer->gone && wire_owe(&peer->wire, owed) && it) events_tell(&rs->events, LOG_INFO, "told: %s %s", it->service->label, it->endpoint);
     }
 }
@@ -257,7 +258,7 @@ static bool report(struct rs *rs, struct ds_rs_event *event, struct text *to, st
     return put;
 }
 
-/* Reports what RS has to learn. Returns false where memory ran out for it, and then it is to be reported again. */
+/* Reports an event that RS hasn't learnt. Returns false where memory ran out: the event is to be reported again. */
 static bool has_learnt(struct rs *rs, struct ds_rs_event *event) {
     struct ds_answer answer = {0};
     report(rs, event, NULL, &answer);
@@ -287,11 +288,11 @@ void rs_bury(struct rs *rs) {
         peers_forget(&rs->peers, it);
         if (!has_learnt(rs, &death)) continue;
         it->died = false;
-        instances_kill(&rs->instances, it, false); /* what may be left of its group */
+        instances_kill(&rs->instances, it, false); /* processes of the group that may be left */
     }
 }
 
-/* An instance that hasn't begun can't send a heartbeat. RS hears one in its place. */
+/* An instance that hasn't begun can't send a heartbeat. dsrs reports one in its place. */
 static void vouch_for_waiting(struct rs *rs) {
     for (const struct instance *it = rs->instances.first; it; it = it->next) {
         if (it->state != INSTANCE_WAITS || !it->service->settings.period) continue;
@@ -300,7 +301,7 @@ static void vouch_for_waiting(struct rs *rs) {
     }
 }
 
-/* RS does one thing at each report. Where it is refused, as without a free slot, a later tick tries again. */
+/* RS does one thing at each report. After a refusal, as without a free slot, a later tick tries again. */
 void rs_tick(struct rs *rs) {
     struct ds_answer answer = {.word = DS_ACTED, .count = 1};
     if (rs_due(rs) <= rs->ticks.now) vouch_for_waiting(rs);

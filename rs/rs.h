@@ -1,4 +1,4 @@
-/* RS: the library decides, and what it decides is carried out here. */
+/* RS: the library decides, and dsrs carries the decisions out. */
 #ifndef DSRS_RS_H
 #define DSRS_RS_H
 
@@ -30,9 +30,9 @@ struct rs {
     struct generations generations;
     struct stream stream;
     struct events events;
-    struct outlet outlet;     /* of what services print, */
-    size_t next_output;       /* and whose turn it is, an index of kept */
-    size_t left;   /* while it goes down: how many services are still to be stopped, the last one first */
+    struct outlet outlet;     /* of the outputs of services, */
+    size_t next_output;       /* and the next one, an index of kept */
+    size_t left;   /* while dsrs goes down: how many services are still to be stopped, the last one first */
     bool ending;
     uint64_t ends_at; /* when log programs are killed then, by clock_now */
     bool repeats;  /* an event is reported again a little later, since memory ran out, or the generation isn't kept */
@@ -46,19 +46,19 @@ bool rs_open(struct rs *rs);
 /* Learns which services the settings have: new ones get their output, and others keep theirs and their instances. Notes
  * which are to be started, and which refreshed. */
 void rs_learn(struct rs *rs);
-/* Finds a service of a store's RS by its label. */
+/* Finds a service of a store's RS by a label. */
 bool rs_find(struct ds_handle *store, const char *label, struct ds_rs_service *found);
 /* Whether the service's folder has a file `down`. */
 bool rs_keeps_down(const struct rs *rs, const struct service *service);
-/* Starts each service, unless its folder has a file `down`. */
+/* Starts each service, unless the folder has a file `down`. */
 void rs_begin(struct rs *rs);
 /* Events, at the current tick. */
 struct ds_rs_event rs_of_label(enum ds_rs_event_kind kind, const char *label, size_t length);
 struct ds_rs_event rs_of_instance(enum ds_rs_event_kind kind, uint32_t generation, uint16_t slot, enum cause cause);
-/* Reports an event, and carries out the actions. Puts the lines that answer it, unless `to` is NULL. Returns false where
- * memory runs out for these lines. */
+/* Reports an event, and carries out the actions. Appends the answer to `to`, unless that is NULL. Returns false where memory runs out for
+ * the answer. */
 bool rs_event(struct rs *rs, struct ds_rs_event *event, struct text *to);
-/* Reports what RS has to learn, without an answer. Returns false where memory ran out for it: it is to be reported again. */
+/* Reports an event that RS hasn't learnt, without an answer. Returns false where memory ran out: the event is to be reported again. */
 bool rs_tell(struct rs *rs, enum ds_rs_event_kind kind, const char *label);
 /* Reports instances that died. */
 void rs_bury(struct rs *rs);
@@ -68,7 +68,7 @@ void rs_tick(struct rs *rs);
 uint64_t rs_due(struct rs *rs);
 /* Keeps the store in step with those of other hosts. */
 void rs_keep_step(struct rs *rs);
-/* While it goes down: stops all services, the last one first. Returns whether it stopped one. */
+/* While dsrs goes down: stops all services, the last one first. Returns whether one was stopped. */
 bool rs_go_down(struct rs *rs);
 void rs_close(struct rs *rs);
 

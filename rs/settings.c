@@ -39,7 +39,7 @@ bool settings_read(const char *path, struct text *text, struct events *events) {
     return is_whole || failed(events, path, strerror(error));
 }
 
-/* Logs a fault by its word. `dsctl settings` has a sentence for each fault of a text, with its line. */
+/* Logs a fault by its word. `dsctl settings` has a sentence for each fault, with the line. */
 static bool refused(struct events *events, const char *path, uint32_t refusal, const struct ds_settings_fault *fault) {
     char why[120];
     const char *word = ds_refusal_text(refusal), *more = refusal >= DS_TOML && refusal <= DS_SHAREDNAME ? "; `dsctl settings` explains it" : "";

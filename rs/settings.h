@@ -13,8 +13,8 @@
 bool settings_read(const char *path, struct text *text, struct events *events);
 /* Whether a text says by a line `services = []`, or `service = []`, that there are no services. */
 bool settings_say_none(const struct text *text);
-/* Opens a store in a closed handle, with RS beside it for the settings that a text has, read from the path. Returns false with
- * the handle closed. */
+/* Opens a store in a closed handle, with RS for the settings in a text, which was read from the path. Returns false with the handle
+ * closed. */
 bool settings_open(struct ds_handle *store, const char *path, const struct text *text, uint32_t next, uint16_t slot,
                    struct events *events);
 

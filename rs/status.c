@@ -1,4 +1,4 @@
-/* What dsrs says of its services. See status.h. */
+/* The answer to `status`. See status.h. */
 #include "status.h"
 #include "clock.h"
 

@@ -4,7 +4,7 @@
 #include <signal.h>
 #include <sys/wait.h>
 
-/* Whether it is of an instance, or a log program, or lives in the session or the group of one. */
+/* Whether a process is of an instance, or a log program, or lives in the session or the group of one. */
 static bool is_known(const struct instances *all, pid_t pid, const struct proc_seen *seen) {
     for (const struct logger *it = all->loggers; it; it = it->next)
         if (it->pid == pid || (it->pid == seen->group && seen->state != 'Z')) return true;
@@ -13,7 +13,7 @@ static bool is_known(const struct instances *all, pid_t pid, const struct proc_s
     return false;
 }
 
-/* Whether the instance of an endpoint is up, or has its grace. */
+/* Whether the instance of an endpoint is up, or within its grace period. */
 static bool lives(const struct instances *all, uint32_t generation, uint16_t slot) {
     for (const struct instance *it = all->first; it; it = it->next)
         if (it->generation == generation && it->slot == slot) return it->state != INSTANCE_ENDS || it->kill_at;

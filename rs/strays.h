@@ -6,7 +6,7 @@
 #include "instances.h"
 
 /* Kills and reaps the strays, and reaps other children of dsrs that have ended. Returns whether there were any. A stray's instance is known
- * by DS_ENDPOINT and DS_FOLDER in the environment that it began with. A child whose instance isn't known lives, as one that cleared
+ * by DS_ENDPOINT and DS_FOLDER in the environment that the process began with. A child without a known instance lives: one that cleared
  * its environment, that became another user's, or that is older than dsrs. */
 bool strays_kill(const struct instances *all);
 

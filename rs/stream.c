@@ -28,7 +28,7 @@ void stream_turn(struct stream *stream, uint8_t owed[16], struct log *log) {
     log_say(log, is_fine ? LOG_INFO : LOG_WARN, "stream: %s", ds_fleet_word(word));
 }
 
-/* The bell is the fleet's, which closes it. */
+/* The poller is the fleet's, which closes the descriptor. */
 void stream_close(struct stream *stream, int epoll) {
     if (!stream->fleet) return;
     if (stream->word == DS_FLEET_INSTEP) ds_fleet_step(stream->fleet, LAST);

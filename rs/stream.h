@@ -1,4 +1,4 @@
-/* The store in step with those of other hosts, over a redis stream, as ds_fleet keeps it. */
+/* The store in step with those of other hosts, over a redis stream, by ds_fleet. */
 #ifndef DSRS_STREAM_H
 #define DSRS_STREAM_H
 
@@ -11,7 +11,7 @@
 struct ds_fleet;
 
 struct stream {
-    const char *url, *name; /* of the server, or NULL: the store is alone; the beginning of its keys, or NULL */
+    const char *url, *name; /* of the server, or NULL: the store is alone; the prefix of the keys, or NULL */
     struct ds_fleet *fleet;
     struct watch bell;
     int word;               /* of the last step, by ds_fleet.h */
@@ -19,8 +19,8 @@ struct stream {
 
 /* Joins the store to the stream, without waiting for the server. Returns false after a line to the log. */
 bool stream_open(struct stream *stream, struct ds_handle *store, int epoll, struct log *log);
-/* Tells what is new in the store, and merges what others told, without waiting. Sets the bits of the subscriptions that are owed
- * a notice for it. */
+/* Sends the store's new changes, and merges those of other hosts, without waiting. Sets the bits of the subscriptions that are owed
+ * a notice. */
 void stream_turn(struct stream *stream, uint8_t owed[16], struct log *log);
 /* Tells the rest, for two seconds at most, and leaves the stream. */
 void stream_close(struct stream *stream, int epoll);

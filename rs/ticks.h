@@ -1,4 +1,4 @@
-/* RS's clock. It counts ticks, and leaves out time in which dsrs itself was stopped, since no heartbeat was heard then. */
+/* RS's clock. Counts ticks, and leaves out the time in which dsrs itself was stopped, since no heartbeat was read then. */
 #ifndef DSRS_TICKS_H
 #define DSRS_TICKS_H
 
@@ -16,7 +16,7 @@ struct ticks {
 
 /* Begins at tick 0. */
 void ticks_open(struct ticks *ticks, uint64_t length);
-/* Lets time pass. A turn later than its order by more than `leap` counts `leap` ticks. Returns how many it left out. */
+/* Lets time pass. A turn later than its order by more than `leap` counts `leap` ticks. Returns how many ticks were left out. */
 uint64_t ticks_pass(struct ticks *ticks);
 /* Returns when a tick begins, by clock_now. */
 uint64_t ticks_begin(const struct ticks *ticks, uint64_t tick);

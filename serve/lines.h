@@ -6,14 +6,14 @@
 #include "ds.h"
 #include "wire.h"
 
-/* A line without its newline, and what of it comes after its first word and a space. */
+/* A line without the newline, and the rest after the first word and a space. */
 struct request { const char *line, *rest; size_t length, left; };
 
 struct request request_of(const char *line, size_t length);
-/* Whether its first word is this one, or one of these, of which NULL is the end. */
+/* Whether the first word is this one, or one of these, of which NULL is the end. */
 bool request_is(const struct request *it, const char *word);
 bool request_is_any(const struct request *it, const char *const words[]);
-/* Takes the next part, up to a space, off the rest. Returns its length. */
+/* Takes the next part, up to a space, off the rest. Returns the length. */
 size_t request_take(struct request *it, const char **part);
 /* Reads a number without leading zeros, which is all of the bytes, or returns -1. */
 long read_plain(const char *bytes, size_t length, long most);
@@ -28,11 +28,11 @@ bool read_endpoint(const char *bytes, size_t length, uint32_t *generation, uint1
 enum lines_word { LINES_ANSWERED, LINES_BAD, LINES_NOREQUEST, LINES_NOROOM };
 
 /* More on a line that was answered. place: the byte at which a bad line can't be read. holds: the answer says that a
- * change is held, so the stream has to have it first. was_held: it was held before this line. owed: the bits of subscriptions that are owed a notice. */
+ * change is held, so the stream has to have that change first. was_held: the change was held before this line. owed: the bits of subscriptions that are owed a notice. */
 struct lines_said { uint64_t place; bool holds, was_held; uint8_t owed[16]; };
 
-/* Carries out the command of a line, given without its newline, and puts the lines of its answer after the text,
- * which is unchanged where it isn't LINES_ANSWERED. Where text is NULL, the answer is left out. */
+/* Carries out the command of a line, given without its newline, and appends the answer to the text, which is unchanged
+ * unless the result is LINES_ANSWERED. Where text is NULL, the answer is left out. */
 enum lines_word lines_answer(struct ds_handle *store, const char *line, size_t length, struct text *text,
                              struct lines_said *said);
 /* Puts the lines of the last answer after the text. Returns LINES_ANSWERED, or LINES_NOROOM, and then the text is

@@ -16,7 +16,7 @@
 enum {
     COUNTED_EACH = 10 * SECOND,
     LOG_WHOLE = PIPE_BUF, /* bytes of the longest line, which a pipe takes whole or not at all */
-    LOG_TAIL = 10,        /* bytes of an escaped byte, and of what ends a line */
+    LOG_TAIL = 10,        /* bytes of an escaped byte, and of the end of a line */
     LOG_NAME = 100
 };
 
@@ -26,8 +26,8 @@ bool log_read_format(void *as_json, char *word) {
     return is_json || !strcmp(word, "text");
 }
 
-/* A pipe or a terminal is opened again, with O_NONBLOCK: set on standard error itself, the flag would affect all who
- * share it. A file isn't, since it would have an offset of its own. */
+/* A pipe or a terminal is opened again, with O_NONBLOCK: set on standard error itself, the flag would affect all processes that
+ * share the descriptor. A file isn't, since a new descriptor would have an offset of its own. */
 void log_open(struct log *log, bool as_json) {
     struct stat it;
     for (int standard = 0; standard <= STDERR_FILENO; standard++) {

@@ -10,7 +10,7 @@
 
 #define LOG_INFO "INFO"
 #define LOG_WARN "WARN"
-#define LOG_ERROR "ERROR" /* the program ends after it */
+#define LOG_ERROR "ERROR" /* the program ends after this event */
 
 enum {
     LOG_WORDS = 64,
@@ -23,12 +23,12 @@ struct log {
     int descriptor;
     bool is_socket;
     bool as_json;
-    uint64_t due[LOG_WORDS]; /* for each event, by its hash: when it would have used up all that it was allowed */
+    uint64_t due[LOG_WORDS]; /* for each event, by its hash: when its quota is used up */
     uint64_t left_out;       /* lines since that was last written */
-    uint64_t count_at;       /* when it may be written again */
+    uint64_t count_at;       /* when the event may be written again */
 };
 
-/* Reads the value of an option, `text` or `json`, into a bool. Returns whether it is one of these. */
+/* Reads the value of an option, `text` or `json`, into a bool. Returns whether the value is one of these. */
 bool log_read_format(void *as_json, char *word);
 /* Opens the log. Standard descriptors that are closed become /dev/null first, so that nothing else takes their
  * numbers. */
@@ -37,9 +37,9 @@ void log_open(struct log *log, bool as_json);
 void log_say(struct log *log, const char *level, const char *format, ...) __attribute__((format(printf, 3, 4)));
 /* Writes a line of a fleet, as its `tell`. */
 void log_tell(void *log, const char *line);
-/* Writes a line of another program, of at most LOG_PASSED bytes without its newline, as `NAME: LINE`. These aren't
- * limited. Returns false if standard error is full, and the line isn't written. If it can't be written at all, as without
- * a reader, it is left out, and counted. */
+/* Writes a line of another program, of at most LOG_PASSED bytes without the newline, as `NAME: LINE`. These lines have no quota. Returns
+ * false if standard error is full, and the line isn't written. A line that can't be written at all, as without a reader, is left out, and
+ * counted. */
 bool log_pass(struct log *log, const char *name, const char *line, size_t length);
 /* Writes how many lines were left out, each ten seconds at most. */
 void log_count(struct log *log);

@@ -55,7 +55,7 @@ static void name_lock(const struct place *place, char path[PLACE_PATH + 8]) {
     snprintf(path, PLACE_PATH + 8, "%s.lock", place->path);
 }
 
-/* If another process removes the file between open and flock, it is made again. */
+/* If another process removes the file between open and flock, dsfleet or dsrs makes a new one. */
 static int open_lock(const char *path) {
     for (int tries = 0; tries < TRIES; tries++) {
         int lock = open(path, O_CREAT | O_RDWR | O_CLOEXEC | O_NOFOLLOW | O_NONBLOCK, 0600);
@@ -128,7 +128,7 @@ void place_keep(struct place *place) {
     name_lock(place, path);
     if (is_at(place->lock, path)) return;
     int lock = open_lock(path);
-    if (lock < 0) return; /* its holder finds that the socket is served */
+    if (lock < 0) return; /* the holder finds that the socket is served */
     close(place->lock);
     place->lock = lock;
 }
@@ -143,7 +143,7 @@ void place_leave(struct place *place) {
         close(place->listener);
     }
     if (place->lock < 0) return;
-    /* A file with something in it isn't a lock that was made here. */
+    /* A file with contents isn't a lock that was made here. */
     if (is_at(place->lock, path) && !fstat(place->lock, &it) && !it.st_size) unlink(path);
     close(place->lock);
 }

@@ -1,5 +1,5 @@
-/* The place of a program's socket: its path, and the lock beside it. Only a socket that this user owns and that nobody
- * serves is taken over, and only the one that was made here is removed; what else is at the path is left alone. */
+/* The place of a program's socket: the path, and the lock beside that. Only a socket that this user owns and that nobody
+ * serves is taken over, and only the socket that was made here is removed; any other file at the path is left alone. */
 #ifndef SERVE_PLACE_H
 #define SERVE_PLACE_H
 
@@ -9,9 +9,9 @@
 #include <sys/types.h>
 #include <sys/un.h>
 
-enum { PLACE_PATH = sizeof((struct sockaddr_un *)0)->sun_path /* bytes of a path, with its zero */ };
+enum { PLACE_PATH = sizeof((struct sockaddr_un *)0)->sun_path /* bytes of a path, with the terminating zero */ };
 
-/* Who may connect. A mode of 0: the umask says it; NO_GROUP: the group is this process's. */
+/* Who may connect. A mode of 0: by the umask; NO_GROUP: the group is this process's. */
 struct place_access { mode_t mode; gid_t group; };
 
 struct place {
@@ -23,21 +23,20 @@ struct place {
     ino_t inode;
 };
 
-/* Whether a process serves the socket, or has the lock beside it. */
+/* Whether a process serves the socket, or has the lock. */
 bool place_is_taken(const struct place *place);
 
 /* These return false after saying to the log why not. */
 
-/* Takes the lock beside the path, by which no other process serves it. It is let go when its holder ends, however
- * that is. */
+/* Takes the lock beside the path, so that no other process serves the socket. The kernel releases the lock at the holder's end. */
 bool place_lock(struct place *place);
 /* Makes the socket, and listens. */
 bool place_serve(struct place *place);
 
-/* Takes in a client. Returns its socket, or -1 with errno. */
+/* Accepts a client. Returns the socket, or -1 with errno. */
 int place_accept(const struct place *place);
 
-/* Makes the lock anew where somebody removed it, as those do who clean /tmp. */
+/* Makes the lock anew where somebody removed the file, as programs do that clean /tmp. */
 void place_keep(struct place *place);
 /* Removes the socket and the lock, where they are the ones made here. */
 void place_leave(struct place *place);

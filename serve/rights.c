@@ -1,4 +1,4 @@
-/* Who may do what. See rights.h. */
+/* The rights of a client. See rights.h. */
 #include "rights.h"
 #include <grp.h>
 #include <stdlib.h>

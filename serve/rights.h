@@ -1,4 +1,4 @@
-/* Who may do what: the process at a socket's other end, by its user and groups as the kernel knows them. */
+/* The rights of a client: of the process at a socket's other end, by the user and groups that the kernel knows. */
 #ifndef SERVE_RIGHTS_H
 #define SERVE_RIGHTS_H
 
@@ -13,7 +13,7 @@ struct rights { gid_t writers, readers; /* readers: NO_GROUP if all who may conn
 
 /* Reads a group's name or number into a gid_t. Returns false if there is no such group. */
 bool rights_read_group(void *group, char *name);
-/* Returns the user of a socket's other end, or (uid_t)-1 if the kernel doesn't know it. */
+/* Returns the user of a socket's other end, or (uid_t)-1 if the kernel doesn't know the user. */
 uid_t rights_user(int socket);
 /* Returns the role of a socket's other end: root, this process's user, and members of `writers` are writers; members of
  * `readers` are readers. */

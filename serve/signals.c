@@ -1,4 +1,4 @@
-/* What a program that serves begins with. See signals.h. */
+/* The first steps of a server. See signals.h. */
 #include "signals.h"
 #include <signal.h>
 #include <sys/signalfd.h>
@@ -10,7 +10,7 @@ int signals_open(const int signals[], size_t count) {
     for (size_t i = 0; i < count; i++) sigaddset(&some, signals[i]);
     sigprocmask(SIG_BLOCK, &some, NULL);
     signal(SIGPIPE, SIG_IGN);
-    signal(SIGCHLD, SIG_DFL); /* ignored, it would have children reaped unseen */
+    signal(SIGCHLD, SIG_DFL); /* ignored, the signal would have children reaped unseen */
     return signalfd(-1, &some, SFD_NONBLOCK | SFD_CLOEXEC);
 }
 

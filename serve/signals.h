@@ -1,4 +1,4 @@
-/* What a server sets up first: signals from a descriptor, and the number of its run. */
+/* The first steps of a server: signals from a descriptor, and the number of the run. */
 #ifndef SERVE_SIGNALS_H
 #define SERVE_SIGNALS_H
 
@@ -7,7 +7,7 @@
 
 /* Returns a descriptor from which these signals are read without waiting, or -1 with errno. Also ignores SIGPIPE. */
 int signals_open(const int signals[], size_t count);
-/* Returns another number in each run: nanoseconds of the calendar. It is a store's incarnation. */
+/* Returns another number in each run: nanoseconds of the calendar. The store's incarnation. */
 uint64_t run_number(void);
 
 #endif

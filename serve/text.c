@@ -7,7 +7,7 @@
 
 enum {
     KEPT = 4096,  /* bytes of room that an empty text keeps */
-    PRINTED = 512 /* bytes that one print puts at most, with its zero */
+    PRINTED = 512 /* bytes of one print at most, with the terminating zero */
 };
 
 bool text_room(struct text *text, size_t more) {
