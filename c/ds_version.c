@@ -1,5 +1,4 @@
-/* The part of the library for C that isn't proved: the text of its version, and the sizes by which it was built. tools/build adds it to
- * libds_c.a.
+/* The part of the library for C that isn't proved: a version text, and the sizes of the structs. tools/build adds this part to libds_c.a.
  *
  * A function that Rattle exports returns no pointer. So the text is plain C. */
 #include "ds.h"

@@ -14,11 +14,11 @@ static int error_of(uint32_t refusal) {
     case DS_NOTFOUND: return -ESRCH;
     case DS_FULL: case DS_WORN: return -ENOSPC;
     case DS_NOROOM: return -ENOMEM;
-    default: return -EINVAL; /* also what DS has no error for: an older version, a clash */
+    default: return -EINVAL; /* also for causes without an error in DS: an older version, a clash */
     }
 }
 
-/* Fetches the item that waits for memory, for the caller that it was shown to. */
+/* Fetches the item that waits for memory, for the caller that saw it. */
 static int fetched(struct ds_caller *caller) {
     struct ds_server *server = caller->server;
     struct ds_caller *waits = server->waits;
@@ -47,7 +47,7 @@ static int asked(struct ds_caller *caller, const struct ds_request *request, con
     return error_of(answer->refusal);
 }
 
-/* The store isn't called, so it refuses nothing. */
+/* The store isn't called, so there is no refusal. */
 static int too_big(struct ds_caller *caller) {
     caller->refusal = 0;
     return -E2BIG;
@@ -65,7 +65,7 @@ static int named(struct ds_request *to, uint32_t command, struct ds_caller *call
     return 0;
 }
 
-/* Makes a change of the caller's: it has the caller's generation, and the next number. The number is spent if the change takes effect. */
+/* Makes a change of the caller's, with the caller's generation and the next number. The number is spent if the change takes effect. */
 static int changed(struct ds_caller *caller, struct ds_request *request, const void *text, size_t length) {
     struct ds_answer answer;
     request->epoch = request->generation, request->seq = caller->seq + 1;
@@ -106,7 +106,7 @@ int ds_publish_mem(struct ds_caller *caller, const char *name, const void *value
     return length > 1024 ? too_big(caller) : publish(caller, name, DS_MEM, 0, value, length, flags);
 }
 
-/* Retrieves an entry and its text, of at most *length bytes. */
+/* Retrieves an entry and the entry's text, of at most *length bytes. */
 static int retrieve(struct ds_caller *caller, const char *name, uint8_t kind, struct ds_answer *answer, char *text, size_t *length) {
     struct ds_request request;
     struct ds_given given;
@@ -229,7 +229,7 @@ static int read_item(const char *line, struct item *item) {
     return 0;
 }
 
-/* The mark of an entry that ds_check returned. It is odd if the entry was there, and even if it was deleted. */
+/* The mark of an entry that ds_check returned: odd if the entry was there, even if the entry was deleted. */
 enum { MARK_IS_THERE = 1, MARK_IS_TAKEN = 2 };
 
 /* Returns the even mark of an entry: a hash (FNV-1a) of its name and type. If two entries have one hash, as in at most one store in

@@ -43,19 +43,19 @@ struct ds_server {
 };
 #define DS_SERVER_CLOSED { DS_CLOSED, NULL }
 
-/* A caller. sub is its subscription, 0 to 127; no two callers share one. */
+/* A caller. sub is the caller's subscription, 0 to 127; no two callers share one. */
 struct ds_caller {
     struct ds_server *server;
     ds_endpoint_t endpoint;
     uint32_t sub;
-    uint32_t seq;      /* the number of its last change in this generation; begins at 0 */
-    uint32_t refusal;  /* of enum ds_refusal: why its last call was refused, or 0 */
-    uint8_t owed[16];  /* a bit for each subscription that is owed a notice; the caller clears it */
+    uint32_t seq;      /* the number of the last change in this generation; begins at 0 */
+    uint32_t refusal;  /* of enum ds_refusal: why the last call was refused, or 0 */
+    uint8_t owed[16];  /* a bit for each subscription that is owed a notice; the caller clears the bits */
     char line[DS_MAX_LINE + 1]; /* the item that was shown but not returned yet, or nothing */
     uint64_t given[DS_MAX_KEYS]; /* a mark for each entry that ds_check returned, 0 if free: 32 KB, so no call takes memory for them */
 };
 
-/* The caller of a process that has one, for the calls of minix/ds.h, which have MINIX's own signatures. It begins as NULL: set it first. */
+/* The caller of a process that has one, for the calls of minix/ds.h, which have MINIX's own signatures. Begins as NULL: set it first. */
 extern struct ds_caller *ds_self;
 
 /* Publishes where a service is. Only RS, whose endpoint is 0/2, may do so. Publishing the same endpoint again changes nothing. */

@@ -11,7 +11,7 @@ struct entry_id { unsigned long long first, second; };
 
 #define NO_ENTRY ((struct entry_id){0, 0})
 
-enum { ENTRY_ID, ENTRY_FIELDS, ENTRY_PARTS }; /* an entry, as a server answers it */
+enum { ENTRY_ID, ENTRY_FIELDS, ENTRY_PARTS }; /* an entry, as a server sends it */
 
 bool is_above(struct entry_id a, struct entry_id b);
 bool is_same_entry(struct entry_id a, struct entry_id b);
@@ -43,7 +43,7 @@ redisReply *field_of(const redisReply *fields, const char *name);
 bool info_says(const redisReply *info, const char *line);
 /* Whether a server, by its INFO, deletes keys of any kind when memory is short. */
 bool info_may_evict(const redisReply *info);
-/* Whether the keys of a stream may be on several nodes of a server's cluster: a part in braces in its name decides on
+/* Whether the keys of a stream may be on several nodes of a server's cluster: a part in braces in the stream's name decides on
  * one. */
 bool info_splits(const redisReply *info, const char *stream);
 /* Copies the hexadecimal digits after a name, as `run_id:`, of the text of an INFO; the copy is empty where there are

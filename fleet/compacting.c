@@ -28,7 +28,7 @@ enum { WRITING_MULTI, WRITING_SNAPSHOT, WRITING_EXEC, WRITING_QUESTIONS };
 enum { WATCHED_AT, WATCHED_SCOPE, WATCHED_TRIMMED, WATCHED_FIELDS };
 enum {
     REST = 250,     /* milliseconds between two compactings */
-    COUNT_TEXT = 24 /* bytes of a number, with its zero */
+    COUNT_TEXT = 24 /* bytes of a number, with the terminating zero */
 };
 
 static bool is_compacting_due(const struct ds_fleet *fleet) {
@@ -48,8 +48,8 @@ static enum ds_fleet_word ask_to_watch(struct ds_fleet *fleet) {
 
 /* ---- the transaction ---- */
 
-/* Looks once more, as the last look did, and for the last entry read. Then adds what is untold, writes the snapshot, and
- * trims the stream. Returns the ids of the entries that it added, or a word for the first difference. */
+/* Looks once more, as the last look did, and for the last entry read. Then adds the untold, writes the snapshot, and
+ * trims the stream. Returns the ids of the added entries, or a word for the first difference. */
 static const char compaction[] =
     "local stream, snapshot, has, ids = KEYS[1], KEYS[2], {}, {} "
     "local run, history, added, gone, last, said, past, at_scope, held, anew, me, witnesses = unpack(ARGV, 1, 12) "
@@ -69,11 +69,11 @@ static const char compaction[] =
     "redis.call('HINCRBY', snapshot, 'trimmed', redis.call('XTRIM', stream, 'MINID', past)) "
     "return ids";
 
-/* What the snapshot's key has when it is watched. */
+/* The state of the snapshot's key when it is watched. */
 struct watched {
     struct entry_id at;
     long long trimmed;
-    bool counts_anew; /* its count isn't one: it begins anew, since no more could be added to it */
+    bool counts_anew; /* the count isn't a number: the count begins anew, since no more could be added */
 };
 
 /* Puts how many of the entries for which the last look looked aren't in the snapshot, and then these. */
@@ -122,8 +122,8 @@ static void ask_to_write(struct ds_fleet *fleet, const struct text *held, const 
 
 /* ---- a watching ---- */
 
-/* Whether all that the snapshot says is held here: this bridge merged it, or it was there at the last look, or is its
- * own, and goes less far than what was read. */
+/* Whether everything in the snapshot is held here: this bridge merged that snapshot, or found it at the last look, or wrote it,
+ * and it ends before the last entry read. */
 static bool is_known(const struct ds_fleet *fleet, struct entry_id at) {
     const struct reading *reading = &fleet->reading;
     bool is_merged = is_same_entry(at, reading->merged) && !is_same_entry(at, NO_ENTRY);
@@ -131,8 +131,8 @@ static bool is_known(const struct ds_fleet *fleet, struct entry_id at) {
     return is_merged || (is_there && is_above(reading->last, at));
 }
 
-/* Whether what is held here is all that the stream says up to the last entry read, and may be written as that. Since it was
- * due, the bridge may have read what no store here can hold. */
+/* Whether the store holds all that the stream has up to the last entry read, and may be written as the snapshot of that entry. Since the
+ * compaction became due, the bridge may have read changes that no store here can hold. */
 static bool may_write(const struct ds_fleet *fleet, struct entry_id at) {
     bool has_all = bridge_is_at_end(fleet) && fleet->reading.said.length && !fleet->items.lost;
     return has_all && telling_may_add_all(fleet) && is_known(fleet, at);
@@ -154,7 +154,7 @@ static enum ds_fleet_word prepare_snapshot(struct ds_fleet *fleet, struct text *
 }
 
 /* A transaction undoes nothing: if the snapshot couldn't be set, the stream would be trimmed all the same. So a key
- * that denies anything ends it here. */
+ * that denies anything ends the compaction here. */
 static enum ds_fleet_word snapshot_watched(struct ds_fleet *fleet) {
     struct text held = {0};
     struct watched watched = {.trimmed = 0};
@@ -172,7 +172,7 @@ static enum ds_fleet_word snapshot_watched(struct ds_fleet *fleet) {
     return word;
 }
 
-/* ---- what was written ---- */
+/* ---- the answers ---- */
 
 static enum ds_fleet_word note_written(struct ds_fleet *fleet, const redisReply *ids) {
     char at[DS_FLEET_ID];
@@ -192,7 +192,7 @@ static enum ds_fleet_word snapshot_written(struct ds_fleet *fleet) {
     if (teller->came < WRITING_QUESTIONS) return error ? server_denied(fleet, error) : DS_FLEET_INSTEP;
     const redisReply *done = teller->answers[WRITING_EXEC], *ids = is_list_of(done, 1) ? done->element[0] : NULL;
     if (is_list_of(ids, fleet->telling.parts)) return note_written(fleet, ids);
-    telling_cut(&fleet->telling); /* what is untold is added by a round of telling */
+    telling_cut(&fleet->telling); /* a round of telling adds the untold */
     if (is_error(ids)) error = ids;
     return error ? server_denied(fleet, error) : DS_FLEET_INSTEP;
 }

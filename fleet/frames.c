@@ -19,7 +19,7 @@ static bool read_length(const struct frames *frames, unsigned long long most, un
     return is_none || (count && read_digits(digits, count, most, length) == count);
 }
 
-/* Reads a whole line: a text comes after it, or the next line. */
+/* Reads a whole line, which a text follows, or the next line. */
 static bool read_line(struct frames *frames) {
     unsigned long long length = 0;
     bool is_good = true;
@@ -38,7 +38,7 @@ static bool read_line(struct frames *frames) {
     return is_good;
 }
 
-/* Takes bytes of a line, the last ones of which may be its newline. */
+/* Takes bytes of a line, the last ones of which may be the newline. */
 static bool take_line(struct frames *frames, const char *bytes, size_t length) {
     for (size_t i = 0; i < length && frames->length + i < FRAMES_HEAD; i++) frames->head[frames->length + i] = bytes[i];
     frames->length += length;

@@ -8,10 +8,10 @@
 
 enum { FRAMES_HEAD = 24 /* bytes of a line that are kept: a type, a length */ };
 
-/* Where in an answer the bytes that came end. It begins with zeros. */
+/* The place in an answer at which the received bytes end. Begins with zeros. */
 struct frames {
     char head[FRAMES_HEAD]; /* of the line that is being read, */
-    size_t length;          /* and its bytes so far */
+    size_t length;          /* and the bytes so far */
     size_t left;            /* bytes of a text that are missing */
 };
 

@@ -14,10 +14,10 @@
 
 enum { HOLDERS = 2 };
 
-/* A look-up that the host and its thread share. The last of the two frees it. */
+/* A look-up that the host and a thread share. The last of the two frees the memory. */
 struct lookup {
     atomic_int holders;
-    atomic_bool is_answered; /* the members below are written before it is set */
+    atomic_bool is_answered; /* the members below are written before this one is set */
     int error;               /* of getaddrinfo */
     unsigned count;
     char address[HOST_ADDRESSES][HOST_TEXT];

@@ -8,20 +8,20 @@
 
 enum {
     HOST_ADDRESSES = 8,
-    HOST_TEXT = 64,      /* bytes of an address in digits, with its zero */
-    HOST_NAME = 256,     /* bytes of a name, with its zero */
+    HOST_TEXT = 64,      /* bytes of an address in digits, with the terminating zero */
+    HOST_NAME = 256,     /* bytes of a name, with the terminating zero */
     HOST_PATIENCE = 1000 /* milliseconds, after which the address that worked last is called */
 };
 
 struct lookup;
 
-/* A host. It begins with zeros. */
+/* A host. Begins with zeros. */
 struct host {
     char name[HOST_NAME];
     bool is_address;         /* the name is an address in digits, and nothing is looked up */
     int bell;                /* an eventfd of the caller's, which rings when a look-up has ended */
     struct lookup *lookup;   /* the one that runs, or NULL; there is one at a time */
-    uint64_t asked_at;       /* when it began, in milliseconds */
+    uint64_t asked_at;       /* when the look-up began, in milliseconds */
     unsigned turn;           /* which of several addresses is called: the next one after each failure */
     char address[HOST_TEXT]; /* the one that is called */
     char worked[HOST_TEXT];  /* the last one at which a server was met, or nothing */
@@ -42,7 +42,7 @@ enum host_found host_find(struct host *host, uint64_t now);
 /* A server was met at the address, or wasn't. */
 void host_worked(struct host *host);
 void host_failed(struct host *host);
-/* Waits for nothing: a look-up that runs is left to its thread, which frees it. */
+/* Waits for nothing: a look-up that runs is left to the thread, which frees the memory. */
 void host_close(struct host *host);
 
 #endif

@@ -7,16 +7,16 @@
 
 enum {
     PIECES = 1 << 16, /* bytes of items that are fetched at a time */
-    FOLD_ABOVE = 1 << 23, /* bytes of what is untold, or twice all that is held if that is more */
+    FOLD_ABOVE = 1 << 23, /* bytes of the untold, or twice all that is held if that is more */
     SHOWN = 400,      /* bytes of a line that are logged */
-    LOGGED = 512,     /* bytes of a line of the log, with its zero */
+    LOGGED = 512,     /* bytes of a line of the log, with the terminating zero */
     HIGH_HALF = 32    /* bits of a hash */
 };
 
 /* Of FNV-1a. */
 static const uint64_t hash_seed = 14695981039346656037u, hash_prime = 1099511628211u;
 
-/* FNV-1a with one more step, by which its low bits depend on all of the seed: two texts of one hash have others from
+/* FNV-1a with one more step, by which the low bits depend on all of the seed: two texts of one hash have others from
  * another seed on. */
 static uint64_t hashed(uint64_t hash, const char *bytes, size_t length) {
     for (size_t i = 0; i < length; i++) {
@@ -41,7 +41,7 @@ void items_say(struct items *items, const char *format, ...) {
 
 /* ---- asking the stores ---- */
 
-/* A request for what is under the scope, of the whole journal or of all that is held. */
+/* A request for the changes under the scope, of the whole journal or of all that is held. */
 static struct ds_request scoped_request(const struct items *items, uint32_t command) {
     struct ds_request request = {.command = command, .max = ITEMS_MOST};
     request.incarnation = items->incarnation;
@@ -75,7 +75,7 @@ static enum ds_fleet_word fetch_items(struct ds_handle *store, const struct ds_a
     return DS_FLEET_INSTEP;
 }
 
-/* ---- what the server has ---- */
+/* ---- the server's lines ---- */
 
 static int compare_hashes(const void *a, const void *b) {
     const uint64_t *one = a, *other = b;
@@ -139,7 +139,7 @@ enum ds_fleet_word items_gather(struct items *items) {
         struct ds_answer answer;
         enum ds_fleet_word word = ask_store(items, items->store, DS_SINCE, &answer);
         if (word != DS_FLEET_INSTEP) return word;
-        /* Otherwise the position is older than its ring, or another store's. */
+        /* Otherwise the position is older than the ring, or another store's. */
         if (answer.word != DS_JOURNALED) return items_gather_all(items);
         if ((word = keep_untold(items, &answer)) != DS_FLEET_INSTEP || answer.pieces < ITEMS_MOST) return word;
     }
@@ -149,7 +149,7 @@ bool items_should_fold(const struct items *items) {
     return items->untold.length > (items->fold_above > FOLD_ABOVE ? items->fold_above : FOLD_ABOVE);
 }
 
-/* If the server is known to have all that is held, nothing is gained, and what was untold stays. */
+/* If the server is known to have all that is held, nothing is gained, and the untold stays. */
 enum ds_fleet_word items_fold(struct items *items) {
     struct text before = items->untold;
     items->untold = (struct text){0};
@@ -177,7 +177,7 @@ uint64_t items_drop_told(struct items *items, size_t length, unsigned marks) {
     return told;
 }
 
-/* ---- what is refused ---- */
+/* ---- refused lines ---- */
 
 /* A refusal of a key or an owner is logged once; of many keys, ITEMS_TOLD at a time. */
 static bool is_news(struct items *items, const char *line, size_t length, uint32_t refusal) {
@@ -227,17 +227,17 @@ void items_begin_anew(struct items *items, bool notes) {
     items->notes = notes;
 }
 
-/* Keeps a refused line in the second store, where a newer one of the same key replaces it. */
+/* Keeps a refused line in the second store, where a newer one of the same key replaces the line. */
 static enum ds_fleet_word set_aside(struct items *items, const char *entry, const char *line, size_t length, uint32_t refusal) {
     struct ds_request request = {.command = DS_MERGE, .text_length = length};
     struct ds_answer answer;
-    /* Nobody asks for its journal, so it is the shortest. */
+    /* Nobody reads the journal of the second store, so the journal is the shortest. */
     if (!items->has_aside && ds_open(&items->aside[items->here], 1, 0, 1)) return DS_FLEET_NOROOM;
     items->has_aside = true;
     if (ds_call(&items->aside[items->here], &request, line, length, &answer)) return DS_FLEET_CLOSED;
     if (answer.refusal == DS_NOROOM) return DS_FLEET_NOROOM;
     log_refusal(items, entry, line, length, refusal);
-    /* Whatever refused it, as a third owner of its key does, no store here has it. */
+    /* Whatever the refusal, as of a third owner of a key, no store here has the line. */
     if (answer.word == DS_STOPPED) lose_item(items);
     if (answer.word == DS_STOPPED || answer.taken) {
         items->refused[refusal <= DS_NOROOM ? refusal : 0]++;
@@ -252,7 +252,7 @@ static void forget_refused(struct items *items) {
     items->news = false;
 }
 
-/* Merges again what was set aside. A new second store takes what is still refused. */
+/* Merges the refused lines again. A new second store takes those that are refused again. */
 static enum ds_fleet_word offered_again(struct items *items, const struct text *lines) {
     items->here = !items->here;
     items->has_aside = false;

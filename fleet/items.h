@@ -16,16 +16,16 @@ struct items {
     struct ds_handle *store;
     struct ds_handle aside[2];      /* aside[here] is a second store: the newest items that this one refuses */
     unsigned here;
-    bool has_aside;                 /* it is open */
+    bool has_aside;                 /* the store is open */
     struct text scope;              /* the pattern */
     uint8_t kinds;                  /* 0: everything */
     uint64_t incarnation, position; /* how far the journal was read */
-    struct text untold;             /* the lines of what took effect, until a server has answered for them */
+    struct text untold;             /* the lines of changes that took effect, until a server has acknowledged them */
     uint64_t gathered;              /* bytes that untold ever got, and marks that wait for a write */
-    size_t fold_above;              /* bytes of untold above which items_fold is worth it, if these are more than FOLD_ABOVE of items.c */
+    size_t fold_above;              /* bytes of untold above which items_fold is worth the work, if these are more than FOLD_ABOVE of items.c */
     uint64_t folded;                /* bytes that left untold, and count as told only once a server has the first */
-    size_t folded_by;               /* bytes of what is left */
-    bool notes;                     /* while all is read, the server's lines are noted, so that only what it lacks goes there again: */
+    size_t folded_by;               /* bytes that are left */
+    bool notes;                     /* while all is read, the server's lines are noted, so that only lines that the server lacks go there again: */
     struct text noted;              /* hashes of lines, */
     uint64_t seed;                  /* with a seed of this run, so that a publisher can't choose two lines of one hash */
     bool news;                      /* something is refused since items_retry */
@@ -41,38 +41,38 @@ struct items {
     void *context;
 };
 
-/* These answer INSTEP where it is done, else CLOSED, NOROOM, or items_gather_all BADSCOPE, and then may be called
+/* These return INSTEP when done, else CLOSED, NOROOM, or items_gather_all BADSCOPE, and then may be called
  * again. */
 
-/* Puts what took effect since to what is untold. */
+/* Appends the changes that took effect since the last call to the untold. */
 enum ds_fleet_word items_gather(struct items *items);
-/* Puts all that is held to what is untold, but for what is noted, and continues from the store's end. */
+/* Appends all that is held to the untold, but for noted lines, and continues from the store's end. */
 enum ds_fleet_word items_gather_all(struct items *items);
-/* Puts all that is held, and all that is refused, to what is untold, but for what is noted, which is forgotten then: the
- * server may lack any of it. */
+/* Appends all held and all refused lines to the untold, but for noted lines. The notes are forgotten then: the
+ * server may lack any of these lines. */
 enum ds_fleet_word items_gather_owed(struct items *items);
-/* Whether so much is untold that it should be folded, as after hours without a server. */
+/* Whether the untold is so long that a fold is worth the work, as after hours without a server. */
 bool items_should_fold(const struct items *items);
-/* Puts all that is held in place of what is untold: of the changes of one key, only the last is left. */
+/* Puts all that is held in place of the untold: of the changes of one key, only the last is left. */
 enum ds_fleet_word items_fold(struct items *items);
-/* Drops bytes from the front of what is untold, since a server has them. Returns how many of the bytes gathered count as told by it. Marks
- * that the same round was about are counted as bytes. */
+/* Drops bytes from the front of the untold, since a server has them. Returns how many of the gathered bytes count as told by that. Marks
+ * of the same round are counted as bytes. */
 uint64_t items_drop_told(struct items *items, size_t length, unsigned marks);
-/* Merges lines of an entry, whose id is for the log of what is refused. Own news is gathered first: what comes after it
- * in the journal is then what was merged, and isn't sent again. A refused line ends nothing. */
+/* Merges lines of an entry, whose id is for the log of refused lines. Own news is gathered first: later changes in the journal
+ * are then merged ones, and aren't sent again. A refused line ends nothing. */
 enum ds_fleet_word items_take(struct items *items, const char *entry, const char *lines, size_t length);
 /* Notes lines that the server has, if they are to be noted. */
 void items_note(struct items *items, const char *lines, size_t length);
-/* Forgets what is noted, and notes no more. */
+/* Forgets the noted lines, and notes no more. */
 void items_forget_noted(struct items *items);
 /* Counts and logs an entry that has no items. */
 void items_unread_entry(struct items *items, const char *entry);
-/* Offers what was refused again, where something changed since. */
+/* Offers the refused lines again, where something changed since. */
 enum ds_fleet_word items_retry(struct items *items);
-/* Whether half of what was refused when items were lost has been taken in since: then there is room to read what was
- * lost once more. */
+/* Whether half of the lines that were refused when items were lost have been taken since: then there is room to read
+ * the lost lines once more. */
 bool items_may_regain(const struct items *items);
-/* All is read anew: what was lost comes again. `notes`: it is noted. */
+/* All is read anew, so that lost lines come again. `notes`: lines are noted. */
 void items_begin_anew(struct items *items, bool notes);
 /* Appends everything held, and everything refused, to the text. */
 enum ds_fleet_word items_all(struct items *items, struct text *to);

@@ -17,7 +17,7 @@ enum {
     PORT_TEXT = 8,          /* bytes, with the zero */
     PROBES_AFTER = 15,      /* seconds of silence; then the kernel probes the connection, */
     PROBES_EACH = 5,        /* with these seconds between two, */
-    PROBES = 3              /* and ends it after these without an answer */
+    PROBES = 3              /* and ends the connection after these without an answer */
 };
 
 /* Keeps why the connection failed. Returns false. */
@@ -72,7 +72,7 @@ static bool connect_host(struct link *link, const char *host, int port) {
     return is_begun;
 }
 
-/* The name comes last: a server that refuses it still serves. */
+/* The name comes last: a server that refuses the name still serves. */
 static void greet(struct link *link, const struct link_call *call) {
     if (call->password && call->user) link_ask(link, "AUTH %s %s", call->user, call->password);
     else if (call->password) link_ask(link, "AUTH %s", call->password);
@@ -127,7 +127,7 @@ bool link_waits_to_write(const struct link *link) {
 
 /* ---- questions and answers ---- */
 
-/* Takes a question of this length, as hiredis wrote it; -1: it couldn't. */
+/* Takes a question of this length, as hiredis wrote the bytes; -1: hiredis failed. */
 static void take_question(struct link *link, char *question, int length) {
     if (length > 0 && link->asked < LINK_MOST && text_put(&link->out, question, (size_t)length)) {
         link->asked++;

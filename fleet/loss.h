@@ -1,4 +1,4 @@
-/* How a bridge notices that a server no longer has what it had: by what the server counts, and by entries that have to
+/* How a bridge notices that a server lost entries: by the server's counts, and by entries that have to
  * be there. Used within the library. */
 #ifndef DS_FLEET_LOSS_H
 #define DS_FLEET_LOSS_H
@@ -10,11 +10,11 @@
 enum { LOOK_STREAM, LOOK_SNAPSHOT, LOOK_BYTES, LOOK_QUESTIONS };
 enum { LOOK_AT, LOOK_TRIMMED, LOOK_SCOPE, LOOK_FIELDS };
 
-/* What a server has of a stream. */
+/* A server's stream, as one look saw the counts. */
 struct stock {
     struct entry_id snapshot;  /* the entry up to which the snapshot goes; 0-0: there is none, or none of such an entry */
     struct entry_id generated; /* the last id that the stream gave to an entry */
-    struct entry_id newest;    /* the last entry that is in it */
+    struct entry_id newest;    /* the last entry in the stream */
     long long bytes;           /* of the snapshot */
     long long added, gone;     /* entries that were ever added; those that went otherwise than into the snapshot */
 };

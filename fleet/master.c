@@ -38,7 +38,7 @@ static int hex_digit(char byte) {
     return byte >= 'A' && byte <= 'F' ? byte - 'A' + 10 : -1;
 }
 
-/* Replaces each %XX by its byte. */
+/* Replaces each %XX by a byte. */
 static bool decode_percents(char *text) {
     char *to = text;
     for (const char *from = text; *from; from++, to++) {
@@ -53,14 +53,14 @@ static bool decode_percents(char *text) {
     return true;
 }
 
-/* Returns the number that is all of the text, or -1 if it isn't one or is above `most`. */
+/* Returns the number that is all of the text, or -1 if the text isn't a number or is above `most`. */
 static int read_number(const char *text, int most) {
     unsigned long long number;
     size_t digits = read_digits(text, strlen(text), (unsigned long long)most, &number);
     return digits && !text[digits] ? (int)number : -1;
 }
 
-/* Cuts the text at the first such byte. Returns what is after it, or NULL. */
+/* Cuts the text at the first such byte. Returns the rest, or NULL. */
 static char *cut_at(char *text, char byte) {
     char *found = strchr(text, byte);
     if (!found) return NULL;
@@ -68,7 +68,7 @@ static char *cut_at(char *text, char byte) {
     return found + 1;
 }
 
-/* Takes the user and the password off the front. Returns what is after the last `@`, or NULL if they can't be read. */
+/* Takes the user and the password off the front. Returns the rest after the last `@`, or NULL if they can't be read. */
 static char *read_user(struct master *master, char *text) {
     char *at = *text == '/' ? NULL : strrchr(text, '@');
     if (!at) return text;
@@ -126,7 +126,7 @@ static bool read_path(struct master *master, char *text) {
     return *text == '/';
 }
 
-/* Reads what is after a question mark, `db=DATABASE`, if there is anything. */
+/* Reads the part after a question mark, `db=DATABASE`, if there is one. */
 static bool read_query(struct master *master, const char *text) {
     static const char front[] = "db=";
     if (!text) return true;
@@ -139,7 +139,7 @@ static bool copy_text(char **copy, const char *text) {
     return *copy || !text;
 }
 
-/* Reads what TLS needs. */
+/* Reads the fields of TLS. */
 static enum ds_fleet_word read_files(struct master *master, const struct ds_fleet_options *options) {
     bool is_copied = copy_text(&master->ca, options->ca) && copy_text(&master->certificate, options->certificate);
     if (!is_copied || !copy_text(&master->key, options->key)) return DS_FLEET_NOROOM;
@@ -180,7 +180,7 @@ enum ds_fleet_word master_open(struct master *master, const struct ds_fleet_opti
     return DS_FLEET_INSTEP;
 }
 
-/* ---- finding it ---- */
+/* ---- finding the master ---- */
 
 static enum host_found master_unknown(struct master *master, const char *why) {
     master->state = MASTER_LISTED;
@@ -265,7 +265,7 @@ void master_moved(struct master *master, const char *place) {
     size_t length = colon ? (size_t)(colon - place) : 0;
     int port = colon ? read_number(colon + 1, LAST_PORT) : 0;
     if (!colon || length >= sizeof host || port <= 0 || master->call.path) return;
-    /* Without a host it is on the one that was asked. */
+    /* A node without a host is on the host that was asked. */
     if (length) snprintf(host, sizeof host, "%.*s", (int)length, place);
     else snprintf(host, sizeof host, "%s", master->call.server);
     name_master(master, host, port);

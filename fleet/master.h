@@ -13,7 +13,7 @@ enum master_state { MASTER_LISTED, MASTER_ASKED, MASTER_NAMED };
 
 struct address { struct host host; int port; };
 
-/* It begins with zeros, but for the bell. */
+/* Begins with zeros, but for the bell. */
 struct master {
     enum master_state state;
     struct address listed[MASTER_ADDRESSES]; /* servers to be tried in order, or Sentinels; */
@@ -21,12 +21,12 @@ struct master {
     struct address named;                    /* in NAMED */
     struct link sentinel;                    /* in ASKED */
     int bell;                                /* an eventfd, which rings when a look-up has ended; -1: there is none */
-    struct link_call call;                   /* once it is found: how it is called */
+    struct link_call call;                   /* once found: the address and port */
     char *url, *password;                    /* copies, into which `call` and `known_as` point */
     char *ca, *certificate, *key;            /* and of the files' names, into which `files` points */
     struct tls_files files;
-    const char *known_as;                    /* the name by which the Sentinels know it; NULL: there are none */
-    const char *said;                        /* why it is unknown */
+    const char *known_as;                    /* the master's name at the Sentinels; NULL: there are none */
+    const char *said;                        /* why the master is unknown */
     char tls_said[TLS_SAID];                 /* why the files can't be used */
 };
 

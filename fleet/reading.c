@@ -25,7 +25,7 @@ enum { FETCHING_STREAM, FETCHING_SNAPSHOT }; /* the questions of a fetching; the
 enum { FETCHED_AT, FETCHED_ITEMS, FETCHED_FIELDS };
 enum { STREAM_NAME, STREAM_ENTRIES, STREAM_PARTS };
 
-/* The snapshot is asked for after the entries, so that no entry that it replaced meanwhile is missed. */
+/* The snapshot is fetched after the entries, so that no entry that the snapshot replaced meanwhile is missed. */
 void reading_ask(struct ds_fleet *fleet) {
     struct link *listener = &fleet->server.listener;
     char last[DS_FLEET_ID];
@@ -51,7 +51,7 @@ static enum ds_fleet_word take_entry(struct ds_fleet *fleet, const redisReply *e
         items_unread_entry(&fleet->items, name->str);
     } else if (is_text(from) && !strcmp(from->str, fleet->me)) {
         items_note(&fleet->items, lines->str, lines->len);
-        if (fleet->server.round) fleet->server.teller.quiet = false; /* the server answers the teller just after it */
+        if (fleet->server.round) fleet->server.teller.quiet = false; /* the server answers the teller right after this */
     } else {
         word = items_take(&fleet->items, name->str, lines->str, lines->len);
         fleet->state.entries_read++;
@@ -63,7 +63,7 @@ static enum ds_fleet_word take_entry(struct ds_fleet *fleet, const redisReply *e
     return word;
 }
 
-/* Keeps the fields of the entry read last, by which the server is to find it again. If memory runs out, nothing is kept. */
+/* Keeps the fields of the entry read last, by which the server is to find the entry again. If memory runs out, nothing is kept. */
 static void keep_said(struct reading *reading, const redisReply *entry) {
     const redisReply *fields = entry->element[ENTRY_FIELDS];
     bool is_kept = is_same_entry(id_of(entry->element[ENTRY_ID]), reading->last) && fields->type == REDIS_REPLY_ARRAY;
@@ -82,7 +82,7 @@ enum ds_fleet_word reading_answered(struct ds_fleet *fleet) {
     const redisReply *error = error_of(answers, READING_QUESTIONS);
     reading->state = READING_BEHIND;
     if (error) return server_denied(fleet, error);
-    /* Judged by the last entry before this reading, which may begin past what was trimmed. */
+    /* Judged by the last entry before this reading, which may begin past the trimmed entries. */
     bool has_gap = is_above(id_of(at), reading->last) && !is_same_entry(id_of(at), reading->passed);
     const redisReply *stream = streams->type == REDIS_REPLY_ARRAY && streams->elements ? streams->element[0] : NULL;
     const redisReply *entries = is_list_of(stream, STREAM_PARTS) ? stream->element[STREAM_ENTRIES] : NULL;
@@ -105,7 +105,7 @@ static enum ds_fleet_word ask_for_snapshot(struct ds_fleet *fleet) {
     return DS_FLEET_INSTEP;
 }
 
-/* Merges the snapshot, whatever entry it says that it is of. If there was such an entry, everything up to it is read
+/* Merges the snapshot, whatever entry the snapshot names. If there was such an entry, everything up to that entry is read
  * then. */
 static enum ds_fleet_word snapshot_fetched(struct ds_fleet *fleet) {
     struct reading *reading = &fleet->reading;

@@ -24,7 +24,7 @@
 enum {
     SOONEST = 50,  /* milliseconds before a server is called again, */
     LATEST = 1000, /* and then twice as long each time, up to this */
-    PATIENCE = 100 /* before another try of what was denied */
+    PATIENCE = 100 /* before a denied request is tried again */
 };
 
 static const char unnamed[] = "unknown"; /* the run of a server that names none */
@@ -33,7 +33,7 @@ bool server_is_connected(const struct server *server) { return link_is_open(&ser
 
 const char *server_run(const struct server *server) { return strcmp(server->run, unnamed) ? server->run : ""; }
 
-/* ---- it goes, or denies ---- */
+/* ---- a server goes, or denies ---- */
 
 static void keep_said(struct ds_fleet *fleet, const char *words) {
     if (words != fleet->state.said) snprintf(fleet->state.said, sizeof fleet->state.said, "%s", words);
@@ -84,7 +84,7 @@ enum ds_fleet_word server_puzzles(struct ds_fleet *fleet, const char *why) {
 }
 
 /* Whether an error says that this server isn't the master now: it is a replica, isn't ready, or became a replica while
- * a reading waited. Another server may have its name by now. */
+ * a reading waited. Another server may have the name by now. */
 static bool is_demoted(const redisReply *error) {
     static const char *const words[] = {"READONLY ", "LOADING ", "MASTERDOWN ", "UNBLOCKED "};
     for (size_t i = 0; i < sizeof words / sizeof *words; i++) {
@@ -93,7 +93,7 @@ static bool is_demoted(const redisReply *error) {
     return false;
 }
 
-/* Leaves a node of a cluster for the one that it names: `MOVED SLOT HOST:PORT`. */
+/* Leaves a node of a cluster for the node named in `MOVED SLOT HOST:PORT`. */
 static enum ds_fleet_word follow_move(struct ds_fleet *fleet, const char *error) {
     char why[DS_FLEET_SAID], place[DS_FLEET_SAID];
     snprintf(why, sizeof why, "%.160s", error);
@@ -110,7 +110,7 @@ enum ds_fleet_word server_denied(struct ds_fleet *fleet, const redisReply *error
     return is_demoted(error) ? server_hang_up(fleet, DS_FLEET_DENIED, why) : server_puzzles(fleet, why);
 }
 
-/* ---- it is called ---- */
+/* ---- a server is called ---- */
 
 enum ds_fleet_word server_call(struct ds_fleet *fleet) {
     struct server *server = &fleet->server;
@@ -183,7 +183,7 @@ bool server_changed_history(struct server *server, const redisReply *replication
 }
 
 /* Notes which server this is. A server that wasn't met before, or has another history, may lack the last entries: the
- * bridge reads everything again, and then tells what isn't there. Returns whether it is such a server. */
+ * bridge reads everything again, and then tells the missing lines. Returns whether this is such a server. */
 static bool note_server(struct ds_fleet *fleet, const redisReply *info) {
     struct server *server = &fleet->server;
     char run[DS_FLEET_ID];
@@ -191,7 +191,7 @@ static bool note_server(struct ds_fleet *fleet, const redisReply *info) {
     bool is_another = server_changed_history(server, info) || !*run || strcmp(run, server->run);
     if (!is_another) return false;
     server->logs_meeting = true;
-    fleet->telling.owes_all |= *server->run != '\0'; /* the first one gets only what is untold */
+    fleet->telling.owes_all |= *server->run != '\0'; /* the first one gets only the untold */
     snprintf(server->run, sizeof server->run, "%s", *run ? run : unnamed);
     return true;
 }
@@ -200,7 +200,7 @@ bool server_has_other_scope(const struct ds_fleet *fleet, const redisReply *scop
     return is_text(scope) && strcmp(scope->str, fleet->scope);
 }
 
-/* A snapshot from here would lack what isn't under this bridge's scope, so it tells and compacts nothing. */
+/* A snapshot from here would lack the lines outside this bridge's scope, so the bridge tells and compacts nothing. */
 enum ds_fleet_word server_refuse_scope(struct ds_fleet *fleet, const redisReply *scope) {
     char why[DS_FLEET_SAID];
     snprintf(why, sizeof why, "the stream's scope is `%.100s`, and not `%.100s`", scope->str, fleet->scope);
@@ -217,7 +217,7 @@ static void log_meeting(struct ds_fleet *fleet, bool may_evict) {
     server->logs_meeting = false;
 }
 
-/* A replica takes no scope. If it has the right one, and no other server is known, it is met all the same, and the
+/* A replica takes no scope. If the replica has the right one, and no other server is known, it is met all the same, and the
  * bridge follows the stream. */
 static enum ds_fleet_word meeting_answered(struct ds_fleet *fleet) {
     struct server *server = &fleet->server;

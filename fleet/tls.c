@@ -45,7 +45,7 @@ static SSL_CTX *open_context(const struct tls_files *files, char said[TLS_SAID])
         return NULL;
     }
     SSL_CTX_set_min_proto_version(context, TLS1_2_VERSION);
-    SSL_CTX_set_options(context, SSL_OP_NO_RENEGOTIATION); /* so it reads before it writes at its beginning alone */
+    SSL_CTX_set_options(context, SSL_OP_NO_RENEGOTIATION); /* so a session reads before writing at the beginning alone */
     SSL_CTX_set_verify(context, SSL_VERIFY_PEER, NULL);
     SSL_CTX_set_mode(context, SSL_MODE_ENABLE_PARTIAL_WRITE | SSL_MODE_ACCEPT_MOVING_WRITE_BUFFER);
     SSL_CTX_set_default_passwd_cb_userdata(context, ""); /* of a key; otherwise OpenSSL asks at the terminal */
@@ -71,7 +71,7 @@ struct ssl_st *tls_begin(const struct tls_files *files, int socket, const char *
     SSL_CTX *context = open_context(files, said);
     if (!context) return NULL;
     SSL *session = SSL_new(context);
-    SSL_CTX_free(context); /* the session has it, too */
+    SSL_CTX_free(context); /* the session holds a reference, too */
     if (session && want_name(session, name) && SSL_set_fd(session, socket) == 1) {
         SSL_set_connect_state(session);
         return session;

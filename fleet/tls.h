@@ -8,7 +8,7 @@
 
 struct ssl_st;
 
-enum { TLS_SAID = 256 /* bytes of a text, with its zero */ };
+enum { TLS_SAID = 256 /* bytes of a text, with the terminating zero */ };
 
 /* PEM files, which are read at each connection, so that a renewed certificate is used by the next one. */
 struct tls_files {
@@ -16,11 +16,11 @@ struct tls_files {
     const char *certificate, *key; /* NULL: none is shown */
 };
 
-/* What became of reading or writing. */
+/* The result of reading or writing. */
 enum io_word {
     IO_DONE,
-    IO_READS_FIRST,  /* it waits until something comes */
-    IO_WRITES_FIRST, /* it waits until something can be sent */
+    IO_READS_FIRST,  /* waits until something arrives */
+    IO_WRITES_FIRST, /* waits until something can be sent */
     IO_FAILED
 };
 
@@ -30,10 +30,10 @@ bool tls_is_built(void);
 
 /* Whether the files can be used. */
 bool tls_check(const struct tls_files *files, char said[TLS_SAID]);
-/* Begins a session over a socket whose connection may be still under way. `name` is a name, or an address in digits:
- * the server's certificate has to be for it. Returns NULL if it can't. */
+/* Begins a session over a socket whose connection may be still under way. The server's certificate has to be for `name`, which is a name or
+ * an address in digits. Returns NULL on failure. */
 struct ssl_st *tls_begin(const struct tls_files *files, int socket, const char *name, char said[TLS_SAID]);
-/* Whether it and the server haven't agreed on their keys yet. */
+/* Whether the handshake isn't complete. */
 bool tls_is_beginning(const struct ssl_st *session);
 enum io_word tls_read(struct ssl_st *session, char *bytes, size_t length, size_t *done, char said[TLS_SAID]);
 enum io_word tls_write(struct ssl_st *session, const char *bytes, size_t length, size_t *done, char said[TLS_SAID]);
