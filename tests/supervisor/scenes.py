@@ -7,6 +7,7 @@ import shutil
 import signal
 import socket
 import subprocess
+import sys
 import time
 
 from supervisors import ROOT, Skipped, equal, lives, until
@@ -1014,6 +1015,40 @@ def the_session_of_the_guide(host):
         ran = subprocess.run(["sh", "-c", command.replace("/tmp/socket", str(host.path)).replace("dsask", f"{host.room}/dsask")], capture_output=True, text=True)
         equal(shape(ran.stdout + ran.stderr), shape(wanted))
     host.end()
+
+
+def found_and_died(lines):
+    """Returns what examples/find/client.py printed, with its numbers of answers left out."""
+    return [re.sub(r"after \d+ answers", "after N answers", it) for it in lines]
+
+
+@scene
+def the_session_of_the_guide_to_clients(host):
+    """The client of docs/guide/find.md prints what the page shows, when the page's command kills the service."""
+    page = (ROOT / "docs/guide/find.md").read_text()
+    kills = re.search(r"^    \$ (kill -9 .*)$", page, re.MULTILINE)[1].replace("/tmp/socket", str(host.path)).replace("dsask", f"{host.room}/dsask")
+    wanted = re.search(r"client.py /tmp/socket echo\n((?:    .*\n)+)", page)[1].replace("    ", "").splitlines()
+    shutil.copytree(ROOT / "examples/find", host.home / "services")
+    host.start(settings=(ROOT / "examples/find/settings.toml").read_text())
+    host.logged("began echo")
+    words = [sys.executable, ROOT / "examples/find/client.py", host.path, "echo"]
+    environment = {**os.environ, "PYTHONPATH": str(ROOT / "python")}
+    with subprocess.Popen(words, env=environment, stdout=subprocess.PIPE, stderr=subprocess.STDOUT, text=True) as client:
+        seen = [client.stdout.readline().rstrip("\n")]
+        while len(seen) < len(wanted) and seen[-1]:
+            subprocess.run(["sh", "-c", kills], check=True)
+            seen += [client.stdout.readline().rstrip("\n") for _ in range(2)]
+        client.kill()
+    equal(found_and_died(seen), found_and_died(wanted))
+    host.end()
+
+
+@scene
+def no_answer_of_a_dead_instance(host):
+    """bench/find gets an answer of each instance of a service that it kills, and none of one that it found dead."""
+    ran = subprocess.run([ROOT / "bench/find", "--kills", "4", "--seconds", "3", host.room], capture_output=True, text=True, timeout=60)
+    said = re.fullmatch(r"kills 4, answers (\d+), of [2-5] endpoints, none of a dead one, longest gap \d+ ms\n", ran.stdout)
+    assert ran.returncode == 0 and said and int(said[1]) > 100, f"{ran}"
 
 
 # ---- what services print ----
