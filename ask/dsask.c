@@ -107,11 +107,19 @@ static int read_words(int count, char **words, struct options *options) {
 
 /* ---- asking ---- */
 
+/* Returns a socket above the standard descriptors, of which the caller may have closed some; or -1 with errno. */
+static int new_socket(void) {
+    int low = socket(AF_UNIX, SOCK_STREAM | SOCK_CLOEXEC, 0);
+    if (low < 0 || low > STDERR_FILENO) return low;
+    int high = fcntl(low, F_DUPFD_CLOEXEC, STDERR_FILENO + 1);
+    close(low);
+    return high;
+}
+
 static int connected(const char *path) {
     struct sockaddr_un address = {.sun_family = AF_UNIX};
     snprintf(address.sun_path, sizeof address.sun_path, "%s", path);
-    int it = socket(AF_UNIX, SOCK_STREAM | SOCK_CLOEXEC, 0);
-    if (it >= 0 && it <= STDERR_FILENO) it = fcntl(it, F_DUPFD_CLOEXEC, STDERR_FILENO + 1); /* standard input was closed */
+    int it = new_socket();
     if (it >= 0 && !connect(it, (struct sockaddr *)&address, sizeof address)) return it;
     fprintf(stderr, "dsask: %s: %s\n", path, strerror(errno));
     return -1;
