@@ -116,6 +116,48 @@ class Examples(unittest.TestCase):
                     self.assertEqual((ran.returncode, ran.stdout, ran.stderr), (0, wanted, ""))
 
 
+class Keep(unittest.TestCase):
+    def played(self, page, path):
+        """Runs the commands of a page's session, whose file is this one, and returns each with what it printed and what the page shows."""
+        session = re.search(r"(?:^    .*\n)+", page[page.index("    $ printf") :], re.MULTILINE)[0]
+        environment = {**os.environ, "PYTHONPATH": str(support.ROOT / "python")}
+        for part in re.split(r"^\$ ", re.sub("^    ", "", session, flags=re.MULTILINE), flags=re.MULTILINE)[1:]:
+            command, _, wanted = part.partition("\n")
+            words = ["sh", "-c", command.replace("/tmp/kept", path)]
+            ran = subprocess.run(words, cwd=support.ROOT, env=environment, capture_output=True, text=True)
+            yield command, ran.stdout + ran.stderr, wanted
+
+    def test_the_session_of_its_page(self):
+        with tempfile.TemporaryDirectory() as folder:
+            played = list(self.played((support.ROOT / "docs/guide/keep.md").read_text(), f"{folder}/kept"))
+            self.assertEqual(os.listdir(folder), ["kept"])
+        self.assertEqual(len(played), 3)
+        for command, printed, wanted in played:
+            self.assertEqual(printed, wanted, command)
+
+    def test_what_is_kept(self):
+        """A store from a file holds the same, refuses the same late changes, and takes its items as lines of a script, too."""
+        sys.path.insert(0, str(EXAMPLES))
+        import keep
+
+        lines = ["publish 0/2 new eth0 label 3.0 = 3/17", "publish 3/17 new mtu u32 3.1 = 1500", "publish 3/17 new s str 3.2 = \"a \\\"b\\\"\"",
+                 "delete 3/17 mtu u32 3.3", "publish 0/2 new tty label 4.0 = 4/18", "publish 4/18 new m mem 4.1 = 00ff0a", "sweep 0/2 tty 4"]
+        with tempfile.TemporaryDirectory() as folder, pengtawis.Store() as store:
+            for line in lines:
+                store.line(line)
+            keep.save(store, f"{folder}/kept")
+            text = store.line("all")
+            with keep.load(f"{folder}/kept") as kept, pengtawis.Store() as typed:
+                self.assertEqual(kept.line("all"), text)
+                for line in pathlib.Path(f"{folder}/kept").read_text().splitlines():
+                    self.assertEqual(typed.line(f"offer {line}"), "taken\n")
+                self.assertEqual(typed.line("all"), text)
+                for late in ("offer mtu u32 eth0 3.1 = 1500", "offer m mem tty 4.1 = 00ff0a"):
+                    self.assertEqual((kept.line(late), store.line(late)), ("stale\n", "stale\n"))
+            with keep.load(f"{folder}/none") as empty:
+                self.assertEqual(len(empty), 0)
+
+
 class Watch(unittest.TestCase):
     def test_it_prints_each_change(self):
         for real in kinds_of_servers():
