@@ -1017,6 +1017,20 @@ def the_session_of_the_guide(host):
     host.end()
 
 
+@scene
+def the_clock_of_the_guide_beats(host):
+    """With a `period` the clock of examples/services answers each ping, goes on publishing, and prints nothing."""
+    shutil.copytree(ROOT / "examples/services/clock", host.home / "services/clock")
+    settings = '[[service]]\nlabel = "clock"\nclass = "server"\nlimit = 0\nperiod = 100\npublishes = ["clock.time"]\n'
+    host.start(settings=settings)
+    first = until(lambda: host.ask("retrieve clock.time u32").startswith("found ") and host.ask("retrieve clock.time u32"), "the clock publishes")
+    until(lambda: host.ask("retrieve clock.time u32") not in (first, "refused notfound"), "it publishes again")
+    time.sleep(4)
+    assert host.ask("retrieve clock label") == "found 1/16", host.log()
+    assert "clock: " not in host.log() and "event=died" not in host.log(), host.log()
+    host.end()
+
+
 def found_and_died(lines):
     """Returns what examples/find/client.py printed, with its numbers of answers left out."""
     return [re.sub(r"after \d+ answers", "after N answers", it) for it in lines]
