@@ -70,6 +70,8 @@ def said(store, answer):
 
 
 def main():
+    if len(sys.argv) != 2:
+        sys.exit(__doc__)
     store = Store(ctypes.CDLL(sys.argv[1]), incarnation=1, first=0, ring=256)
     for line in sys.stdin.buffer:
         sys.stdout.buffer.write(said(store, store.ask(line)))

@@ -1,6 +1,7 @@
 #!/bin/sh
 # watch.sh SOCKET NAME: prints a line each time that the driver NAME starts or dies, as the dsfleet at SOCKET holds its label. ^C ends it.
 set -eu
+[ $# -eq 2 ] || { sed -n '2s/^# //p' "$0" >&2; exit 2; }
 ask=${DSASK:-dsask}
 socket=$1 name=$2
 sub= # the number of the subscription, once it is known
@@ -22,3 +23,4 @@ while read -r word kind owner version mark value; do
         "sub $kind") sub=$kind && echo "listen $sub" >&3 ;;
     esac
 done <&4
+exit 1 # the dsfleet has ended

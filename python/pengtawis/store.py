@@ -5,7 +5,7 @@ import io
 import struct
 import time
 from ctypes import addressof, byref, c_char, c_size_t
-from typing import Any, Dict, FrozenSet, Iterable, Iterator, List, Optional, Tuple, Type, TypeVar, Union, cast
+from typing import TYPE_CHECKING, Any, Dict, FrozenSet, Iterable, Iterator, List, Optional, Tuple, Type, TypeVar, Union, cast
 
 from . import wrong
 from .library import CHANGED, PIECE, REQUEST, ROOM, WANTING, WHOLE, Answer, Command, Given, Handle, fault_of
@@ -15,6 +15,17 @@ from .values import (
 )
 
 MOST = 256  # items of one answer, but for a snapshot's, and of one merge
+# The words of other stores, each with what does its work here.
+ELSEWHERE = {
+    **dict.fromkeys(("get", "read", "lookup", "label"), "retrieve(name, kind)"),
+    **dict.fromkeys(("set", "put", "add", "write"), "publish(caller, name, value, version)"),
+    **dict.fromkeys(("remove", "unset"), "delete(caller, name, kind, version)"),
+    **dict.fromkeys(("show", "entries", "keys", "values", "items", "list"), "iteration over it"),
+    **dict.fromkeys(("watch", "listen", "follow"), "subscribe(sub, pattern), and then check(sub)"),
+    **dict.fromkeys(("dump", "save"), "snapshot()"),
+    **dict.fromkeys(("load", "restore", "offer", "take"), "merge(items)"),
+    "whois": "nameof(endpoint)",
+}
 V = TypeVar("V", Endpoint, int, str, bytes)
 NONE = (0, 0)
 Pair = Tuple[int, int]  # an endpoint, a version or a cursor
@@ -48,6 +59,12 @@ class Store(Handle):
         wrong.check(wrong.OPENING, opening)
         self._call("ds_open", *opening)
         self._incarnation = opening[0]
+
+    if not TYPE_CHECKING:  # for which every name would be an attribute
+
+        def __getattr__(self, name: str) -> Any:
+            near = f": here it is {ELSEWHERE[name]}" if name in ELSEWHERE else ""
+            raise AttributeError(f"a {type(self).__name__} has no `{name}`{near}")
 
     def __repr__(self) -> str:
         return f"<{type(self).__name__} of incarnation {self._incarnation}{'' if self._handle else ', closed'}>"

@@ -9,6 +9,7 @@ import support  # noqa: F401, I001: it finds the modules of tests/
 import causes
 import model
 import stores
+from pengtawis import store as pengtawis_store
 from pengtawis import RS, BadItems, Cursor, Endpoint, Floor, Items, Map, Store, read_item, refusals
 
 DRAWN = 20  # scripts of drawn commands
@@ -462,6 +463,14 @@ class Named(unittest.TestCase):
             self.assertRegex(str(told[0]), "`name` has 1 to 64")
             self.assertRegex(str(told[2]), "`value` has at most 256")
             self.assertEqual(store.retrieve("mtu", int), 1)
+
+    def test_words_of_other_stores(self):
+        with Store() as store:
+            for word, here in (("get", "retrieve"), ("put", "publish"), ("keys", "iteration"), ("watch", "subscribe"), ("save", "snapshot")):
+                self.assertRaisesRegex(AttributeError, f"a Store has no `{word}`: here it is {here}", getattr, store, word)
+            self.assertRaisesRegex(AttributeError, "a Store has no `xyzzy`$", getattr, store, "xyzzy")
+            self.assertFalse(hasattr(store, "_other"))
+        self.assertTrue(all(not hasattr(Store, it) for it in pengtawis_store.ELSEWHERE))
 
     def test_endpoints_from_text(self):
         for text in ("0/2", "3/16", "2097151/1023"):

@@ -1,8 +1,9 @@
-//! Finds the library for C, and links it: by the folders that PENGTAWIS_LIB_DIR names, by pkg-config, or where `./install` puts it.
+//! Finds the library for C, and links it: by the folders that PENGTAWIS_LIB_DIR names, by pkg-config, or where `./install` puts it. Without a
+//! library it warns, so that `cargo check` works, and a program isn't linked.
 
 use std::env;
 use std::path::{Path, PathBuf};
-use std::process::{exit, Command};
+use std::process::Command;
 
 /// The static library, and the toolchain's library under it, which calls malloc and free. `-l` takes their names without `lib`.
 const STATIC: [&str; 2] = ["ds_c", "libc_c"];
@@ -62,8 +63,7 @@ fn main() {
         None => link_by_pkg_config() || installed().into_iter().any(|it| link_in(&[it])),
     };
     if !is_linked {
-        eprintln!("pengtawis: the library for C isn't found: install it, or name the folder that has libds_c.a and liblibc_c.a, or libds.so,");
-        eprintln!("by PENGTAWIS_LIB_DIR. Several folders are separated by colons.");
-        exit(1);
+        println!("cargo:warning=the library for C isn't found: install it, or name the folder that has libds_c.a and liblibc_c.a, or libds.so,");
+        println!("cargo:warning=by PENGTAWIS_LIB_DIR. Several folders are separated by colons. Nothing can be linked without it.");
     }
 }

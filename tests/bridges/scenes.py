@@ -937,6 +937,12 @@ def a_shell_script_watches(fleet, draw):
         watch.terminate()
         assert watch.wait(30) == 1 and watch.stdout.read() == ""
         late.cancel()
+    with subprocess.Popen(words, env=named, stdin=subprocess.DEVNULL, stdout=subprocess.PIPE, stderr=subprocess.PIPE, text=True) as watch:
+        assert watch.stdout.readline() == "one.eth0 is at 4/16\n"
+        there.kill()
+        assert watch.wait(30) == 1 and watch.stdout.read() == "", "the dsfleet ended"
+    ran = subprocess.run([*words[:2]], env=named, capture_output=True, text=True)
+    assert ran.returncode == 2 and ran.stderr.startswith("watch.sh SOCKET NAME: "), ran
 
 
 def notices(fleet, draw):
