@@ -1019,7 +1019,7 @@ def the_session_of_the_guide(host):
 
 @scene
 def the_clock_of_the_guide_beats(host):
-    """With a `period` the clock of examples/services answers each ping, goes on publishing, and prints nothing."""
+    """With a `period` the clock of examples/services answers each ping, continues to publish, and prints nothing."""
     shutil.copytree(ROOT / "examples/services/clock", host.home / "services/clock")
     settings = '[[service]]\nlabel = "clock"\nclass = "server"\nlimit = 0\nperiod = 100\npublishes = ["clock.time"]\n'
     host.start(settings=settings)
