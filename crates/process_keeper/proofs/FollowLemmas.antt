@@ -17,7 +17,7 @@ not_up (Some b) e = by_deadline b.deadline e
     by_deadline None e = absurd (true≢false e)
     by_deadline (Some t) e = refl
 
-stopped_not_up : (o : Option Instance) (at : ℕ) → up_generation (with_deadline o at) ≡ None
+pub stopped_not_up : (o : Option Instance) (at : ℕ) → up_generation (with_deadline o at) ≡ None
 stopped_not_up None at = refl
 stopped_not_up (Some b) at = refl
 
@@ -26,7 +26,7 @@ stopped_not_running None at = refl
 stopped_not_running (Some b) at = refl
 
 -- ---- a label that is halted, and one that follows
-halted_by : (P : Lifecycle → Type 0) (p : Lifecycle) (d : ℕ) →
+pub halted_by : (P : Lifecycle → Type 0) (p : Lifecycle) (d : ℕ) →
     (is_running p.instance ≡ true → P (after_input (after_input p Cancelled) (Stopped d))) →
     (is_running p.instance ≡ false → P (after_input p Cancelled)) → P (halted p d)
 halted_by P p d f g = by_test (is_running p.instance) refl

@@ -1,5 +1,5 @@
 -- All labels: whose task is next, and which of them takes an input.
-use Rattle.std.specs.Prelude.{◌≡◌, ◌⊎◌, ◌<◌, ◌≤◌, ℕ, Bool, true, false, List, Some, slice_get, slice_set}
+use Rattle.std.specs.Prelude.{◌≡◌, ◌⊎◌, ◌<◌, ◌≤◌, ◌+◌, nat_lt, ℕ, Bool, true, false, List, Some, slice_get, slice_set, if◌then◌else◌}
 use Rattle.std.specs.List.{All, HoldsAt}
 use Rattle.process_keeper.specs.Doing.{MayDo, IsSettled}
 use Rattle.process_keeper.specs.Inputs.{is_accepted, after_input}
@@ -36,11 +36,20 @@ IsCalmAt p now t = is_urgent t ≡ false → IsCalm p now
 abbrev pub IsSettledAt : Lifecycle → ℕ → Task → Type 0
 IsSettledAt p now t = is_rest t ≡ true → IsSettled p now
 
+-- The label with this number accepts the input, or there is none that does.
+abbrev pub AcceptsAt : List Lifecycle → ℕ → Input → Bool → Type 0
+AcceptsAt labels k input true = (p : Lifecycle) × (slice_get labels k ≡ Some p) × (is_accepted p input ≡ true)
+AcceptsAt labels k input false = (p : Lifecycle) → slice_get labels k ≡ Some p → is_accepted p input ≡ false
+
 -- The label with this number accepts the input, or none changes.
 abbrev pub TakesAt : List Lifecycle → ℕ → Input → Bool → List Lifecycle → Type 0
 TakesAt old k input true new =
     (p : Lifecycle) × (slice_get old k ≡ Some p) × (is_accepted p input ≡ true) × (new ≡ slice_set old k (after_input p input))
 TakesAt old k input false new = ((p : Lifecycle) → slice_get old k ≡ Some p → is_accepted p input ≡ false) × (new ≡ old)
+
+-- The next generation after one was given, if the file is ahead.
+abbrev pub next_given : ℕ → ℕ → ℕ
+next_given next file = if nat_lt next file then next + 1 else next
 
 -- The file gets the generation, or a later one was given.
 abbrev pub IsWritten : ℕ → ℕ → ℕ → Bool → ℕ → Type 0

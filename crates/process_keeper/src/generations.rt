@@ -1,7 +1,7 @@
 //! Generations.
 
 ghost use Rattle.std.specs.Prelude.{◌≡◌, ◌+◌, ◌<◌, ◌≤◌, ◌⊎◌, IfSome, IsNone};
-ghost use Rattle.process_keeper.specs.Order.{IsWritten};
+ghost use Rattle.process_keeper.specs.Order.{IsWritten, next_given};
 
 use crate::keeper::Keeper;
 
@@ -9,8 +9,10 @@ const BLOCK: u64 = 64;
 
 impl Keeper {
     /// Returns the generation of a start, and counts on. `None`: the file has to be written first.
+    #[tactic(auto, using(std::proofs::lemmas::Bool::Decides::nat_tests))]
     pub fn give(&mut self) -> Option<u64>
         ensures given { IfSome result (λ g. (g ≡ self.old.next) × (g < self.old.file) × (self.new.next ≡ g + 1)) }
+        ensures counts { self.new.next ≡ next_given self.old.next self.old.file }
         ensures none { IsNone result → (self.old.file ≡ self.old.next) × (self.new.next ≡ self.old.next) }
         ensures file { self.new.file ≡ self.old.file }
         ensures labels { self.new.labels.items ≡ self.old.labels.items }

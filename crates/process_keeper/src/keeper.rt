@@ -1,6 +1,6 @@
 //! All labels of a supervisor.
 
-ghost use Rattle.std.specs.Prelude.{◌≡◌, ◌≤◌, Some, length, IfOk};
+ghost use Rattle.std.specs.Prelude.{◌≡◌, ◌<◌, ◌≤◌, Some, length, IfOk, OnErr};
 ghost use Rattle.std.specs.List.{All};
 ghost use Rattle.process_rule.specs.Supervisor.{new_service};
 ghost use Rattle.process_keeper.specs.Sight.{service};
@@ -23,9 +23,11 @@ pub struct Keeper {
 }
 
 impl Keeper {
-    /// Returns a keeper of `count` labels, for a run that begins with the generation that the file has.
+    /// Returns a keeper of `count` labels, for a run that begins with the generation that the file has. Takes no memory for none.
     pub fn new(alloc: Global, count: usize, file: u64) -> Result<Keeper, AllocError>
+        ensures count { IfOk result (λ keeper. length keeper.labels.items ≡ count) }
         ensures services { IfOk result (λ keeper. All (λ p. service p ≡ new_service) keeper.labels.items) }
+        ensures room { OnErr result (0 < count) }
         ensures next { IfOk result (λ keeper. (keeper.next ≡ file) × (keeper.file ≡ file)) }
     {
         let mut labels = Vec::new(alloc);

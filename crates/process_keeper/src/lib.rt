@@ -13,6 +13,7 @@ mod keeper;
 mod laws;
 mod lifecycle;
 mod order;
+mod reading;
 mod scan;
 mod taking;
 mod task;

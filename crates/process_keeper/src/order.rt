@@ -3,16 +3,17 @@
 ghost use Rattle.std.specs.Prelude.{◌≡◌, ◌+◌, ◌<◌, ◌≤◌, ℕ, List, Some, None, IfSome, IsNone, true, false};
 ghost use Rattle.std.specs.List.{All};
 ghost use Rattle.process_keeper.specs.Doing.{MayDo, IsSettled};
-ghost use Rattle.process_keeper.specs.Order.{IsCalm, MayBeNext, IsFirst};
+ghost use Rattle.process_keeper.specs.Order.{IsCalm, MayBeNext, IsFirst, is_rest};
 
 use crate::keeper::Keeper;
 use crate::task::Task;
 
 impl Keeper {
-    /// Returns a label's number and what is to be done about it now. `None`: nothing is, for any label. A start is next only if
-    /// nothing else is to be done.
+    /// Returns a label's number and what is to be done about it now, never `Task::Rest`. `None`: nothing is, for any label. A start is
+    /// next only if nothing else is to be done.
     pub fn task(&self, now: u64) -> Option<(usize, Task)>
         ensures may { IfSome result (λ next. MayBeNext self.now.labels.items now next) }
+        ensures busy { IfSome result (λ next. is_rest next.1 ≡ false) }
         ensures order { IfSome result (λ next. IsFirst self.now.labels.items now next.1) }
         ensures rest { IsNone result → All (λ p. IsSettled p now) self.now.labels.items }
     {
@@ -22,8 +23,10 @@ impl Keeper {
         }
     }
 
+    #[tactic(auto, using(crate::proofs::Walking::urgent_is_busy))]
     fn urgent(&self, now: u64) -> Option<(usize, Task)>
         ensures may { IfSome result (λ next. MayBeNext self.now.labels.items now next) }
+        ensures busy { IfSome result (λ next. is_rest next.1 ≡ false) }
         ensures order { IfSome result (λ next. IsFirst self.now.labels.items now next.1) }
         ensures rest { IsNone result → All (λ p. IsCalm p now) self.now.labels.items }
     {
@@ -39,6 +42,7 @@ impl Keeper {
     fn start(&self, now: u64) -> Option<(usize, Task)>
         requires { All (λ p. IsCalm p now) self.now.labels.items }
         ensures may { IfSome result (λ next. MayBeNext self.now.labels.items now next) }
+        ensures busy { IfSome result (λ next. is_rest next.1 ≡ false) }
         ensures order { IfSome result (λ next. IsFirst self.now.labels.items now next.1) }
         ensures rest { IsNone result → All (λ p. IsSettled p now) self.now.labels.items }
     {

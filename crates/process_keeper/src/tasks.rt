@@ -1,9 +1,10 @@
 //! The next task of one label.
 
-ghost use Rattle.std.specs.Prelude.{◌≡◌};
+ghost use Rattle.std.specs.Prelude.{◌≡◌, true, Some};
 ghost use Rattle.process_keeper.specs.Doing.{MayDo, RestsSettled};
 ghost use Rattle.process_keeper.specs.Order.{IsCalmAt, IsSettledAt};
 
+use crate::instance::Instance;
 use crate::lifecycle::Lifecycle;
 use crate::task::Task;
 
@@ -31,19 +32,7 @@ impl Lifecycle {
                         Task::Rest
                     }
                 }
-                Some(at) => {
-                    if self.has_exited && self.is_scanned && self.is_empty {
-                        Task::Reap(instance.leader)
-                    } else if !self.is_asked {
-                        Task::Ask(instance.leader)
-                    } else if at <= now && !self.is_killed {
-                        Task::Kill(instance.leader)
-                    } else if self.has_exited && !self.is_scanned {
-                        Task::Scan(instance.leader)
-                    } else {
-                        Task::Rest
-                    }
-                }
+                Some(at) => self.ending_task(instance, at, now),
             },
             None => match self.pending {
                 Some(generation) => {
@@ -55,6 +44,29 @@ impl Lifecycle {
                 }
                 None => Task::Rest,
             },
+        }
+    }
+
+    // Returns what is to be done about the label's instance, which has this deadline.
+    fn ending_task(&self, instance: Instance, at: u64, now: u64) -> Task
+        requires clean { self.now.is_clean ≡ true }
+        requires instance { self.now.instance ≡ Some instance }
+        requires deadline { instance.deadline ≡ Some at }
+        ensures may { MayDo self.now now result }
+        ensures rest { RestsSettled self.now now result }
+        ensures settled { IsSettledAt self.now now result }
+        ensures calm { IsCalmAt self.now now result }
+    {
+        if self.has_exited && self.is_scanned && self.is_empty {
+            Task::Reap(instance.leader)
+        } else if !self.is_asked {
+            Task::Ask(instance.leader)
+        } else if at <= now && !self.is_killed {
+            Task::Kill(instance.leader)
+        } else if self.has_exited && !self.is_scanned {
+            Task::Scan(instance.leader)
+        } else {
+            Task::Rest
         }
     }
 }
