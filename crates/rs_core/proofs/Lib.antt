@@ -5,3 +5,4 @@ pub mod SaysLemmas
 pub mod RefusalLemmas
 pub mod ReadingLemmas
 pub mod RenewalLemmas
+pub mod LateLemmas

@@ -14,3 +14,4 @@ pub mod Numbering
 pub mod Reading
 pub mod Renewal
 pub mod Planning
+pub mod Late

@@ -4,12 +4,16 @@ use Rattle.rs_core.specs.declared.event.Event.{Event}
 use Rattle.rs_core.specs.declared.plan.Plan.{Plan}
 use Rattle.rs_core.specs.State.{RsRecord}
 use Rattle.rs_core.specs.Machine.{asked}
-use Rattle.rs_core.specs.Judging.{refusal, asks, has_actions, lack_for}
+use Rattle.rs_core.specs.Judging.{refusal, asks, has_actions, takes_generation, lack_for}
 use Rattle.rs_core.specs.Reading.{given_up_in}
 
 -- Whether the plan has actions.
 abbrev pub acts : Plan → Bool
 acts p = asks has_actions (Ok p.task)
+
+-- Whether the plan starts an instance.
+abbrev pub starts_instance : Plan → Bool
+starts_instance p = asks takes_generation (Ok p.task)
 
 -- The service that the plan gives up.
 abbrev pub given_up_by : RsRecord → Plan → Option ℕ

@@ -3,6 +3,7 @@
 ghost use Rattle.rs_core.specs.Run.{StartsRise, LabelsAreSingleNumbered};
 ghost use Rattle.rs_core.specs.Says.{StepsSay, QuietStepsAreEmpty, LabelsAreFound};
 ghost use Rattle.rs_core.specs.Reading.{StepsGiveUp, TicksActWhenDue};
+ghost use Rattle.rs_core.specs.Late.{DeadAreUncounted, OtherPlansKeepNext, SingleStays, UncountedStayLate};
 ghost use Rattle.rs_core.specs.Numbering.{NumbersRise};
 ghost use Rattle.rs_core.specs.Renewal.{LabelsStaySingleNumbered, StartsRiseThroughRenewals};
 
@@ -42,4 +43,13 @@ pub fn readings_hold()
 /// A law: a `Numberer` never returns a number twice.
 pub fn numbers_rise()
     ensures { NumbersRise }
+{}
+
+/// Laws of instances that ended: after its death RS doesn't count an instance, and whatever comes from it later is refused as of an old
+/// endpoint. Steps keep generations single, and only a plan that starts an instance takes one.
+pub fn deaths_are_final()
+    ensures dead { DeadAreUncounted }
+    ensures late { UncountedStayLate }
+    ensures single { SingleStays }
+    ensures plans { OtherPlansKeepNext }
 {}

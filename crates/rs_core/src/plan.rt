@@ -1,10 +1,10 @@
 //! Plans: what RS does at an event, found before anything changes.
 
 ghost use Rattle.std.specs.Prelude.{◌≡◌};
-ghost use Rattle.rs_core.specs.Planning.{acts};
+ghost use Rattle.rs_core.specs.Planning.{acts, starts_instance};
 
 use crate::deed::Task;
-use crate::judging::has_actions;
+use crate::judging::{has_actions, takes_generation};
 
 /// What RS does at an event that no fault refuses, and its tick. `Rs::plan` makes a plan, and `Rs::carry_out` carries it
 /// out.
@@ -24,6 +24,16 @@ impl Plan {
     {
         match &self.task {
             Some(task) => has_actions(task.deed),
+            None => false,
+        }
+    }
+
+    /// Returns whether the plan starts an instance, and so takes the next generation.
+    pub fn starts(&self) -> bool
+        ensures { result ≡ starts_instance self.now }
+    {
+        match &self.task {
+            Some(task) => takes_generation(task.deed),
             None => false,
         }
     }

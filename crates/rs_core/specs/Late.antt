@@ -1,0 +1,64 @@
+-- Instances that RS doesn't count any more: what comes from them is refused.
+use Rattle.std.specs.Prelude.{◌≡◌, ℕ, ◌<◌, false, List, Option, Some, None, Err, option_map}
+use Rattle.ds_names.specs.Endpoint.{EndpointRecord}
+use Rattle.rs_core.specs.declared.action.Action.{Action}
+use Rattle.rs_core.specs.declared.event.Event.{Event}
+use Rattle.rs_core.specs.declared.event.Event.TheVariants.{Beat, Death}
+use Rattle.rs_core.specs.declared.fault.RsFault.TheVariants.{OldEndpoint}
+use Rattle.rs_core.specs.declared.plan.Plan.{Plan}
+use Rattle.rs_core.specs.declared.state.State.{State}
+use Rattle.rs_core.specs.declared.state.State.TheVariants.{Down, Up, Waiting, GaveUp}
+use Rattle.rs_core.specs.Machine.{asked}
+use Rattle.rs_core.specs.Planning.{IsPlanOf, starts_instance}
+use Rattle.rs_core.specs.Run.{RsRun}
+use Rattle.rs_core.specs.State.{RsRecord, state_at}
+use Rattle.rs_core.specs.Step.{RsStep}
+
+-- The endpoint of the instance that RS counts as up.
+abbrev pub endpoint_in_force : State → Option EndpointRecord
+endpoint_in_force (Up r) = Some r.endpoint
+endpoint_in_force (Waiting p) = None
+endpoint_in_force Down = None
+endpoint_in_force GaveUp = None
+
+-- Its generation.
+abbrev pub in_force : State → Option ℕ
+in_force state = option_map (λ e. e.generation) (endpoint_in_force state)
+
+-- Whether no generation is two services', and each is below the next one.
+pub record AreSingle (s : RsRecord) : Type 0 where
+  pub below : (k g : ℕ) → in_force (state_at s k) ≡ Some g → g < s.next
+  pub single : (j k g : ℕ) → in_force (state_at s j) ≡ Some g → in_force (state_at s k) ≡ Some g → j ≡ k
+
+-- Whether RS counts no instance with the endpoint's generation, nor gives that again.
+pub record IsUncounted (s : RsRecord) (endpoint : EndpointRecord) : Type 0 where
+  pub given : endpoint.generation < s.next
+  pub none : (k : ℕ) → in_force (state_at s k) ≡ Some endpoint.generation → ⊥
+
+-- Whether what comes from the instance is refused as of an old endpoint.
+pub record IsLate (s : RsRecord) (endpoint : EndpointRecord) (tick : ℕ) : Type 0 where
+  pub beat : asked s (Beat endpoint) tick ≡ Err OldEndpoint
+  pub death : (cause : ℕ) → asked s (Death endpoint cause) tick ≡ Err OldEndpoint
+
+-- A law: an instance that RS doesn't count is late after any steps.
+abbrev pub UncountedStayLate : Type 0
+UncountedStayLate =
+    (s t : RsRecord) (steps : List (List Action)) (endpoint : EndpointRecord) (tick : ℕ) → IsUncounted s endpoint → RsRun s steps t →
+    IsLate t endpoint tick
+
+-- A law: after its death RS doesn't count an instance.
+abbrev pub DeadAreUncounted : Type 0
+DeadAreUncounted =
+    (s t : RsRecord) (k cause tick : ℕ) (actions : List Action) (endpoint : EndpointRecord) → AreSingle s →
+    endpoint_in_force (state_at s k) ≡ Some endpoint → RsStep s (Death endpoint cause) tick actions t → IsUncounted t endpoint
+
+-- A law: steps keep generations single.
+abbrev pub SingleStays : Type 0
+SingleStays =
+    (s t : RsRecord) (event : Event) (tick : ℕ) (actions : List Action) → RsStep s event tick actions t → AreSingle s → AreSingle t
+
+-- A law: a plan that starts no instance takes no generation.
+abbrev pub OtherPlansKeepNext : Type 0
+OtherPlansKeepNext =
+    (s t : RsRecord) (event : Event) (tick : ℕ) (actions : List Action) (p : Plan) → RsStep s event tick actions t →
+    IsPlanOf s event tick p → starts_instance p ≡ false → t.next ≡ s.next
