@@ -1,0 +1,3 @@
+pub mod FollowLemmas
+pub mod NoteLemmas
+pub mod AgreeLemmas

@@ -1,0 +1,4 @@
+pub mod Following
+pub mod Telling
+pub mod Moves
+pub mod Laws

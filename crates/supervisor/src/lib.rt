@@ -1,0 +1,15 @@
+//! A supervisor's decisions: RS says which instances run, and the processes of each label follow.
+//!
+//! RS decides which service runs, `process_keeper` what is to be done about its processes. This crate is both as one machine, without
+//! I/O. All is this project's own.
+#![tactic(auto)]
+
+mod fault;
+mod following;
+mod laws;
+mod supervisor;
+mod telling;
+
+pub use fault::SupervisorFault;
+pub use laws::{leaders_stay, supervisors_agree};
+pub use supervisor::Supervisor;
