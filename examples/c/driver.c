@@ -22,15 +22,6 @@ static void give_up(const char *why) {
     exit(1);
 }
 
-static void set_name(struct ds_request *to, const char *name) {
-    size_t length = strlen(name);
-    if (length > sizeof to->name) {
-        give_up("the name is too long");
-    }
-    to->name_length = (uint8_t)length;
-    memcpy(to->name, name, length);
-}
-
 /* Prints the text of the last answer. One ds_items fetches the pieces that fit into the room, so it is called until all
  * are printed. */
 static void print_text(const struct ds_answer *answer) {
@@ -47,7 +38,7 @@ static void print_text(const struct ds_answer *answer) {
 /* Sends the store a request and prints the answer: its word, whether inet is owed a notice, and its text. */
 static struct ds_answer ask(const char *what, const struct ds_request *request, const char *text) {
     struct ds_answer answer;
-    if (ds_call(&store, request, text, strlen(text), &answer) != 0) {
+    if (ds_ask(&store, request, text, &answer) != 0) {
         give_up("the store is closed");
     }
     printf("%s: %s", what, ds_word_text(answer.word));
@@ -77,7 +68,7 @@ static void started(uint32_t generation, uint16_t slot) {
     request.overwrite = 1;
     request.epoch = request.value = generation;
     request.value_slot = slot;
-    set_name(&request, "eth0");
+    ds_set_name(&request, "eth0");
     ask("rs: eth0 runs", &request, "");
 }
 
@@ -94,7 +85,7 @@ static void mtu(uint32_t generation, uint16_t slot, uint32_t bytes) {
         if (network > 0) {
             snprintf(name, sizeof name, "eth0.mtu%lu", network);
         }
-        set_name(&request, name);
+        ds_set_name(&request, name);
         ask("eth0: my mtu", &request, "");
     }
 }
@@ -104,7 +95,7 @@ static void died(uint32_t generation) {
     request.command = DS_SWEEP;
     request.slot = 2;
     request.value = generation;
-    set_name(&request, "eth0");
+    ds_set_name(&request, "eth0");
     ask("rs: eth0 died", &request, "");
 }
 

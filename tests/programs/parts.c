@@ -55,6 +55,30 @@ static void one_by_one(void) {
     it = sound(DS_PUBLISH), it.kinds = DS_MEM, it.text_length = 1024, show(it);
 }
 
+/* Names of 64 and 65 bytes, and texts of C strings, by the calls that set lengths. */
+static void by_strings(void) {
+    char name[66];
+    struct ds_answer answer;
+    struct ds_request it = sound(DS_RETRIEVE);
+    memset(name, 'n', sizeof name);
+    name[64] = 0, ds_set_name(&it, name);
+    printf("64 bytes: %u, %s\n", it.name_length, ds_word_text(word_of(&it)));
+    name[64] = 'n', name[65] = 0, ds_set_name(&it, name), show(it);
+    it = (struct ds_request){.command = DS_MERGE, .text_at = 7, .text_length = 9}; /* which ds_ask sets */
+    if (ds_ask(&store, &it, "! tty 1\neth0 label rs 3.0 = 3/16\n", &answer) != 0) exit(1);
+    printf("merged %u\n", (unsigned)answer.taken);
+    it = sound(DS_PUBLISH), ds_set_name(&it, "hello");
+    if (ds_ask(&store, &it, "hello, too", &answer) != 0) exit(1);
+    it.command = DS_RETRIEVE;
+    char text[16];
+    struct ds_given given;
+    printf("%s", ds_word_text(answer.word));
+    if (ds_ask(&store, &it, "", &answer) != 0 || ds_items(&store, 0, text, sizeof text, &given) != 0) exit(1);
+    printf(", found %.*s\n", (int)given.length, text);
+    struct ds_handle closed = DS_CLOSED;
+    printf("closed: %s\n", ds_refusal_text(ds_ask(&closed, &it, "", &answer)));
+}
+
 static uint32_t seed = 1;
 
 static uint32_t drawn(uint32_t below) {
@@ -89,6 +113,7 @@ int main(void) {
         return 1;
     }
     one_by_one();
+    by_strings();
     for (int at = 0; at < DRAWN; at++) {
         struct ds_request it = spoiled();
         int is_fault = ds_request_fault(&it, texts, sizeof texts) != NULL;
