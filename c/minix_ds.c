@@ -229,7 +229,7 @@ static int read_item(const char *line, struct item *item) {
     return 0;
 }
 
-/* The mark of an entry that ds_check returned: odd if the entry was there, even if the entry was deleted. */
+/* The mark of an entry that ds_check returned: an odd number if the entry was there, an even number if the entry was deleted. */
 enum { MARK_IS_THERE = 1, MARK_IS_TAKEN = 2 };
 
 /* Returns the even mark of an entry: a hash (FNV-1a) of its name and type. If two entries have one hash, as in at most one store in

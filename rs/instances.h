@@ -35,7 +35,7 @@ struct instance {
     bool is_alone;        /* the last look found nothing else there */
     uint64_t stray_at;    /* when a process that had left the group was killed last, by clock_now; or 0 */
     int socket, theirs;   /* dsrs' end of the pair of sockets, until a peer has that; the process' end, until the process begins */
-    int cgroup;           /* the cgroup's, or -1 */
+    int cgroup;           /* of the instance's cgroup, or -1 */
     int listener;         /* where others connect to the instance */
     uint64_t kill_at;     /* when the processes that are left are killed, by clock_now; 0: already */
     uint64_t again_at;    /* when the start is tried again, by clock_now, */

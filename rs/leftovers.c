@@ -25,7 +25,7 @@ static bool sees(pid_t pid, const char *endpoints) {
     return !stat(endpoints, &ours) && !stat(path, &theirs) && ours.st_dev == theirs.st_dev && ours.st_ino == theirs.st_ino;
 }
 
-/* Whether a process is an ancestor of dsrs, or a descendant of that ancestor: a service may start its supervisor anew. */
+/* Whether a process is an ancestor of dsrs: a service may start its supervisor anew. */
 static bool is_above(pid_t pid) {
     struct proc_seen seen = {.parent = getpid()};
     while (seen.parent > 1 && seen.parent != pid)
