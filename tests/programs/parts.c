@@ -4,7 +4,7 @@
 #include <stdlib.h>
 #include <string.h>
 
-enum { DRAWN = 30000, TEXTS = 1100 };
+enum { DRAWN = 10000, TEXTS = 1100 };
 
 static struct ds_handle store = DS_CLOSED;
 static char texts[TEXTS]; /* all letters, but for a newline at the end */
