@@ -76,7 +76,9 @@ static void by_strings(void) {
     if (ds_ask(&store, &it, "", &answer) != 0 || ds_items(&store, 0, text, sizeof text, &given) != 0) exit(1);
     printf(", found %.*s\n", (int)given.length, text);
     struct ds_handle closed = DS_CLOSED;
-    printf("closed: %s\n", ds_refusal_text(ds_ask(&closed, &it, "", &answer)));
+    memset(&answer, 0, sizeof answer);
+    printf("closed: %s", ds_refusal_text(ds_ask(&closed, &it, "", &answer)));
+    printf(", %s %s\n", ds_word_text(answer.word), ds_refusal_text(answer.refusal));
 }
 
 static uint32_t seed = 1;
