@@ -1,4 +1,4 @@
-"""Clients of dsfleet, whose lines and answers are those of docs/reference/fleet.md: one that waits, and one for asyncio."""
+"""Clients of dsfleet and dsrs, whose lines are those of docs/reference/fleet.md and dsrs.md: one that waits, and one for asyncio."""
 from __future__ import annotations
 
 import asyncio
@@ -66,7 +66,7 @@ def _judged(answer: List[str]) -> List[str]:
 
 
 class Client:
-    """Sends lines to a dsfleet over a connection that is open until the end of its `with`. One thread at a time may use it.
+    """Sends lines to a dsfleet or a dsrs over a connection that is open until the end of its `with`. One thread at a time may use it.
 
     A call that takes longer than `timeout` seconds raises socket.timeout, which is TimeoutError from Python 3.10 on. Later calls
     still get their own answers, unless the line couldn't be sent within that time: then the client is closed. ConnectionError means
