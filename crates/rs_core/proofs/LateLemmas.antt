@@ -1,6 +1,6 @@
 -- What a step of RS counts as up, and which instances it refuses.
-use Rattle.std.proofs.Common.{◌≡◌, ◌⊎◌, ◌+◌, ◌<◌, ◌≤◌, ◌==◌, nat_le, nat_lt, ℕ, zero, suc, Bool, true, false, cond, List, [], ◌∷◌, get_or, length, Option, Some, None, Ok, refl, sym, ap, ◌∙◌, subst, inl, inr, arith}
-use Rattle.std.proofs.lemmas.Bool.{and_parts, eqb-true, false≢true, true≢false}
+use Rattle.std.proofs.Common.{◌≡◌, ◌⊎◌, ◌+◌, ◌-◌, ◌*◌, ◌<◌, ◌≤◌, ◌==◌, ◌&&◌, nat_le, nat_lt, ℕ, zero, suc, Bool, true, false, cond, List, [], ◌∷◌, get_or, length, Option, Some, None, Ok, refl, sym, ap, ◌∙◌, subst, inl, inr, arith}
+use Rattle.std.proofs.lemmas.Bool.{and_left, and_parts, and_right, eqb-true, lt-leb, ltb-true, false≢true, true≢false}
 use Rattle.std.proofs.lemmas.Option.{same_Some, none-some}
 use Rattle.std.proofs.Math.ListN.{set}
 use Rattle.ds_names.specs.Endpoint.{EndpointRecord, is_same_endpoint}
@@ -9,7 +9,7 @@ use Rattle.rs_core.specs.declared.action.Action.{Action}
 use Rattle.rs_core.specs.declared.deed.Deed.{Deed}
 use Rattle.rs_core.specs.declared.deed.Deed.TheVariants.{Begin, Resume, Halt, Replace, Lose, Forget, Hear, Ping}
 use Rattle.rs_core.specs.declared.deed.Task.{Task}
-use Rattle.rs_core.specs.declared.event.Event.TheVariants.{Death}
+use Rattle.rs_core.specs.declared.event.Event.TheVariants.{Beat, Death}
 use Rattle.rs_core.specs.declared.finding.Sought.TheVariants as sought
 use Rattle.rs_core.specs.declared.state.State.{State}
 use Rattle.rs_core.specs.declared.state.State.TheVariants.{Down, Up, Waiting, GaveUp}
@@ -17,13 +17,13 @@ use Rattle.rs_core.specs.declared.state.Running.{Running}
 use Rattle.rs_core.specs.Finding.{first_sought, is_sought, service_place}
 use Rattle.rs_core.specs.Judging.{asks, takes_generation}
 use Rattle.rs_core.specs.Machine.{asked, failed, failures_left, next_after, of_instance, pause, state_after, task}
-use Rattle.rs_core.specs.Late.{endpoint_in_force, in_force, AreSingle, IsUncounted, IsLate, DeadAreUncounted, OtherPlansKeepNext, SingleStays, UncountedStayLate}
+use Rattle.rs_core.specs.Late.{endpoint_in_force, in_force, AreSingle, IsUncounted, IsLate, BeatIsNoted, BeatsAreNoted, DeadAreUncounted, HeardAreNotMissed, OtherPlansKeepNext, SingleStays, UncountedStayLate}
 use Rattle.rs_core.specs.Says.{Begun, begun_at, IsNextAfter, RanOrBegan, StepSays}
 use Rattle.rs_core.specs.State.{RsRecord, state_at, service_at}
 use Rattle.rs_core.specs.Step.{IsCarriedOut, RsStep}
 use Rattle.rs_core.specs.Table.{on_death}
 use Rattle.rs_core.proofs.ReadingLemmas.{same_asked}
-use Rattle.rs_core.proofs.SaysLemmas.{steps_say}
+use Rattle.rs_core.proofs.SaysLemmas.{steps_say, written}
 
 -- ---- an instance that is in_force
 pub counted_up : (st : State) (g : ℕ) → in_force st ≡ Some g → (r : Running) × (st ≡ Up r) × (r.endpoint.generation ≡ g)
@@ -281,14 +281,87 @@ death_is_final s t k cause tick actions r a up (p, free, is, h) =
         omega (arith, e, b)
     by j c (inr b) = let l = a.below k g here in omega (arith, l, b.2)
 
+pub endpoint_up : (st : State) (e : EndpointRecord) → endpoint_in_force st ≡ Some e → (r : Running) × (st ≡ Up r) × (r.endpoint ≡ e)
+endpoint_up (Up r) e h = (r, refl, same_Some r.endpoint e h)
+endpoint_up (Waiting p) e h = absurd (none-some e h)
+endpoint_up Down e h = absurd (none-some e h)
+endpoint_up GaveUp e h = absurd (none-some e h)
+
 pub dead_are_uncounted : DeadAreUncounted
 dead_are_uncounted s t k cause tick actions e a up step =
     let u = endpoint_up (state_at s k) e up in
     subst (λ (x : EndpointRecord). IsUncounted t x) u.2
     (death_is_final s t k cause tick actions u.0 a u.1 (subst (λ (x : EndpointRecord). RsStep s (Death x cause) tick actions t) (sym u.2) step))
+
+-- ---- a heartbeat
+hear_same : (s : RsRecord) (tick : ℕ) (service : Service) (st : State) → endpoint_in_force (state_after s tick service st Hear) ≡ endpoint_in_force st
+hear_same s tick service Down = refl
+hear_same s tick service (Up r) = refl
+hear_same s tick service (Waiting p) = refl
+hear_same s tick service GaveUp = refl
+
+hear_next : (s : RsRecord) (st : State) → next_after s st Hear ≡ s.next
+hear_next s Down = refl
+hear_next s (Up r) = refl
+hear_next s (Waiting p) = refl
+hear_next s GaveUp = refl
+
+beat_is_noted : (s t : RsRecord) (k tick : ℕ) (actions : List Action) (r : Running) → AreSingle s → state_at s k ≡ Up r →
+    RsStep s (Beat r.endpoint) tick actions t → BeatIsNoted s t k tick r.endpoint
+beat_is_noted s t k tick actions r a up (p, free, is, h) =
+    record { heard = (record r { beat = tick }, now_here, refl, refl); same = λ j. by j (written s.states called.0 j after); next = ap (λ (z : RsRecord). z.next) done.after ∙ hear_next s (state_at s called.0) }
   where
-    endpoint_up : (st : State) (e : EndpointRecord) → endpoint_in_force st ≡ Some e → (r : Running) × (st ≡ Up r) × (r.endpoint ≡ e)
-    endpoint_up (Up r) e h = (r, refl, same_Some r.endpoint e h)
-    endpoint_up (Waiting p) e h = absurd (none-some e h)
-    endpoint_up Down e h = absurd (none-some e h)
-    endpoint_up GaveUp e h = absurd (none-some e h)
+    here : in_force (state_at s k) ≡ Some r.endpoint.generation
+    here = up_counted (state_at s k) r up
+
+    called : (j : ℕ) × (service_place s (sought.Instance r.endpoint) ≡ Some j) × (p ≡ Some (task Hear j))
+    called = death_task Hear (service_place s (sought.Instance r.endpoint)) p is
+
+    found : (i : ℕ) × (called.0 ≡ 0 + i) × (in_force (get_or s.states i Down) ≡ Some r.endpoint.generation)
+    found = found_runs r.endpoint 0 s.settings.services s.states called.0 called.1
+
+    place : called.0 ≡ k
+    place = let i = a.single found.0 k r.endpoint.generation found.2 here in omega (arith, i, found.1)
+
+    done : IsCarriedOut s tick (Some (task Hear called.0)) actions t
+    done = subst (λ (o : Option Task). IsCarriedOut s tick o actions t) called.2 h
+
+    after : State
+    after = state_after s tick (service_at s called.0) (state_at s called.0) Hear
+
+    there : in_force (state_at s called.0) ≡ Some r.endpoint.generation
+    there = subst (λ (x : ℕ). in_force (state_at s x) ≡ Some r.endpoint.generation) (sym place) here
+
+    was : state_at s called.0 ≡ Up r
+    was = ap (λ (x : ℕ). state_at s x) place ∙ up
+
+    now_there : state_at t called.0 ≡ Up (record r { beat = tick })
+    now_there =
+        ap (λ (z : RsRecord). state_at z called.0) done.after ∙ counted_set s.states called.0 r.endpoint.generation after there ∙
+        ap (λ (z : State). state_after s tick (service_at s called.0) z Hear) was
+
+    now_here : state_at t k ≡ Up (record r { beat = tick })
+    now_here = subst (λ (x : ℕ). state_at t x ≡ Up (record r { beat = tick })) place now_there
+
+    by : (j : ℕ) → (get_or (set s.states called.0 after) j Down ≡ get_or s.states j Down) ⊎ ((j ≡ called.0) × (get_or (set s.states called.0 after) j Down ≡ after)) →
+        endpoint_in_force (state_at t j) ≡ endpoint_in_force (state_at s j)
+    by j (inl same) = ap (λ (z : RsRecord). endpoint_in_force (state_at z j)) done.after ∙ ap endpoint_in_force same
+    by j (inr it) =
+        ap (λ (z : RsRecord). endpoint_in_force (state_at z j)) done.after ∙ ap endpoint_in_force it.1 ∙
+        hear_same s tick (service_at s called.0) (state_at s called.0) ∙ ap (λ (x : ℕ). endpoint_in_force (state_at s x)) (sym it.0)
+
+pub beats_are_noted : BeatsAreNoted
+beats_are_noted s t k tick actions e a up step =
+    let u = endpoint_up (state_at s k) e up in
+    subst (λ (x : EndpointRecord). BeatIsNoted s t k tick x) u.2
+    (beat_is_noted s t k tick actions u.0 a u.1 (subst (λ (x : EndpointRecord). RsStep s (Beat x) tick actions t) (sym u.2) step))
+
+pub heard_are_not_missed : HeardAreNotMissed
+heard_are_not_missed service r tick e = by (nat_lt 0 service.period) refl
+  where
+    late : 0 < service.period → tick - r.beat < 2 * service.period
+    late l = omega (arith, l, e)
+
+    by : (b : Bool) → nat_lt 0 service.period ≡ b → nat_lt 0 service.period && nat_le (2 * service.period) (tick - r.beat) ≡ false
+    by false h = and_left (nat_lt 0 service.period) (nat_le (2 * service.period) (tick - r.beat)) h
+    by true h = and_right (nat_lt 0 service.period) (nat_le (2 * service.period) (tick - r.beat)) (lt-leb (2 * service.period) (tick - r.beat) (late (ltb-true 0 service.period h)))

@@ -8,6 +8,10 @@ use Rattle.rs_core.specs.declared.fault.RsFault.TheVariants.{OldEndpoint}
 use Rattle.rs_core.specs.declared.plan.Plan.{Plan}
 use Rattle.rs_core.specs.declared.state.State.{State}
 use Rattle.rs_core.specs.declared.state.State.TheVariants.{Down, Up, Waiting, GaveUp}
+use Rattle.rs_core.specs.declared.state.Running.{Running}
+use Rattle.rs_core.specs.declared.finding.Sought.TheVariants.{Missed}
+use Rattle.rs_settings.specs.declared.service.Service.{Service}
+use Rattle.rs_core.specs.Finding.{is_sought}
 use Rattle.rs_core.specs.Machine.{asked}
 use Rattle.rs_core.specs.Planning.{IsPlanOf, starts_instance}
 use Rattle.rs_core.specs.Run.{RsRun}
@@ -62,3 +66,19 @@ abbrev pub OtherPlansKeepNext : Type 0
 OtherPlansKeepNext =
     (s t : RsRecord) (event : Event) (tick : ℕ) (actions : List Action) (p : Plan) → RsStep s event tick actions t →
     IsPlanOf s event tick p → starts_instance p ≡ false → t.next ≡ s.next
+
+-- Whether RS heard the service's instance, under this endpoint, at the tick. Services have the endpoints that they had.
+pub record BeatIsNoted (s t : RsRecord) (k tick : ℕ) (endpoint : EndpointRecord) : Type 0 where
+  pub heard : (r : Running) × (state_at t k ≡ Up r) × (r.endpoint ≡ endpoint) × (r.beat ≡ tick)
+  pub same : (j : ℕ) → endpoint_in_force (state_at t j) ≡ endpoint_in_force (state_at s j)
+  pub next : t.next ≡ s.next
+
+-- A law: RS notes a heartbeat of an instance that it counts.
+abbrev pub BeatsAreNoted : Type 0
+BeatsAreNoted =
+    (s t : RsRecord) (k tick : ℕ) (actions : List Action) (endpoint : EndpointRecord) → AreSingle s →
+    endpoint_in_force (state_at s k) ≡ Some endpoint → RsStep s (Beat endpoint) tick actions t → BeatIsNoted s t k tick endpoint
+
+-- A law: no heartbeat is missed of an instance that RS heard at the tick.
+abbrev pub HeardAreNotMissed : Type 0
+HeardAreNotMissed = (service : Service) (r : Running) (tick : ℕ) → r.beat ≡ tick → is_sought (Missed tick) service (Up r) ≡ false

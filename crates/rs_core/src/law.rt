@@ -3,7 +3,8 @@
 ghost use Rattle.rs_core.specs.Run.{StartsRise, LabelsAreSingleNumbered};
 ghost use Rattle.rs_core.specs.Says.{StepsSay, QuietStepsAreEmpty, LabelsAreFound};
 ghost use Rattle.rs_core.specs.Reading.{StepsGiveUp, TicksActWhenDue};
-ghost use Rattle.rs_core.specs.Late.{DeadAreUncounted, OtherPlansKeepNext, SingleStays, UncountedStayLate};
+ghost use Rattle.rs_core.specs.Late.{BeatsAreNoted, DeadAreUncounted, HeardAreNotMissed};
+ghost use Rattle.rs_core.specs.Late.{OtherPlansKeepNext, SingleStays, UncountedStayLate};
 ghost use Rattle.rs_core.specs.Numbering.{NumbersRise};
 ghost use Rattle.rs_core.specs.Renewal.{LabelsStaySingleNumbered, StartsRiseThroughRenewals};
 
@@ -52,4 +53,10 @@ pub fn deaths_are_final()
     ensures late { UncountedStayLate }
     ensures single { SingleStays }
     ensures plans { OtherPlansKeepNext }
+{}
+
+/// Laws: RS notes a heartbeat of an instance that it counts, and a tick doesn't judge an instance that RS heard at that tick.
+pub fn beats_are_noted()
+    ensures noted { BeatsAreNoted }
+    ensures judged { HeardAreNotMissed }
 {}

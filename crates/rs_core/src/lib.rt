@@ -24,7 +24,7 @@ pub use action::{Action, Actions};
 pub use event::Event;
 pub use fault::{NewFault, RenewFault, RsFault};
 pub use law::{
-    deaths_are_final, labels_are_single_numbered, numbers_rise, readings_hold,
+    beats_are_noted, deaths_are_final, labels_are_single_numbered, numbers_rise, readings_hold,
     renewals_keep_numbers, starts_rise, steps_say,
 };
 pub use numberer::{Numberer, SeqSpent};

@@ -1,5 +1,5 @@
 -- RS and the processes of its services agree after any moves.
-use Rattle.std.proofs.Common.{◌≡◌, ◌⊎◌, ◌+◌, ◌<◌, nat_lt, ℕ, Bool, true, false, not, is_some, cond, List, [], ◌∷◌, length, Option, Some, None, refl, sym, ap, ◌∙◌, subst, inl, inr, arith}
+use Rattle.std.proofs.Common.{◌≡◌, ◌⊎◌, ◌+◌, ◌<◌, nat_lt, ℕ, Bool, true, false, not, is_some, cond, List, [], ◌∷◌, length, Option, Some, None, refl, sym, ap, ◌∙◌, subst, inl, inr, arith, option_map}
 use Rattle.std.specs.List.{list_any, slice_get}
 use Rattle.std.proofs.Math.ListN.{set, length-set}
 use Rattle.std.proofs.lemmas.Bool.{and_cases, cases_eq, eq-eqb, le-ltb, lt-ltb, not-false, or_parts, true≢false, false≢true}
@@ -17,22 +17,23 @@ use Rattle.process_keeper.specs.declared.input.Input.{Input}
 use Rattle.process_keeper.specs.declared.input.Input.TheVariants.{Reaped, Reported}
 use Rattle.process_keeper.specs.declared.instance.Instance.{Instance}
 use Rattle.process_keeper.specs.declared.lifecycle.Lifecycle.{Lifecycle}
+use Rattle.process_keeper.specs.declared.keeper.Keeper.{Keeper}
 use Rattle.process_keeper.proofs.FollowLemmas.{following_is_inputs}
 use Rattle.rs_core.specs.declared.action.Action.{Action}
 use Rattle.rs_core.specs.declared.event.Event.{Event}
-use Rattle.rs_core.specs.declared.event.Event.TheVariants.{Death}
+use Rattle.rs_core.specs.declared.event.Event.TheVariants.{Beat, Death}
 use Rattle.rs_core.specs.Step.{RsStep}
 use Rattle.rs_core.specs.Late.{in_force, AreSingle}
 use Rattle.rs_core.specs.Planning.{starts_instance}
 use Rattle.rs_core.specs.Says.{StepSays}
 use Rattle.rs_core.specs.State.{RsRecord, state_at}
-use Rattle.rs_core.proofs.LateLemmas.{counted_within, dead_are_uncounted, next_is, other_plans_keep_next, step_single}
+use Rattle.rs_core.proofs.LateLemmas.{beats_are_noted, counted_within, dead_are_uncounted, next_is, other_plans_keep_next, step_single}
 use Rattle.rs_core.proofs.SaysLemmas.{steps_say}
 use Rattle.supervisor.specs.Following.{LabelsFollow, is_note}
 use Rattle.supervisor.specs.Telling.{Told, next_after_start}
 use Rattle.supervisor.specs.Moves.{Move, IsMove, IsNewSupervisor, IsReachableSupervisor, lifecycles, reaps}
-use Rattle.supervisor.specs.Moves.Move.{Tell, Report, Note, Write}
-use Rattle.supervisor.specs.Laws.{DeathsAreFinal, LeadersStay, OneIsCounted, SupervisorsAgree}
+use Rattle.supervisor.specs.Moves.Move.{Tell, Report, Vouch, Note, Write}
+use Rattle.supervisor.specs.Laws.{DeathsAreFinal, LeadersStay, OneIsCounted, SupervisorsAgree, VouchedAreHeard}
 use Rattle.supervisor.specs.declared.supervisor.Supervisor.{Supervisor}
 use Rattle.supervisor.proofs.FollowLemmas.{IsAlone, followed_alone, followed_keeps, is_within, set_cases, set_here, set_there}
 use Rattle.supervisor.proofs.NoteLemmas.{input_keeps, note_alone, note_wants, report_alone}
@@ -174,6 +175,18 @@ move_stands s t (Report k cause tick now) ((actions, (e, up, told)), (mid, (o, a
     told f h
     (ap length m ∙ length-set (lifecycles s) k (after_input o (Reported now)))
     (report_alone_at (lifecycles s) mid k now (o, at, a, m) h.alone)
+move_stands s t (Vouch k tick) ((pending, (e, up, (actions, step))), same) h =
+    let n = beats_are_noted s.rs t.rs k tick actions e h.single up step in
+    let says : StepSays s.rs actions t.rs = steps_say s.rs t.rs (Beat e) tick actions step in
+    let stands : Stands t.rs s.keeper.next (lifecycles s) =
+    record {
+      count = h.count ∙ sym says.count;
+      generations = h.generations ∙ sym n.next;
+      single = step_single s.rs t.rs actions says h.single;
+      wants = λ j p at. h.wants j p at ∙ ap (λ (o : Option EndpointRecord). option_map (λ (e : EndpointRecord). e.generation) o) (sym (n.same j));
+      alone = h.alone;
+    } in
+    subst (λ (x : Keeper). Stands t.rs x.next x.labels.items) (sym same) stands
 move_stands s t (Note k input) (n, takes, e, f) h =
     same_stands s.rs t.rs s.keeper.next t.keeper.next (lifecycles t) e f (note_stands s.rs s.keeper.next k input (lifecycles s) (lifecycles t) n takes h)
 move_stands s t (Write file) (l, e, f) h =
@@ -218,6 +231,11 @@ pub deaths_are_final : DeathsAreFinal
 deaths_are_final s t k cause tick now endpoint reached up ((actions, (e, is, told)), follows) =
     dead_are_uncounted s.rs t.rs k cause tick actions endpoint (reached_stands s reached).single up
     (subst (λ (x : EndpointRecord). RsStep s.rs (Death x cause) tick actions t.rs) (same_Some e endpoint (sym is ∙ up)) told.step)
+
+pub vouched_are_heard : VouchedAreHeard
+vouched_are_heard s t k tick reached ((pending, (e, up, (actions, step))), same) =
+    let n = beats_are_noted s.rs t.rs k tick actions e (reached_stands s reached).single up step in
+    (n.heard.0, n.heard.1, n.heard.3)
 
 -- ---- leaders
 -- Whether the label has an instance with this one's leader and generation.
@@ -272,6 +290,7 @@ move_keeps s t (Report j cause tick now) k i (told, (mid, takes, f)) n (p, b, at
   where
     again : Keeps mid k b → Keeps mid k i
     again (q, c, x, y, z, w) = (q, c, x, y, z ∙ l, w ∙ g)
+move_keeps s t (Vouch j tick) k i (told, same) n h = subst (λ (x : Keeper). Keeps x.labels.items k i) (sym same) h
 move_keeps s t (Note j input) k i (note, takes, e, f) n (p, b, at, is, l, g) =
     again (take_keeps (lifecycles s) (lifecycles t) j k input p b takes (not_reaped k j input n) at is)
   where

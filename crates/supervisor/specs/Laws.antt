@@ -12,10 +12,12 @@ use Rattle.process_keeper.specs.Sight.{IsTrueOf}
 use Rattle.process_keeper.specs.declared.instance.Instance.{Instance}
 use Rattle.process_keeper.specs.declared.lifecycle.Lifecycle.{Lifecycle}
 use Rattle.process_keeper.specs.declared.task.Task.TheVariants.{Fork}
+use Rattle.rs_core.specs.declared.state.State.TheVariants.{Up}
+use Rattle.rs_core.specs.declared.state.Running.{Running}
 use Rattle.rs_core.specs.Late.{endpoint_in_force, in_force, IsUncounted}
 use Rattle.rs_core.specs.State.{state_at}
 use Rattle.supervisor.specs.Moves.{Move, IsMove, IsReachableSupervisor, lifecycles, reaps}
-use Rattle.supervisor.specs.Moves.Move.{Report}
+use Rattle.supervisor.specs.Moves.Move.{Report, Vouch}
 use Rattle.supervisor.specs.declared.supervisor.Supervisor.{Supervisor}
 
 -- RS and the processes of its services agree.
@@ -49,6 +51,12 @@ abbrev pub DeathsAreFinal : Type 0
 DeathsAreFinal =
     (s t : Supervisor) (k cause tick now : ℕ) (endpoint : EndpointRecord) → IsReachableSupervisor s →
     endpoint_in_force (state_at s.rs k) ≡ Some endpoint → IsMove s (Report k cause tick now) t → IsUncounted t.rs endpoint
+
+-- A law: RS has heard an instance, at the tick, that it was vouched for.
+abbrev pub VouchedAreHeard : Type 0
+VouchedAreHeard =
+    (s t : Supervisor) (k tick : ℕ) → IsReachableSupervisor s → IsMove s (Vouch k tick) t →
+    (r : Running) × (state_at t.rs k ≡ Up r) × (r.beat ≡ tick)
 
 -- A law: a label keeps its leader until that is reaped, whatever the events.
 abbrev pub LeadersStay : Type 0

@@ -13,12 +13,13 @@ use Rattle.rs_core.specs.declared.event.Event.{Event}
 use Rattle.rs_core.specs.Late.{in_force}
 use Rattle.rs_core.specs.State.{state_at}
 use Rattle.supervisor.specs.Following.{LabelsFollow, ReportsAndFollows, is_note}
-use Rattle.supervisor.specs.Telling.{ReportIsTold, Told}
+use Rattle.supervisor.specs.Telling.{ReportIsTold, Told, VouchesAt}
 use Rattle.supervisor.specs.declared.supervisor.Supervisor.{Supervisor}
 
 pub data Move : Type 0 where
   Tell : Event → ℕ → ℕ → Move  -- an event of RS: its tick, and the deadline of instances that it stops
   Report : ℕ → ℕ → ℕ → ℕ → Move  -- a label's instance died: the label, the cause, the tick and the time
+  Vouch : ℕ → ℕ → Move  -- RS hears a heartbeat for a pending start: the label and the tick
   Note : ℕ → Input → Move  -- a label takes an input
   Write : ℕ → Move  -- the file has this generation
 
@@ -33,6 +34,7 @@ IsMove s (Tell event tick deadline) t =
 IsMove s (Report k cause tick now) t =
     ((actions : List Action) × ReportIsTold s.rs s.keeper.next s.keeper.file k cause tick actions t.rs t.keeper.next) ×
     ReportsAndFollows t.rs k now (lifecycles s) (lifecycles t)
+IsMove s (Vouch k tick) t = VouchesAt s.rs (lifecycles s) k tick true t.rs × (t.keeper ≡ s.keeper)
 IsMove s (Note k input) t =
     (is_note input ≡ true) × TakesAt (lifecycles s) k input true (lifecycles t) × (t.rs ≡ s.rs) × (t.keeper.next ≡ s.keeper.next)
 IsMove s (Write file) t = (lifecycles t ≡ lifecycles s) × (t.rs ≡ s.rs) × (t.keeper.next ≡ s.keeper.next)

@@ -1,16 +1,18 @@
 -- Events that RS takes, and those that a supervisor refuses.
-use Rattle.std.specs.Prelude.{◌≡◌, ◌⊎◌, ℕ, nat_lt, Bool, true, false, not, ◌&&◌, List, Some, slice_get, if◌then◌else◌}
+use Rattle.std.specs.Prelude.{◌≡◌, ◌≢◌, ◌⊎◌, ℕ, nat_lt, Bool, true, false, not, ◌&&◌, List, Some, None, slice_get, if◌then◌else◌}
 use Rattle.ds_names.specs.Endpoint.{EndpointRecord}
 use Rattle.process_keeper.specs.Inputs.{is_accepted}
-use Rattle.process_keeper.specs.Order.{next_given}
-use Rattle.process_keeper.specs.declared.input.Input.TheVariants.{Reported}
+use Rattle.process_keeper.specs.Order.{AcceptsAt, next_given}
+use Rattle.process_keeper.specs.declared.input.Input.TheVariants.{Failed, Reported}
 use Rattle.process_keeper.specs.declared.lifecycle.Lifecycle.{Lifecycle}
 use Rattle.rs_core.specs.declared.action.Action.{Action}
 use Rattle.rs_core.specs.declared.event.Event.{Event}
-use Rattle.rs_core.specs.declared.event.Event.TheVariants.{Death}
+use Rattle.rs_core.specs.declared.event.Event.TheVariants.{Beat, Death}
+use Rattle.rs_core.specs.declared.fault.RsFault.{RsFault}
 use Rattle.rs_core.specs.declared.fault.RsFault.TheVariants.{NoRoom}
 use Rattle.rs_core.specs.declared.plan.Plan.{Plan}
-use Rattle.rs_core.specs.Judging.{refusal}
+use Rattle.rs_core.specs.Judging.{refusal, asks, has_actions}
+use Rattle.rs_core.specs.Machine.{asked}
 use Rattle.rs_core.specs.Late.{endpoint_in_force}
 use Rattle.rs_core.specs.Planning.{IsPlanOf, acts, starts_instance}
 use Rattle.rs_core.specs.State.{RsRecord, state_at}
@@ -66,3 +68,19 @@ abbrev pub IsReportRefused : RsRecord → List Lifecycle → ℕ → ℕ → ℕ
 IsReportRefused rs labels next file k cause tick fault =
     ((fault ≡ NotDead) × NoneDied rs labels k) ⊎
     ((endpoint : EndpointRecord) × IsDeadAt rs labels k endpoint × IsRefusedBy rs next file (Death endpoint cause) tick fault)
+
+-- Whether RS hears a heartbeat of the label's instance because its start is pending. A label that accepts `Failed` has a pending start.
+abbrev pub VouchesAt : RsRecord → List Lifecycle → ℕ → ℕ → Bool → RsRecord → Type 0
+VouchesAt rs labels k tick true after =
+    AcceptsAt labels k (Failed 0) true ×
+    ((endpoint : EndpointRecord) × (endpoint_in_force (state_at rs k) ≡ Some endpoint) ×
+    ((actions : List Action) × RsStep rs (Beat endpoint) tick actions after))
+VouchesAt rs labels k tick false after =
+    (AcceptsAt labels k (Failed 0) false ⊎ (endpoint_in_force (state_at rs k) ≡ None)) × (after ≡ rs)
+
+-- Whether RS refuses that heartbeat, which has no actions and so takes no memory.
+abbrev pub IsVouchRefused : RsRecord → ℕ → ℕ → SupervisorFault → Type 0
+IsVouchRefused rs k tick fault =
+    (endpoint : EndpointRecord) × (endpoint_in_force (state_at rs k) ≡ Some endpoint) ×
+    ((cause : RsFault) × (fault ≡ Refused cause) × (cause ≢ NoRoom → refusal rs (Beat endpoint) tick ≡ Some cause) ×
+    (cause ≡ NoRoom → asks has_actions (asked rs (Beat endpoint) tick) ≡ true))

@@ -7,7 +7,7 @@ ghost use Rattle.process_keeper.specs.Doing.{IsSettled};
 ghost use Rattle.process_keeper.specs.Order.{IsFirst, IsWritten, MayBeNext, TakesAt, is_rest};
 ghost use Rattle.process_keeper.specs.Sight.{service};
 ghost use Rattle.supervisor.specs.Following.{LabelsFollow, ReportsAndFollows, is_note};
-ghost use Rattle.supervisor.specs.Telling.{IsDeadAt, IsRefusedBy, IsReportRefused, NoneDied, ReportIsTold, Told};
+ghost use Rattle.supervisor.specs.Telling.{IsDeadAt, IsRefusedBy, IsReportRefused, IsVouchRefused, NoneDied, ReportIsTold, Told, VouchesAt};
 
 use crate::fault::SupervisorFault;
 use crate::following::{endpoint_at, follow, is_note};
@@ -95,6 +95,26 @@ impl Supervisor {
                 Err(fault) => Err(fault),
             },
             None => Err(SupervisorFault::NotDead),
+        }
+    }
+
+    /// Has RS hear a heartbeat of the label's instance, if its start is pending. So the tick doesn't judge an instance that hasn't begun.
+    /// Returns whether RS heard one. Refuses as RS refuses the heartbeat; then nothing changes.
+    pub fn vouch(&mut self, label: usize, tick: u64) -> Result<bool, SupervisorFault>
+        ensures heard { IfOk result (λ heard. VouchesAt self.old.rs self.old.keeper.labels.items label tick heard self.new.rs) }
+        ensures refused { IfErr result (λ fault. IsVouchRefused self.old.rs label tick fault) }
+        ensures unchanged { OnErr result (self.new.rs ≡ self.old.rs) }
+        ensures keeper { self.new.keeper ≡ self.old.keeper }
+    {
+        if !self.keeper.accepts(label, Input::Failed(0)) {
+            return Ok(false);
+        }
+        match endpoint_at(&self.rs, label) {
+            Some(endpoint) => match self.rs.event(Event::Beat(endpoint), tick) {
+                Ok(_) => Ok(true),
+                Err(fault) => Err(SupervisorFault::Refused(fault)),
+            },
+            None => Ok(false),
         }
     }
 
