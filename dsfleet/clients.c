@@ -22,6 +22,13 @@ static void drop_client(struct clients *clients, size_t at) {
     if (at < clients->first) clients->first--;
 }
 
+/* Whether readers have half of the places: the others are for those that write. */
+static bool readers_have_half(const struct clients *clients) {
+    size_t readers = 0;
+    for (size_t i = 0; i < clients->count; i++) readers += clients->client[i]->role == ROLE_READER;
+    return readers >= clients->limits.clients / 2;
+}
+
 bool clients_add(struct clients *clients, int socket) {
     struct client *client = clients->count < clients->limits.clients ? calloc(1, sizeof *client) : NULL;
     if (!client) {
@@ -30,7 +37,8 @@ bool clients_add(struct clients *clients, int socket) {
     }
     client->socket = socket;
     client->role = rights_of(&clients->rights, socket);
-    client->wire.ended = client->failed = client->role == ROLE_NOBODY;
+    bool is_reader = client->role == ROLE_READER;
+    client->wire.ended = client->failed = client->role == ROLE_NOBODY || (is_reader && readers_have_half(clients));
     client->moved = client->heard = clock_now();
     clients->client[clients->count++] = client;
     return true;

@@ -63,7 +63,8 @@ struct clients {
 };
 
 /* Adds a client by a socket, which is closed with the client. Returns false, and closes the socket, if there are too
- * many clients or memory runs out. A process without rights is a client for as long as its hang-up takes. */
+ * many clients or memory runs out. A process without rights, or a reader where readers have half of the places, is a
+ * client for as long as its hang-up takes. */
 bool clients_add(struct clients *clients, int socket);
 /* Drops clients that sent nothing for as long as the limit says, are owed no answer, and listen to nothing. */
 void clients_drop_idle(struct clients *clients);

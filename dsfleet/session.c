@@ -6,12 +6,16 @@
 
 /* ---- rights ---- */
 
+static bool is_change(const struct request *it) {
+    static const char *const changes[] = {"publish", "delete", "sweep", "offer", NULL};
+    return request_is_any(it, changes) && memchr(it->line, ' ', it->length);
+}
+
 /* The word by which a line is refused before the store reads it, or NULL. An offer has no sender. */
 static const char *refusal_of(const struct client *client, const struct request *line) {
-    static const char *const changes[] = {"publish", "delete", "sweep", "offer", NULL};
     struct request it = *line;
     const char *sender;
-    if (!request_is_any(&it, changes) || !memchr(it.line, ' ', it.length)) return NULL;
+    if (!is_change(&it)) return NULL;
     if (client->role != ROLE_WRITER) return "notallowed";
     size_t length = request_is(&it, "offer") ? 0 : request_take(&it, &sender);
     bool is_own = length && strlen(client->endpoint) == length && !memcmp(sender, client->endpoint, length);
@@ -25,6 +29,16 @@ static bool is_owned(const struct clients *clients, const struct client *but, lo
         if (client != but && !client->gone && subs_have(client->wire.owns, sub)) return true;
     }
     return false;
+}
+
+/* Whether readers have made half of the subscriptions that there may be: the others are for those that write. */
+static bool readers_have_half(const struct clients *clients) {
+    int count = 0;
+    for (size_t i = 0; i < clients->count; i++) {
+        const struct client *client = clients->client[i];
+        for (long sub = 0; sub < WIRE_SUBS; sub++) count += client->role == ROLE_READER && !client->gone && subs_have(client->wire.owns, sub);
+    }
+    return count >= WIRE_SUBS / 2;
 }
 
 /* Returns a number that no client has, or -1. Clients that choose numbers begin low, so this begins high. */
@@ -102,6 +116,8 @@ static bool answer_subscribe(struct turn *turn, const struct request *it) {
     if (is_chosen && sub < 0) return refuse(turn, "toomany");
     if (sub < 0 || !query.left) return answer_store(turn, it);
     if (is_owned(turn->clients, turn->client, sub)) return refuse(turn, "notallowed");
+    bool is_one_more = turn->client->role == ROLE_READER && !subs_have(wire->owns, sub);
+    if (is_one_more && readers_have_half(turn->clients)) return refuse(turn, "toomany");
     bool fits = rewrite(&rewritten, sub, &query, subs_have(wire->owns, sub)) && answer_line(turn, rewritten.bytes, rewritten.length);
     text_free(&rewritten);
     if (!fits) return false;
@@ -161,8 +177,7 @@ void session_carry_out(struct clients *clients, struct client *client, const cha
         text_free(&client->held);                                             /* nobody reads the answer */
         return;
     }
-    if (!is_whole || !lines_is_short(line, length) || refusal_of(client, &it)) return;
-    if (request_is(&it, "subscribe")) return; /* the subscription would be nobody's */
+    if (!is_whole || !is_change(&it) || refusal_of(client, &it)) return; /* a subscription would be nobody's */
     lines_answer(clients->store, line, length, NULL, &said);
     clients_owe(clients, said.owed);
 }

@@ -163,9 +163,10 @@ struct comparing {
     struct entry_id compared;             /* and at the comparing before, */
     struct entry_id newest;               /* at which the stream had this one */
     struct entry_id witnesses[WITNESSES]; /* in a round of comparing: those that are looked for */
-    struct digest digest;                 /* the last one, */
-    uint64_t digested;                    /* and the store's position then; not_digested: there is none */
-    uint64_t digest_at;                   /* while entries come, no sooner than this */
+    uint64_t digested;                    /* the store's position at the last digest of others' entries, or at rest; not_digested: there is none */
+    struct digest marked;                 /* of what is held up to the entry that this bridge marked last; at: 0-0 until it is read; mark: 0, there is none */
+    uint64_t merges;                      /* of the store when it was taken */
+    uint64_t marked_at;                   /* when an entry was last marked here, or a digest taken at another one's mark */
     unsigned long long beat;              /* of the digests that are published */
     unsigned rest, wait;                  /* comparings until it tells all again to those that differ, and how many these last were */
     struct peers peers;
@@ -173,9 +174,13 @@ struct comparing {
 
 /* The entries for which the next look will look; 0-0 where there are fewer. */
 void comparing_witnesses(const struct ds_fleet *fleet, struct entry_id ids[WITNESSES]);
-/* Another entry is about to be read. While entries come, all bridges take a digest where the second of the ids changes,
- * so that they take it at the same entry. */
-void comparing_next(struct ds_fleet *fleet, struct entry_id next);
+/* While entries come, one in a second is marked, and all bridges take a digest there. An entry is about to be added that
+ * tells the last of what is untold: takes the digest of what is held now, and returns the entry's mark; 0: it has none. */
+unsigned long long comparing_mark(struct ds_fleet *fleet);
+/* A marked entry was read, of this bridge or of another one. */
+void comparing_read(struct ds_fleet *fleet, unsigned long long mark, bool is_own);
+/* Forgets the mark: the entries of its question may not all be there. */
+void comparing_unmark(struct ds_fleet *fleet);
 /* The server, or its stream, is another one, which has this. */
 void comparing_begin_anew(struct comparing *comparing, const struct stock *stock);
 

@@ -14,7 +14,9 @@
  * A look by itself, without digests, comes between for marks of changes that the store held already. */
 #include "bridge.h"
 #include "clock.h"
+#include <stdio.h>
 #include <string.h>
+#include <sys/random.h>
 
 enum { LONGEST_REST = 32 /* comparings between two tellings of all to others that go on differing */ };
 
@@ -30,33 +32,64 @@ enum { LOOKED_ENTRIES = LOOK_QUESTIONS, LOOKED_AT };
 
 /* ---- digests ---- */
 
+static enum ds_fleet_word take_digest(struct ds_fleet *fleet, struct digest *digest) {
+    char front[DS_FLEET_ID];
+    write_entry_id(front, digest->at);
+    if (digest->mark) snprintf(front, sizeof front, "%llu", digest->mark);
+    return items_digest(&fleet->items, front, &digest->value);
+}
+
 /* Takes a digest of what is held at the last entry read. If own news isn't in an entry up to there, others hold
  * something else at that entry, and nothing is taken. */
-static enum ds_fleet_word keep_digest(struct ds_fleet *fleet) {
+static enum ds_fleet_word keep_digest(struct ds_fleet *fleet, unsigned long long mark) {
     struct comparing *comparing = &fleet->comparing;
     const struct reading *reading = &fleet->reading;
-    struct entry_id at = is_above(reading->read_up_to, reading->last) ? reading->read_up_to : reading->last;
+    struct digest digest = {.at = reading->last, .mark = mark};
+    if (!mark && is_above(reading->read_up_to, digest.at)) digest.at = reading->read_up_to;
     enum ds_fleet_word word = items_gather(&fleet->items);
-    char entry[DS_FLEET_ID];
     if (word != DS_FLEET_INSTEP) return word;
-    if (fleet->items.untold.length || is_above(fleet->telling.trail.last, at)) return DS_FLEET_INSTEP;
-    write_entry_id(entry, at);
-    bool is_taken = comparing->digested == fleet->items.position && is_same_entry(comparing->digest.at, at);
-    if (!is_taken) word = items_digest(&fleet->items, entry, &comparing->digest.value);
+    if (fleet->items.untold.length || is_above(fleet->telling.trail.last, digest.at)) return DS_FLEET_INSTEP;
+    if (comparing->digested == fleet->items.position && peers_own(&comparing->peers, &digest)) return DS_FLEET_INSTEP;
+    word = take_digest(fleet, &digest);
     if (word != DS_FLEET_INSTEP) return word;
     comparing->digested = fleet->items.position;
-    comparing->digest.at = at;
-    peers_keep(&comparing->peers, comparing->digest);
+    peers_keep(&comparing->peers, digest);
     return DS_FLEET_INSTEP;
 }
 
-void comparing_next(struct ds_fleet *fleet, struct entry_id next) {
-    bool is_same_second = next.first / PERIOD == fleet->reading.last.first / PERIOD;
-    if (!fleet->state.caught_up || is_same_second || clock_now() < fleet->comparing.digest_at) return;
-    /* A bridge that reads old entries needn't take one for each second of them. */
-    fleet->comparing.digest_at = clock_now() + PERIOD / 2;
-    keep_digest(fleet);
+/* Keeps the digest of one's own mark, once its entry was read and all of its question was answered. */
+static void keep_marked(struct comparing *comparing) {
+    struct digest *marked = &comparing->marked;
+    if (marked->mark && !is_same_entry(marked->at, NO_ENTRY)) peers_keep(&comparing->peers, *marked);
+    marked->mark = 0;
 }
+
+unsigned long long comparing_mark(struct ds_fleet *fleet) {
+    struct comparing *comparing = &fleet->comparing;
+    struct digest *marked = &comparing->marked;
+    uint64_t time = clock_now();
+    unsigned long long mark;
+    if (time < comparing->marked_at + PERIOD || getrandom(&mark, sizeof mark, GRND_NONBLOCK) != sizeof mark) return 0;
+    keep_marked(comparing);
+    *marked = (struct digest){.mark = mark};
+    comparing->marked_at = time;
+    comparing->merges = fleet->items.merges;
+    if (take_digest(fleet, marked) != DS_FLEET_INSTEP) marked->mark = 0;
+    return marked->mark;
+}
+
+/* Another one's entry before one's own mark is in a merge since then, and not in its digest, which doesn't count. A bridge
+ * that reads old entries needn't take one at each mark. */
+void comparing_read(struct ds_fleet *fleet, unsigned long long mark, bool is_own) {
+    struct comparing *comparing = &fleet->comparing;
+    bool is_marked = is_own && mark == comparing->marked.mark && comparing->merges == fleet->items.merges;
+    if (is_marked) comparing->marked.at = fleet->reading.last;
+    if (is_own || !fleet->state.caught_up || clock_now() < comparing->marked_at + PERIOD / 2) return;
+    comparing->marked_at = clock_now();
+    keep_digest(fleet, mark);
+}
+
+void comparing_unmark(struct ds_fleet *fleet) { fleet->comparing.marked.mark = 0; }
 
 /* ---- asking ---- */
 
@@ -105,7 +138,8 @@ static enum ds_fleet_word ask_to_compare(struct ds_fleet *fleet) {
     bool is_at_rest = is_same_entry(comparing->compared, fleet->reading.last);
     comparing->due_at = clock_now() + PERIOD;
     enum ds_fleet_word word = items_retry(&fleet->items);
-    if (word == DS_FLEET_INSTEP && is_at_rest) word = keep_digest(fleet);
+    keep_marked(comparing);
+    if (word == DS_FLEET_INSTEP && is_at_rest) word = keep_digest(fleet, 0);
     if (word != DS_FLEET_INSTEP) return word;
     comparing->compared = fleet->reading.last;
     ask_for_look(fleet);

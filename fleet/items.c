@@ -295,6 +295,7 @@ static enum ds_fleet_word merge_lines(struct items *items, const char *entry, co
     struct ds_request request = {.command = DS_MERGE, .text_length = length};
     struct ds_answer answer;
     *done = 0;
+    items->merges++;
     if (ds_call(items->store, &request, lines, length, &answer)) return DS_FLEET_CLOSED;
     if (answer.word == DS_REFUSED && answer.refusal == DS_NOROOM) return DS_FLEET_NOROOM;
     if (answer.word == DS_NOREQUEST || answer.word == DS_REFUSED) {

@@ -20,6 +20,7 @@ struct items {
     struct text scope;              /* the pattern */
     uint8_t kinds;                  /* 0: everything */
     uint64_t incarnation, position; /* how far the journal was read */
+    uint64_t merges;                /* of others' items, or of items that were refused */
     struct text untold;             /* the lines of changes that took effect, until a server has acknowledged them */
     uint64_t gathered;              /* bytes that untold ever got, and marks that wait for a write */
     size_t fold_above;              /* bytes of untold above which items_fold is worth the work, if these are more than FOLD_ABOVE of items.c */

@@ -13,11 +13,13 @@ enum {
     HEX_DIGITS = 16 /* of a digest */
 };
 
-static const char form[] = "2-"; /* how digests are made, at the front of each: those made in another way aren't compared */
+static const char form[] = "3-"; /* how digests are made, at the front of each: those made in another way aren't compared */
+
+static bool is_of_same(const struct digest *a, const struct digest *b) { return is_same_entry(a->at, b->at) && a->mark == b->mark; }
 
 void peers_keep(struct peers *peers, struct digest digest) {
     struct digest *newest = peers->own_count ? &peers->own[(peers->own_count - 1) % OWN_DIGESTS] : NULL;
-    if (newest && is_same_entry(newest->at, digest.at)) {
+    if (newest && is_of_same(newest, &digest)) {
         *newest = digest;
     } else {
         peers->own[peers->own_count++ % OWN_DIGESTS] = digest;
@@ -27,16 +29,22 @@ void peers_keep(struct peers *peers, struct digest digest) {
 bool peers_write(const struct peers *peers, unsigned long long beat, char text[DIGEST_TEXT]) {
     if (!peers->own_count) return false;
     const struct digest *newest = &peers->own[(peers->own_count - 1) % OWN_DIGESTS];
-    snprintf(text, DIGEST_TEXT, "%s%016llx-%llu-%llu-%llu", form, newest->value, beat, newest->at.first, newest->at.second);
+    snprintf(text, DIGEST_TEXT, "%s%016llx-%llu-%llu-%llu-%llu", form, newest->value, beat, newest->mark, newest->at.first, newest->at.second);
     return true;
 }
 
 void peers_forget_own(struct peers *peers) {
     peers->own_count = 0;
-    peers->apart = NO_ENTRY;
+    peers->apart = (struct digest){.mark = 0};
 }
 
-/* Reads `2-DIGEST-BEAT-FIRST-SECOND`. */
+/* Reads a number and the `-` after it, and returns what follows; NULL: it is something else. */
+static const char *read_part(const char *text, unsigned long long *number) {
+    size_t digits = text ? read_digits(text, strlen(text), ULLONG_MAX, number) : 0;
+    return digits && text[digits] == '-' ? text + digits + 1 : NULL;
+}
+
+/* Reads `3-DIGEST-BEAT-MARK-FIRST-SECOND`. */
 static bool read_digest(const char *text, struct digest *digest, unsigned long long *beat) {
     char hex[HEX_DIGITS + 1] = "";
     if (!text_begins(text, strlen(text), form)) return false;
@@ -44,9 +52,8 @@ static bool read_digest(const char *text, struct digest *digest, unsigned long l
     if (strspn(text, "0123456789abcdef") != HEX_DIGITS || text[HEX_DIGITS] != '-') return false;
     memcpy(hex, text, HEX_DIGITS);
     digest->value = strtoull(hex, NULL, 16);
-    const char *rest = text + HEX_DIGITS + 1;
-    size_t digits = read_digits(rest, strlen(rest), ULLONG_MAX, beat);
-    return digits && rest[digits] == '-' && read_entry_id(rest + digits + 1, &digest->at);
+    const char *id = read_part(read_part(text + HEX_DIGITS + 1, beat), &digest->mark);
+    return id && read_entry_id(id, &digest->at);
 }
 
 static struct peer *peer_of(struct peers *peers, const char *id) {
@@ -60,21 +67,22 @@ static struct peer *peer_of(struct peers *peers, const char *id) {
     return peer;
 }
 
-/* Returns the digest of one's own at an entry, or NULL. */
-static const struct digest *own_digest(const struct peers *peers, struct entry_id at) {
+const struct digest *peers_own(const struct peers *peers, const struct digest *other) {
     unsigned long kept = peers->own_count < OWN_DIGESTS ? peers->own_count : OWN_DIGESTS;
     for (unsigned long i = 0; i < kept; i++) {
-        if (is_same_entry(peers->own[i].at, at)) return &peers->own[i];
+        if (is_of_same(&peers->own[i], other)) return &peers->own[i];
     }
     return NULL;
 }
 
-/* Compares a peer's digest with the own one of the same entry. If there is none, the last result stays. */
+/* Compares a peer's digest with the own one of the same entry. If there is none, the last result stays. At a marked entry
+ * that is the last one, a digest by its id is the later one. */
 static void judge_digest(struct peers *peers, struct peer *peer) {
-    const struct digest *own = own_digest(peers, peer->newest.at);
+    const struct digest *own = peers_own(peers, &peer->newest);
     if (!own) return;
     peer->differs = own->value == peer->newest.value ? 0 : peer->differs + 1;
-    if (peer->differs && is_above(own->at, peers->apart)) peers->apart = own->at;
+    bool is_later = is_above(own->at, peers->apart.at) || (is_same_entry(own->at, peers->apart.at) && !own->mark);
+    if (peer->differs && is_later) peers->apart = *own;
 }
 
 static void compare_digest(struct peers *peers, const char *me, const char *id, const char *text) {
@@ -94,10 +102,10 @@ static void compare_digest(struct peers *peers, const char *me, const char *id, 
 /* Whether no other one is to tell all in place of this one: of those that hold the same at the last entry at which others
  * differ, the first by name does. A bridge that waits has a digest of an earlier entry. */
 static bool is_first(const struct peers *peers, const char *me) {
-    const struct digest *own = own_digest(peers, peers->apart);
+    const struct digest *own = peers_own(peers, &peers->apart);
     for (size_t i = 0; own && i < peers->count; i++) {
         const struct peer *peer = &peers->peer[i];
-        bool is_same = is_same_entry(peer->newest.at, own->at) && peer->newest.value == own->value;
+        bool is_same = is_of_same(&peer->newest, own) && peer->newest.value == own->value;
         if (is_same && peer->still < DEAD && strcmp(peer->id, me) < 0) return false;
     }
     return true;

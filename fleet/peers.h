@@ -2,7 +2,8 @@
  *
  * Two digests can be compared only if both were taken after the same entries were read, with nothing else held. So each
  * digest names the entry at which it was taken, and a bridge keeps some of its own for peers that took theirs a little
- * earlier. */
+ * earlier. At a marked entry all hash its mark first, since who adds it has to take its digest before the entry has an id;
+ * at any other, its id. */
 #ifndef DS_FLEET_PEERS_H
 #define DS_FLEET_PEERS_H
 
@@ -12,10 +13,14 @@ enum {
     PEERS = 128,      /* others whose digests are compared */
     OWN_DIGESTS = 8,  /* the newest ones, which are kept */
     PEER_ID = 33,     /* bytes of the name of a run, with its zero */
-    DIGEST_TEXT = 96  /* bytes of a digest as it is published, with its zero */
+    DIGEST_TEXT = 112 /* bytes of a digest as it is published, with its zero */
 };
 
-struct digest { struct entry_id at; unsigned long long value; };
+struct digest {
+    struct entry_id at;
+    unsigned long long mark; /* of the entry; 0: it was taken by the entry's id */
+    unsigned long long value;
+};
 
 /* Another bridge. */
 struct peer {
@@ -33,12 +38,14 @@ struct peers {
     struct peer peer[PEERS];
     size_t count;
     unsigned differing;    /* others that hold something else */
-    struct entry_id apart; /* the last entry at which one of them does */
-    bool is_first;         /* no other one that holds the same at that entry has a lesser name */
+    struct digest apart;   /* the last one of one's own from which one of them differs */
+    bool is_first;         /* no other one that holds the same at its entry has a lesser name */
 };
 
 /* Keeps a digest of one's own. */
 void peers_keep(struct peers *peers, struct digest digest);
+/* Returns the digest of one's own at the same entry and mark as another one, or NULL. */
+const struct digest *peers_own(const struct peers *peers, const struct digest *other);
 /* Writes the newest own digest as others read it. Returns false if there is none. */
 bool peers_write(const struct peers *peers, unsigned long long beat, char text[DIGEST_TEXT]);
 /* Forgets the digests of one's own: their entries are of another stream. */

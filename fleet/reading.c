@@ -12,6 +12,7 @@
  *   GAP              | the connections end                | GAP: what was read past it hides it from the next reading
  *   BEHIND, END, GAP | everything is to be read once more | BEHIND: from the first entry on */
 #include "bridge.h"
+#include <limits.h>
 #include <stdio.h>
 #include <string.h>
 
@@ -39,6 +40,12 @@ void reading_ask(struct ds_fleet *fleet) {
     link_ask(listener, "HGET %s:snapshot at", fleet->stream);
 }
 
+/* The mark that an answer is, or 0. */
+static unsigned long long mark_of(const redisReply *answer) {
+    unsigned long long mark = 0;
+    return is_text(answer) && read_digits(answer->str, answer->len, ULLONG_MAX, &mark) == answer->len ? mark : 0;
+}
+
 static enum ds_fleet_word take_entry(struct ds_fleet *fleet, const redisReply *entry) {
     struct reading *reading = &fleet->reading;
     const redisReply *name = is_list_of(entry, ENTRY_PARTS) ? entry->element[ENTRY_ID] : NULL;
@@ -46,10 +53,10 @@ static enum ds_fleet_word take_entry(struct ds_fleet *fleet, const redisReply *e
     if (!is_text(name) || !read_entry_id(name->str, &id)) return server_puzzles(fleet, "no entry of a stream");
     const redisReply *fields = entry->element[ENTRY_FIELDS], *from = field_of(fields, "from"), *lines = field_of(fields, "items");
     enum ds_fleet_word word = DS_FLEET_INSTEP;
-    comparing_next(fleet, id);
+    bool is_own = is_text(from) && !strcmp(from->str, fleet->me);
     if (!is_text(lines)) {
         items_unread_entry(&fleet->items, name->str);
-    } else if (is_text(from) && !strcmp(from->str, fleet->me)) {
+    } else if (is_own) {
         items_note(&fleet->items, lines->str, lines->len);
         if (fleet->server.round) fleet->server.teller.quiet = false; /* the server answers the teller right after this */
     } else {
@@ -60,6 +67,8 @@ static enum ds_fleet_word take_entry(struct ds_fleet *fleet, const redisReply *e
     reading->last = id;
     text_drop(&reading->said, reading->said.length);
     trail_add(&reading->trail, id);
+    unsigned long long mark = mark_of(field_of(fields, "mark"));
+    if (mark) comparing_read(fleet, mark, is_own);
     return word;
 }
 

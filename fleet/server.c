@@ -52,6 +52,7 @@ static void lengthen_pause(struct server *server) {
 static void cut_rounds(struct ds_fleet *fleet) {
     fleet->server.round = NULL;
     telling_cut(&fleet->telling);
+    comparing_unmark(fleet);
     reading_cut(&fleet->reading);
     fleet->compacting.state = COMPACTING_RESTS;
 }

@@ -3,7 +3,7 @@
  *   state       | event                           | becomes, and does
  *   ------------+---------------------------------+--------------------------------------------------------------------
  *   NEWS        | asked                           | NEWS: asks to add `sent` bytes of the untold, in parts
- *   NEWS        | a part wasn't added             | NEWS: denied, and nothing counts as told
+ *   NEWS        | a part wasn't added             | NEWS, or ADDED: denied; those before it count as told, or wait for replicas
  *   NEWS        | each was added, replicas enough | NEWS: these bytes count as told
  *   NEWS        | .. too few replicas             | ADDED: denied, but not before they had their time
  *   NEWS        | .. an error instead of replicas | ADDED: denied
@@ -60,7 +60,9 @@ static void ask_to_add(struct ds_fleet *fleet) {
     const char *lines;
     fleet->telling.sent = 0;
     for (size_t length; (length = take_part(fleet, &lines)) > 0;) {
-        link_ask(&fleet->server.teller, "XADD %s:items * from %s items %b", fleet->stream, fleet->me, lines, length);
+        unsigned long long mark = fleet->telling.sent == fleet->items.untold.length ? comparing_mark(fleet) : 0;
+        link_ask(&fleet->server.teller, mark ? "XADD %s:items * from %s items %b mark %llu" : "XADD %s:items * from %s items %b", fleet->stream,
+                 fleet->me, lines, length, mark);
     }
     link_ask(&fleet->server.teller, "XLEN %s:items", fleet->stream);
     if (!fleet->telling.parts) link_ask(&fleet->server.teller, "HINCRBY %s:digests waits 1", fleet->stream);
@@ -147,19 +149,30 @@ static enum ds_fleet_word ask_to_tell(struct ds_fleet *fleet) {
     return DS_FLEET_INSTEP;
 }
 
-/* Each part has to be there, or the counter: else all of it is sent again. */
+/* The parts before the first that wasn't added are there, and wait for their replicas if there are any; the others are sent
+ * again. */
+static enum ds_fleet_word keep_added(struct ds_fleet *fleet, unsigned added) {
+    struct telling *telling = &fleet->telling;
+    const struct text *untold = &fleet->items.untold;
+    const redisReply *answer = fleet->server.teller.answers[added];
+    comparing_unmark(fleet);
+    telling->sent = 0;
+    for (unsigned i = 0; i < added; i++) telling->sent += part_of(untold->bytes + telling->sent, untold->length - telling->sent);
+    if (added && telling->replicas) telling->state = TELLING_ADDED;
+    else if (added) count_as_told(fleet);
+    return is_error(answer) ? server_denied(fleet, answer) : server_puzzles(fleet, "no entry was added");
+}
+
 static enum ds_fleet_word note_added(struct ds_fleet *fleet) {
     struct telling *telling = &fleet->telling;
     struct redisReply **answers = fleet->server.teller.answers;
-    for (unsigned i = 0; i < telling->parts; i++) {
-        if (is_error(answers[i])) return server_denied(fleet, answers[i]);
-        if (!is_text(answers[i])) return server_puzzles(fleet, "no entry was added");
-        trail_add(&telling->trail, id_of(answers[i]));
-    }
-    const redisReply *counter = telling->parts ? NULL : answers[1];
+    unsigned added = 0;
+    for (; added < telling->parts && is_text(answers[added]); added++) trail_add(&telling->trail, id_of(answers[added]));
+    fleet->state.entries_told += added;
+    if (added < telling->parts) return keep_added(fleet, added);
+    const redisReply *counter = added ? NULL : answers[1];
     if (counter && is_error(counter)) return server_denied(fleet, counter);
-    fleet->state.entries_told += telling->parts;
-    fleet->compacting.length = (long)count_of(answers[telling->parts]);
+    fleet->compacting.length = (long)count_of(answers[added]);
     return DS_FLEET_INSTEP;
 }
 

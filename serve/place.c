@@ -123,14 +123,21 @@ bool place_serve(struct place *place) {
 
 int place_accept(const struct place *place) { return accept4(place->listener, NULL, NULL, SOCK_NONBLOCK | SOCK_CLOEXEC); }
 
+/* The socket is missing: another one takes its place. */
+static void serve_again(struct place *place) {
+    int before = place->listener;
+    if (place_serve(place)) close(before);
+}
+
 void place_keep(struct place *place) {
     char path[PLACE_PATH + 8];
+    struct stat it;
     name_lock(place, path);
-    if (is_at(place->lock, path)) return;
-    int lock = open_lock(path);
+    int lock = is_at(place->lock, path) ? place->lock : open_lock(path);
     if (lock < 0) return; /* the holder finds that the socket is served */
-    close(place->lock);
+    if (lock != place->lock) close(place->lock);
     place->lock = lock;
+    if (place->listener >= 0 && lstat(place->path, &it) && errno == ENOENT) serve_again(place);
 }
 
 void place_leave(struct place *place) {

@@ -36,7 +36,7 @@ bool place_serve(struct place *place);
 /* Accepts a client. Returns the socket, or -1 with errno. */
 int place_accept(const struct place *place);
 
-/* Makes the lock anew where somebody removed the file, as programs do that clean /tmp. */
+/* Makes the lock and the socket anew where somebody removed the file, as programs do that clean /tmp. */
 void place_keep(struct place *place);
 /* Removes the socket and the lock, where they are the ones made here. */
 void place_leave(struct place *place);

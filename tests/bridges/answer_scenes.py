@@ -1,4 +1,5 @@
 """Scenes of what a bridge owes when a server loses, refuses or answers too much. scenes.py lists these."""
+import contextlib
 import itertools
 import time
 
@@ -81,7 +82,7 @@ def who_waits_is_not_first(fleet, draw):
     bridge, beats = fleet.start(url=script.url()), itertools.count(1)
 
     def own():
-        """Returns the digest of the bridge, and the two numbers of its entry."""
+        """Returns the digest of the bridge, its mark, and the two numbers of its entry."""
         return next((it.split(b"-")[1::2][0:1] + it.split(b"-")[3:] for it in fleet.ask("HVALS", "ds:digests")), None)
 
     def with_peers(first):
@@ -91,7 +92,7 @@ def who_waits_is_not_first(fleet, draw):
             value, *entry = own()
             peers = {b"0" * 32: (first or [value, *entry]), b"f" * 32: [b"0123456789abcdef", *entry]}
             count = int(raw[1 : raw.index(b"\r\n")])
-            words = [it for name, (digest, *at) in peers.items() for it in (name, b"-".join((b"2", digest, b"%d" % next(beats), *at)))]
+            words = [it for name, (digest, *at) in peers.items() for it in (name, b"-".join((b"3", digest, b"%d" % next(beats), *at)))]
             return b"*%d%s" % (count + len(words), raw[raw.index(b"\r\n") :]) + b"".join(b"$%d\r\n%s\r\n" % (len(it), it) for it in words)
 
         return made
@@ -106,6 +107,35 @@ def who_waits_is_not_first(fleet, draw):
     waits = script.script("HGETALL ds:digests", with_peers(earlier), 1 << 30)
     until(lambda: fleet.entries() > 2, "it sends everything, as the other one waits", 10)
     waits.left = 0
+
+
+def parts_before_a_denied_one(fleet, draw):
+    """If the server denies a part of what is sent, as one that is full, the parts before it aren't sent again."""
+    script, full = fleet.adopt(Scripted(fleet.port)), b"-OOM command not allowed when used memory > 'maxmemory'.\r\n"
+    script.script("WAIT", b":1\r\n", 1 << 30)
+    for options in ((), ("--replicas", "1", "--within", "50")):
+        bridge, lines = fleet.start(*options, url=script.url()), [f"n{len(options)}.{it} mem d 1.1 = {'ab' * 1024}" for it in range(120)]
+
+        def added():
+            """Returns how often the first line was added."""
+            return sum(lines[0] in fields[3].decode() for _, fields in fleet.ask("XRANGE", "ds:items", "-", "+"))
+
+        denied = script.script("XADD", full, 1 << 30)
+        with contextlib.ExitStack() as room:
+            clients = [room.enter_context(bridge.client()) for _ in lines]  # one whose answer waits isn't read
+            for client, line in zip(clients, lines):
+                client.send(f"offer {line}")
+            until(lambda: int(bridge.state()["untold"]) == sum(len(it) + 1 for it in lines), "all of it waits", 10)
+            bridge.pause()
+            time.sleep(0.3)  # the answers to what was sent are on their way
+            before, answers, denied.left = added(), itertools.count(), 0
+            third = script.script("XADD", lambda raw: full if next(answers) == 2 else raw, 1 << 30)
+            bridge.resume()
+            assert [it.answer() for it in clients] == [["taken"]] * len(lines)
+        third.left = 0
+        assert added() == before + 1, f"the first part is sent {added() - before} times"
+        bridge.end()
+        fleet.bridges.remove(bridge)
 
 
 def three_owners_of_a_key(fleet, draw):

@@ -103,6 +103,22 @@ def a_living_socket_is_left_alone(fleet, draw):
             assert status == 3 and "another one serves it" in said and os.stat(path).st_ino == inode, f"{status} {said}"
 
 
+def a_removed_socket(fleet, draw):
+    """A removed socket is made again, with its lock. Who was connected stays so."""
+    bridge = fleet.start("--mode", "640")
+    with bridge.client() as before:
+        assert before.ask("all") == ["shown 0"]
+        for path in (bridge.socket, f"{bridge.socket}.lock"):
+            os.remove(path)
+        until(bridge.tries_state, "the socket is made again", 5)
+        assert os.path.exists(f"{bridge.socket}.lock") and os.stat(bridge.socket).st_mode & 0o777 == 0o640
+        assert before.ask("all") == ["shown 0"]
+    inode = os.stat(bridge.socket).st_ino
+    time.sleep(1.5)
+    assert os.stat(bridge.socket).st_ino == inode, "it is made again though it is there"
+    assert bridge.end() == 0 and not os.path.exists(bridge.socket)
+
+
 # ---- clients that hang up ----
 
 

@@ -22,6 +22,27 @@ it.shutdown(socket.SHUT_WR)
 while some := it.recv(1 << 16):
     sys.stdout.buffer.write(some)
 """
+STAYED = """
+import os, socket, sys
+path, user, group, count = sys.argv[1], *map(int, sys.argv[2:])
+os.setgroups([group])
+os.setgid(group)
+os.setuid(user)
+def ask(it, line):
+    try:
+        it.sendall(line)
+        return it.recv(1 << 16)
+    except OSError:
+        return b""
+all = [socket.socket(socket.AF_UNIX) for _ in range(count)]
+for it in all:
+    it.settimeout(2)
+    it.connect(path)
+there = [it for it in all if ask(it, b"nameof 0/2\\n")]
+made = sum(ask(there[0], b'subscribe ".*" 2 later new\\n').startswith(b"subscribed ") for _ in range(128))
+print(len(there), made, flush=True)
+sys.stdin.read()
+"""
 
 
 def said_as(bridge, group, others, *lines):
@@ -52,6 +73,24 @@ def who_may_connect(fleet, draw):
     assert said_as(shared, STRANGER, [STRANGER], "retrieve b u32")[0] == [], "a user of neither group is answered"
     until(lambda: "event=stranger" in shared.said(), "it is logged")
     shows(closed, [number("a", 1, 1), number("b", 1, 1)])
+
+
+def readers_have_half(fleet, draw):
+    """With --readers, those that only read take at most half of the places and of the subscriptions, however long they stay."""
+    if os.geteuid():
+        raise Skipped("only root has other groups")
+    os.chmod(fleet.home, 0o755)
+    bridge = fleet.start("--group", str(WRITERS), "--readers", str(READERS), "--maxclients", "8")
+    words = ["python3", "-c", STAYED, bridge.socket, str(STRANGER), str(READERS), "12"]
+    with subprocess.Popen(words, stdin=subprocess.PIPE, stdout=subprocess.PIPE, text=True) as readers:
+        said = readers.stdout.readline().split()
+        writers = [bridge.client() for _ in range(4)]
+        served = [it.ask("state")[0] for it in writers]
+        refused = writers[0].ask('subscribe ".*" 2 later new')
+        readers.stdin.close()
+    assert said == ["4", "64"], f"{said[0]} readers are served, and made {said[1]} subscriptions"
+    assert all(it.startswith("state ") for it in served), served
+    assert refused[-1].startswith("sub "), f"a writer's subscription is answered {refused}"
 
 
 def the_group_of_a_folder(fleet, draw):

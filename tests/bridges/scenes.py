@@ -632,6 +632,56 @@ def steady_load(fleet, draw):
     assert added == 2 * count, f"{2 * count} changes are {added} entries"
 
 
+def a_lone_publisher(fleet, draw):
+    """While one bridge publishes all the time, no bridge seems to differ. What it and another one lack of each other is found, and comes."""
+    first, other = fleet.start(), fleet.start()
+    offer(other, number("other", 1, 1))
+    offer(first, number("first", 1, 1))
+    named = [fields[1] for _, fields in fleet.ask("XRANGE", "ds:items", "-", "+")]
+    lacked = [number(f"lacked{it}", 1, 1) for it in range(2)]
+
+    def publish(so, seconds):
+        """Publishes a change each 0.3 s until `so` says that it is enough, and returns how many entries were added beside these."""
+        before, end, count = fleet.entries(), time.monotonic() + seconds, 0
+        with first.client() as client:
+            while not so():
+                assert time.monotonic() < end, f"not within {seconds} s"
+                publish.count += 1
+                client.send(f"offer {number('n', publish.count, 1)}")
+                assert client.answer() == ["taken"]
+                count += 1
+                time.sleep(0.3)
+        return fleet.entries() - before - count
+
+    publish.count = 0
+    quiet = time.monotonic() + 6
+    more = publish(lambda: time.monotonic() > quiet or any(it.state()["differing"] != "0" for it in (first, other)), 10)
+    assert time.monotonic() > quiet and more == 0, f"a bridge seems to differ; {more} entries more than changes"
+    for name, line in zip(named, lacked):  # its bridge takes it for its own
+        fleet.ask("XADD", "ds:items", "*", "from", name, "items", line + "\n")
+    publish(lambda: all(it.holds(line) for it in (first, other) for line in lacked), 15)
+
+
+def entries_before_a_mark(fleet, draw):
+    """A bridge marks its entries while others come first that it hasn't read: what it holds then is no digest of its entry."""
+    script = fleet.adopt(Scripted(fleet.port))
+    first, other = fleet.start(url=script.url()), fleet.start()
+    script.script("XREAD", lambda raw: time.sleep(0.2) or raw, 1 << 30)
+    differing, end = 0, time.monotonic() + 8
+    with first.client() as client:
+        for count in range(1, 1 << 30):
+            fleet.ask("XADD", "ds:items", "*", "from", "x", "items", number("x", count, 1) + "\n")
+            if count % 3 == 0:
+                client.send(f"offer {number('n', count, 1)}")
+                assert client.answer() == ["taken"]
+                differing += any(it.state()["differing"] != "0" for it in (first, other))
+            time.sleep(0.1)
+            if time.monotonic() > end:
+                break
+    assert any(b"mark" in fields for _, fields in fleet.ask("XRANGE", "ds:items", "-", "+")), "no entry is marked"
+    assert differing == 0, f"in {differing} looks of {count // 3} a bridge seems to differ"
+
+
 def digests_of_the_same(fleet, draw):
     """The same contents have another digest at each entry, so contents made to collide differ at the next. Old digests aren't compared."""
     first, other = fleet.start(), fleet.start()
@@ -640,11 +690,11 @@ def digests_of_the_same(fleet, draw):
     for _ in range(3):
         entry = fleet.ask("XADD", "ds:items", "*", "from", "x", "items", number("a", 1, 1) + "\n").decode()
         until(lambda: sum(it.endswith(f"-{entry}".encode()) for it in fleet.ask("HVALS", "ds:digests")) == 2, "both have a digest at this entry", 10)
-        digests = {it.split(b"-")[1] for it in fleet.ask("HVALS", "ds:digests") if it.startswith(b"2-")}
+        digests = {it.split(b"-")[1] for it in fleet.ask("HVALS", "ds:digests") if it.startswith(b"3-")}
         assert len(digests) == 1 and not digests & seen, f"{digests} after {seen}"
         seen |= digests
     for beat in range(4):
-        fleet.ask("HSET", "ds:digests", "0", f"0123456789abcdef-{beat}-{entry}")
+        fleet.ask("HSET", "ds:digests", "0", f"0123456789abcdef-{beat}-0-{entry}")
         time.sleep(0.9)
     assert (first.state()["differing"], other.state()["differing"]) == ("0", "0")
 

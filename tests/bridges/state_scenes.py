@@ -495,11 +495,11 @@ def differing(bridge):
     beats = iter(range(1, 1000))
 
     def made(raw):
-        texts = re.findall(rb"[0-9a-f]{16}-\d+-\d+-\d+", raw)
+        texts = re.findall(rb"[0-9a-f]{16}-\d+-\d+-\d+-\d+", raw)
         if not texts:
             return raw
-        _, _, first, second = texts[0].split(b"-")
-        text = b"2-0123456789abcdef-%d-%s-%s" % (next(beats), first, second)
+        _, _, *moment = texts[0].split(b"-")
+        text = b"3-0123456789abcdef-%d-%s" % (next(beats), b"-".join(moment))
         count = int(raw[1 : raw.index(b"\r\n")])
         name = b"f" * 32
         return b"*%d%s$%d\r\n%s\r\n$%d\r\n%s\r\n" % (count + 2, raw[raw.index(b"\r\n") :], len(name), name, len(text), text)
