@@ -1,4 +1,4 @@
 pub mod LinesLemmas
 pub mod RunningLemmas
-pub mod BeatLemmas
 pub mod TextLemmas
+pub mod NodeLemmas

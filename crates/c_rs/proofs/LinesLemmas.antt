@@ -1,5 +1,6 @@
 -- A command once RS is open.
-use Rattle.std.proofs.Common.{inl}
+use Rattle.std.proofs.Common.{inl, Bor, refl, sym, ap, ◌∙◌}
+use Rattle.std.specs.Option.{option_copied}
 use Rattle.std.specs.Prelude.{◌≡◌, ℕ, Bool, false, not, List, Option, Some, None, is_some}
 use Rattle.rs_core.specs.State.{RsRecord}
 use Rattle.script_commands.specs.declared.command.ScriptCommand.{ScriptCommand}
@@ -11,6 +12,14 @@ use Rattle.ds_machine.specs.declared.command.Command.TheVariants.{Retrieve, Name
 use Rattle.script_commands.specs.declared.command.ScriptCommand.TheVariants.{Store}
 use Rattle.c_store.specs.Line.{IsCommandIn}
 use Rattle.c_rs.specs.Lines.{CallsRsLine, CarriesOutCommand, CarriesOutIf, CarriesOutWithRs, PassesOn}
+
+-- a lent option is one exactly if the option is
+pub lent_some : {X : Type 0} (o : Option (Bor X)) (services : Option X) → option_copied o ≡ services → is_some services ≡ is_some o
+lent_some o services is = sym (ap is_some is) ∙ copied o
+  where
+    copied : {X : Type 0} (o : Option (Bor X)) → is_some (option_copied o) ≡ is_some o
+    copied None = refl
+    copied (Some x) = refl
 
 some_stands : (none : Bool) → false ≡ not none → none ≡ false → ⊥
 some_stands none e f = cc

@@ -13,6 +13,7 @@ use Rattle.ds_store.specs.Turns.{Turn}
 use Rattle.c_values.specs.declared.request.Request.{Request}
 use Rattle.c_values.specs.declared.answer.Answer.{Answer}
 use Rattle.c_values.specs.Asked.{request_text}
+use Rattle.rs_store.specs.Pair.{PairRecord}
 use Rattle.c_store.specs.Called.{Called}
 use Rattle.c_rs.specs.declared.session.RsSession.{RsSession}
 use Rattle.c_rs.specs.Requests.{CallsRs, CallsUnlessBarred, is_for_rs_alone}
@@ -44,33 +45,36 @@ pub after_next : (ys place : List Answer) (i : ℕ) (a : Answer) → drop i ys �
 after_next ys place i a past = drop-set-lt (i + 1) ys i a (omega arith) ∙ sym (drop-drop 1 i ys) ∙ ap (drop 1) past ∙ drop-drop 1 i place
 
 -- what one call is: a turn of the store, or none
+abbrev store_of : PairRecord → ContentRecord
+store_of p = p.store
+
 abbrev OneCall : List ℕ → RsSession → Request → Answer → RsSession → Type 0
 OneCall texts old r a new =
-    (IsNoEntry a × (new.session.store ≡ old.session.store)) ⊎ ((e : Entry Command Reply) × IsEntryOf texts r a e × Turn old.session.store e.command e.reply new.session.store)
+    (IsNoEntry a × (new.session.node.store ≡ old.session.node.store)) ⊎ ((e : Entry Command Reply) × IsEntryOf texts r a e × Turn old.session.node.store e.command e.reply new.session.node.store)
 
 session_call : (texts : List ℕ) (old new : RsSession) (r : Request) (a : Answer) (o : Option (List ℕ)) → request_text r texts ≡ o
     → Called old.session r o a new.session → OneCall texts old r a new
-session_call texts old new r a None is called = inl (inl called.told_is, called.store_is)
+session_call texts old new r a None is called = inl (inl called.told_is, ap store_of called.node_is)
 session_call texts old new r a (Some text) is called = elim called [
   | inl answers ↦ inr (entry 0 answers.command answers.answered.reply, record { text = text; text_is = is; stands = answers.stands; told = answers.answered.told }, answers.answered.turn)
   | inr rests ↦ elim rests [
-    | inl none ↦ inl (inl none.1.told_is, none.1.store_is)
-    | inr room ↦ inl (inr (inl room.1.told_is), room.1.store_is)
+    | inl none ↦ inl (inl none.1.told_is, ap store_of none.1.node_is)
+    | inr room ↦ inl (inr (inl room.1.told_is), ap store_of room.1.node_is)
   ]
 ]
 
 one_call : (texts : List ℕ) (old new : RsSession) (r : Request) (a : Answer) (barred : Bool) → CallsUnlessBarred barred texts old r a new → OneCall texts old r a new
-one_call texts old new r a true called = inl (inr (inr called.done.told_is), called.done.store_is)
+one_call texts old new r a true called = inl (inr (inr called.done.told_is), ap store_of called.done.node_is)
 one_call texts old new r a false called = session_call texts old new r a (request_text r texts) refl called.done
 
 pub calls_are_turns : CallsAreTurns
-calls_are_turns texts [] [] old new none = ([], tt, ap (λ (s : RsSession). s.session.store) (sym none))
+calls_are_turns texts [] [] old new none = ([], tt, ap (λ (s : RsSession). s.session.node.store) (sym none))
 calls_are_turns texts (r ∷ rs) (a ∷ ys) old new calls =
     let mid : RsSession = calls.0 in
     let more = calls_are_turns texts rs ys mid new calls.2 in
-    elim (one_call texts old mid r a (is_for_rs_alone old.services r) calls.1) [
-      | inl unasked ↦ (more.0, inl (unasked.0, more.1), subst (λ (s : ContentRecord). Run Turn s more.0 new.session.store) unasked.1 more.2)
-      | inr asked ↦ (asked.0 ∷ more.0, inr (asked.0, more.0, refl, asked.1, more.1), (mid.session.store, asked.2, more.2))
+    elim (one_call texts old mid r a (is_for_rs_alone old.session.node.services r) calls.1) [
+      | inl unasked ↦ (more.0, inl (unasked.0, more.1), subst (λ (s : ContentRecord). Run Turn s more.0 new.session.node.store) unasked.1 more.2)
+      | inr asked ↦ (asked.0 ∷ more.0, inr (asked.0, more.0, refl, asked.1, more.1), (mid.session.node.store, asked.2, more.2))
     ]
 calls_are_turns texts [] (a ∷ ys) old new calls = absurd calls
 calls_are_turns texts (r ∷ rs) [] old new calls = absurd calls

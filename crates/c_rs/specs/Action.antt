@@ -88,4 +88,4 @@ action_if services (Some reply) index = action_at services reply index
 action_if services None index = None
 
 abbrev pub action_in : RsSession → ℕ → Option RsAction
-action_in s index = action_if s.services s.told index
+action_in s index = action_if s.session.node.services s.told index

@@ -43,7 +43,7 @@ CarriesOutIf None command old answer new = PassesOn command old answer new
 CarriesOutIf (Some rs) command old answer new = CarriesOutWithRs command old answer new
 
 abbrev pub CarriesOutCommand : ScriptCommand → RsSession → Answer → RsSession → Type 0
-CarriesOutCommand command old answer new = CarriesOutIf old.services command old answer new
+CarriesOutCommand command old answer new = CarriesOutIf old.session.node.services command old answer new
 
 -- Whether the bytes are the line of a command, which is carried out.
 pub record CarriesOutLine (bytes : List ℕ) (old : RsSession) (answer : Answer) (new : RsSession) : Type 0 where

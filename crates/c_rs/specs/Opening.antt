@@ -55,6 +55,7 @@ OpensIf (Some rs) text next first before word fault new = (word ≡ 13) × (faul
 -- Whether RS is opened so beside the store; the store and the last answer are unchanged.
 pub record OpensRs (text : List ℕ) (next first : ℕ) (old : RsSession) (before : SettingsRefusal)
     (word : ℕ) (fault : SettingsRefusal) (new : RsSession) : Type 0 where
-  pub opens : OpensIf old.services text next first before word fault new.services
-  pub session : new.session ≡ old.session
+  pub opens : OpensIf old.session.node.services text next first before word fault new.session.node.services
+  pub store : new.session.node.store ≡ old.session.node.store
+  pub last : new.session.last ≡ old.session.last
   pub told : new.told ≡ old.told

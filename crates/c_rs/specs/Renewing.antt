@@ -39,13 +39,14 @@ fault_after before (Ok done) = before
 
 -- Whether the last answer is forgotten, since it may name services of the settings that were in force.
 pub record IsForgotten (old new : RsSession) : Type 0 where
-  pub store : new.session.store ≡ old.session.store
+  pub store : new.session.node.store ≡ old.session.node.store
   pub last : new.session.last ≡ Nothing
   pub told : new.told ≡ None
 
 -- Whether the store and the last answer are unchanged.
 pub record IsKept (old new : RsSession) : Type 0 where
-  pub session : new.session ≡ old.session
+  pub store : new.session.node.store ≡ old.session.node.store
+  pub last : new.session.last ≡ old.session.last
   pub told : new.told ≡ old.told
 
 -- The store is unchanged. The last answer is forgotten when RS has taken the settings, and unchanged otherwise.
@@ -59,7 +60,7 @@ pub record TextRenews (text : List ℕ) (rs : RsRecord) (old : RsSession) (befor
   pub settings : SettingsRecord
   pub read : settings_of_any text ≡ Ok settings
   pub result : Result (Unit {0}) RenewFault
-  pub takes : TakesSettings rs settings result new.services
+  pub takes : TakesSettings rs settings result new.session.node.services
   pub word_is : word ≡ renewed_word result
   pub fault_is : fault ≡ fault_after before result
   pub rests : RestsAfter result old new
@@ -70,7 +71,7 @@ pub record TextIsBad (text : List ℕ) (rs : RsRecord) (old : RsSession) (word :
   pub refused : IsWhy text why why.cause
   pub word_is : word ≡ cause_number why.cause
   pub told : TellsFault text why fault
-  pub services : new.services ≡ Some rs
+  pub services : new.session.node.services ≡ Some rs
   pub rests : IsKept old new
 
 -- Whether RS takes the settings of the text, or refuses them, as the word says.
@@ -79,4 +80,4 @@ RenewsBy None text old before word fault new = (word ≡ 14) × (fault ≡ befor
 RenewsBy (Some rs) text old before word fault new = TextRenews text rs old before word fault new ⊎ TextIsBad text rs old word fault new
 
 abbrev pub RenewsRs : List ℕ → RsSession → SettingsRefusal → ℕ → SettingsRefusal → RsSession → Type 0
-RenewsRs text old before word fault new = RenewsBy old.services text old before word fault new
+RenewsRs text old before word fault new = RenewsBy old.session.node.services text old before word fault new

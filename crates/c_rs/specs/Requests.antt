@@ -25,7 +25,7 @@ CallsUnlessBarred true texts old r answer new = RefusesCommand NotAllowed old an
 CallsUnlessBarred false texts old r answer new = SessionDoes (λ s a t. Called s r (request_text r texts) a t) old answer new
 
 abbrev pub CallsRs : List ℕ → RsSession → Request → Answer → RsSession → Type 0
-CallsRs texts old r answer new = CallsUnlessBarred (is_for_rs_alone old.services r) texts old r answer new
+CallsRs texts old r answer new = CallsUnlessBarred (is_for_rs_alone old.session.node.services r) texts old r answer new
 
 -- The pieces of the last answer; an answer of RS has none.
 abbrev pub pieces_if : Session → Option RsReply → List (List ℕ)

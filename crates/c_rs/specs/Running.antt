@@ -14,6 +14,10 @@ use Rattle.c_values.specs.Answer.{answer_of, no_request, told_no_room}
 use Rattle.c_values.specs.Asked.{StandsFor, request_text}
 use Rattle.c_rs.specs.declared.session.RsSession.{RsSession}
 use Rattle.c_rs.specs.Requests.{CallsRs}
+use Rattle.rs_store.specs.declared.call.RsCommand.{RsCommand}
+use Rattle.rs_store.specs.declared.call.RsReply.{RsReply}
+use Rattle.rs_store.specs.Laws.{store_entries}
+use Rattle.rs_store.specs.Turns.{RsTurn}
 
 -- Whether the requests are carried out in order, with these answers, each as it is alone.
 abbrev pub CallsInTurn : List ℕ → RsSession → List Request → List Answer → RsSession → Type 0
@@ -68,4 +72,9 @@ EntriesOfRun texts (r ∷ rs) [] es = ⊥
 -- run of the store's machine.
 abbrev pub CallsAreTurns : Type 0
 CallsAreTurns = (texts : List ℕ) (rs : List Request) (ys : List Answer) (old new : RsSession) → CallsInTurn texts old rs ys new →
-    (es : List (Entry Command Reply)) × EntriesOfRun texts rs ys es × Run Turn old.session.store es new.session.store
+    (es : List (Entry Command Reply)) × EntriesOfRun texts rs ys es × Run Turn old.session.node.store es new.session.node.store
+
+-- A law: they are turns of RS and its store, each an Ask that the store answers. So the laws of RS and its store hold of them.
+abbrev pub CallsAreNodeTurns : Type 0
+CallsAreNodeTurns = (texts : List ℕ) (rs : List Request) (ys : List Answer) (old new : RsSession) → CallsInTurn texts old rs ys new →
+    (es : List (Entry RsCommand RsReply)) × EntriesOfRun texts rs ys (store_entries es) × Run RsTurn old.session.node es new.session.node

@@ -17,14 +17,13 @@ use Rattle.c_rs.specs.Telling.{told_answer}
 -- Whether an event is a turn of RS and its store, whose reply is answered and kept.
 pub record ServesBy (event : Event) (tick : ℕ) (old : RsSession) (answer : Answer) (new : RsSession) : Type 0 where
   pub reply : RsReply
-  pub served : EventTurn event tick old.services old.session.store reply new.services new.session.store
+  pub served : EventTurn event tick old.session.node.services old.session.node.store reply new.session.node.services new.session.node.store
   pub told_is : answer ≡ told_answer reply
   pub kept : new.told ≡ Some reply
 
--- Whether the session changes so, and RS is unchanged.
+-- Whether the session changes so, in no turn of RS.
 pub record SessionDoes (does : Session → Answer → Session → Type 0) (old : RsSession) (answer : Answer) (new : RsSession) : Type 0 where
   pub done : does old.session answer new.session
-  pub services : new.services ≡ old.services
   pub told : new.told ≡ None
 
 -- Whether a command is refused, and the store and RS are unchanged.

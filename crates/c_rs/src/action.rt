@@ -39,15 +39,15 @@ impl RsSession {
         ensures { result ≡ action_in self.now index }
     {
         match &self.told {
-            Some(reply) => action_at(&self.services, reply, index),
+            Some(reply) => action_at(self.session.node.services(), reply, index),
             None => None,
         }
     }
 }
 
 // Returns the action of a reply at an index.
-fn action_at(services: &Option<Rs>, reply: &RsReply, index: usize) -> Option<RsAction>
-    ensures { result ≡ action_at services.now reply.now index }
+fn action_at(services: Option<&Rs>, reply: &RsReply, index: usize) -> Option<RsAction>
+    ensures { result ≡ action_at (option_copied services.entry) reply.now index }
 {
     let RsReply::Acted {
         actions,
@@ -65,8 +65,8 @@ fn action_at(services: &Option<Rs>, reply: &RsReply, index: usize) -> Option<RsA
 }
 
 // Returns the action that reports a service given up.
-fn given_up_action(services: &Option<Rs>, given_up: Option<usize>) -> Option<RsAction>
-    ensures { result ≡ given_up_action services.now given_up }
+fn given_up_action(services: Option<&Rs>, given_up: Option<usize>) -> Option<RsAction>
+    ensures { result ≡ given_up_action (option_copied services.entry) given_up }
 {
     let Some(rs) = services else {
         return None;

@@ -24,9 +24,9 @@ impl RsSession {
 
     // Returns whether RS is open and the request is in its name.
     fn is_barred(&self, request: &Request) -> bool
-        ensures { result ≡ is_for_rs_alone self.now.services request.now }
+        ensures { result ≡ is_for_rs_alone self.now.session.node.services request.now }
     {
-        self.services.is_some() && is_rs_request(request)
+        self.session.node.services().is_some() && is_rs_request(request)
     }
 
     /// Writes the text of the last answer to a buffer, from the piece at an index on: as many whole pieces as fit. An answer of RS has

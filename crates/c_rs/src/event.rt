@@ -8,7 +8,6 @@ ghost use Rattle.c_rs.specs.Event.{ServesEvent, event_of, of_instance, of_label}
 use crate::session::RsSession;
 use c_values::{Answer, endpoint, name_in};
 use rs_core::Event;
-use std::alloc::Global;
 
 /// An event, as C has it.
 #[repr(C)]
@@ -30,25 +29,11 @@ pub struct RsEvent {
 impl RsSession {
     /// Reports the event of a struct to RS, and passes the label changes and the sweeps of its actions to the store. Answers
     /// NoRequest, and changes nothing, if the struct stands for no event.
-    pub fn serve_event(&mut self, alloc: Global, event: &RsEvent, answer: &mut Answer)
+    pub fn serve_event(&mut self, event: &RsEvent, answer: &mut Answer)
         ensures { ServesEvent event.now self.old answer.new self.new }
     {
-        if event.kind == 5 {
-            return self.serve_beat(alloc, event, answer);
-        }
         match event_of(event) {
-            Some(what) => self.serve(alloc, what, event.tick, answer),
-            None => self.decline(answer),
-        }
-    }
-
-    // Reports the heartbeat of a struct.
-    fn serve_beat(&mut self, alloc: Global, event: &RsEvent, answer: &mut Answer)
-        requires { event.now.kind ≡ 5 }
-        ensures { ServesEvent event.now self.old answer.new self.new }
-    {
-        match endpoint(event.generation, event.slot) {
-            Some(instance) => self.fast_beat(alloc, instance, event.tick, answer),
+            Some(what) => self.serve(what, event.tick, answer),
             None => self.decline(answer),
         }
     }

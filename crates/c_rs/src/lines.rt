@@ -59,7 +59,7 @@ impl RsSession {
     fn carry(&mut self, alloc: Global, command: ScriptCommand, answer: &mut Answer)
         ensures { CarriesOutCommand command self.old answer.new self.new }
     {
-        if self.services.is_none() {
+        if self.session.node.services().is_none() {
             return self.pass_on(alloc, command, answer);
         }
         self.carry_with_rs(alloc, command, answer);
@@ -70,7 +70,7 @@ impl RsSession {
         ensures { CarriesOutWithRs command self.old answer.new self.new }
     {
         match command.service_event() {
-            Some((event, tick)) => self.serve(alloc, event, tick, answer),
+            Some((event, tick)) => self.serve(event, tick, answer),
             None => self.carry_beside_rs(alloc, command, answer),
         }
     }

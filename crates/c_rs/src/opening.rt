@@ -8,7 +8,6 @@ use crate::telling::{begun_word, cause_number};
 use c_values::refusal_number;
 use ds_machine::Refusal;
 use rs_settings::read_any;
-use rs_store::begin;
 use std::alloc::Global;
 
 impl RsSession {
@@ -25,12 +24,12 @@ impl RsSession {
     ) -> u32
         ensures { OpensRs text.now next first self.old fault.old result fault.new self.new }
     {
-        if self.services.is_some() {
+        if self.session.node.services().is_some() {
             return refusal_number(Refusal::Exists);
         }
         match read_any(alloc, text) {
             Ok(settings) => {
-                let reply = begin(alloc, &mut self.services, settings, next, first);
+                let reply = self.session.node.begin(settings, next, first);
                 begun_word(&reply)
             }
             Err(why) => {

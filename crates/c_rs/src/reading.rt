@@ -14,9 +14,9 @@ impl RsSession {
     /// Returns the first tick, not before the last event's, that has actions; 2^64 - 1 if none has until another event. `None` if
     /// RS isn't open.
     pub fn due(&self) -> Option<u64>
-        ensures { ReadsDue self.now.services result }
+        ensures { ReadsDue self.now.session.node.services result }
     {
-        match &self.services {
+        match self.session.node.services() {
             Some(rs) => Some(due_tick(rs)),
             None => None,
         }
@@ -24,9 +24,9 @@ impl RsSession {
 
     /// Returns the generation that the next start takes. `None` if RS isn't open.
     pub fn next_generation(&self) -> Option<u32>
-        ensures { result ≡ option_map (λ rs. rs.next) self.now.services }
+        ensures { result ≡ option_map (λ rs. rs.next) self.now.session.node.services }
     {
-        match &self.services {
+        match self.session.node.services() {
             Some(rs) => Some(rs.next_generation()),
             None => None,
         }
@@ -35,9 +35,9 @@ impl RsSession {
     /// Returns whether the instance with an endpoint may publish under the key of a kind and a name: they are valid, RS is open, the
     /// instance is up, and its service declares the key.
     pub fn may_publish(&self, generation: u32, slot: u16, kind: u8, name: &[u8]) -> bool
-        ensures { result ≡ may_publish_in self.now.services generation slot kind name.now }
+        ensures { result ≡ may_publish_in self.now.session.node.services generation slot kind name.now }
     {
-        let Some(rs) = &self.services else {
+        let Some(rs) = self.session.node.services() else {
             return false;
         };
         let Some(instance) = endpoint(generation, slot) else {
@@ -52,9 +52,9 @@ impl RsSession {
     /// Returns whether the instance with an endpoint may complain of the service with a label: both are valid, RS is open, the instance is
     /// up, there is the service, and the settings let the one complain of the other.
     pub fn may_complain(&self, generation: u32, slot: u16, label: &[u8]) -> bool
-        ensures { result ≡ may_deal_in may_complain self.now.services generation slot label.now }
+        ensures { result ≡ may_deal_in may_complain self.now.session.node.services generation slot label.now }
     {
-        let Some(rs) = &self.services else {
+        let Some(rs) = self.session.node.services() else {
             return false;
         };
         let Some(instance) = endpoint(generation, slot) else {
@@ -69,9 +69,9 @@ impl RsSession {
     /// Returns whether the instance with an endpoint may connect to the service with a label: both are valid, RS is open, the instance is
     /// up, there is the service, and the settings let the one connect to the other.
     pub fn may_connect(&self, generation: u32, slot: u16, label: &[u8]) -> bool
-        ensures { result ≡ may_deal_in may_connect self.now.services generation slot label.now }
+        ensures { result ≡ may_deal_in may_connect self.now.session.node.services generation slot label.now }
     {
-        let Some(rs) = &self.services else {
+        let Some(rs) = self.session.node.services() else {
             return false;
         };
         let Some(instance) = endpoint(generation, slot) else {

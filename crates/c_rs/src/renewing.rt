@@ -10,7 +10,6 @@ use c_values::{Answer, refusal_number};
 use ds_machine::Refusal;
 use rs_core::RenewFault;
 use rs_settings::read_any;
-use rs_store::renew;
 use std::alloc::Global;
 
 impl RsSession {
@@ -24,11 +23,11 @@ impl RsSession {
     pub fn renew_rs(&mut self, alloc: Global, text: &[u8], fault: &mut SettingsRefusal) -> u32
         ensures { RenewsRs text.now self.old fault.old result fault.new self.new }
     {
-        if self.services.is_none() {
+        if self.session.node.services().is_none() {
             return refusal_number(Refusal::NotFound);
         }
         match read_any(alloc, text) {
-            Ok(settings) => match renew(&mut self.services, settings) {
+            Ok(settings) => match self.session.node.renew(settings) {
                 Some(Ok(())) => {
                     self.forget_last();
                     0
@@ -49,7 +48,7 @@ impl RsSession {
     // Forgets the last answer. The store is unchanged.
     fn forget_last(&mut self)
         ensures forgotten { IsForgotten self.old self.new }
-        ensures services { self.new.services ≡ self.old.services }
+        ensures services { self.new.session.node.services ≡ self.old.session.node.services }
     {
         let mut answer = Answer::no_request();
         self.session.rest(Answer::no_request(), &mut answer);

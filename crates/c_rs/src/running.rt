@@ -1,6 +1,6 @@
 //! Requests in order.
 
-ghost use Rattle.c_rs.specs.Running.{CallsAreTurns, RunsCalls};
+ghost use Rattle.c_rs.specs.Running.{CallsAreNodeTurns, CallsAreTurns, RunsCalls};
 
 use crate::session::RsSession;
 use c_values::{Answer, Request};
@@ -36,6 +36,8 @@ impl RsSession {
 }
 
 /// A law: requests in order are turns of the store, one for each that is a command and isn't refused because it has RS's name.
+/// They are turns of RS and its store as well, so `pairs_take_turns` of `rs_store` holds of calls from C.
 pub fn calls_are_turns()
-    ensures { CallsAreTurns }
+    ensures store { CallsAreTurns }
+    ensures node { CallsAreNodeTurns }
 {}

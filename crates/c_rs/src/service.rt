@@ -37,9 +37,9 @@ pub struct RsService {
 impl RsSession {
     /// Returns what RS knows of the service at an index of the settings, from 0. `None` past the end, or if RS isn't open.
     pub fn service(&self, index: usize) -> Option<RsService>
-        ensures { result ≡ service_row self.now.services index }
+        ensures { result ≡ service_row self.now.session.node.services index }
     {
-        let Some(rs) = &self.services else {
+        let Some(rs) = self.session.node.services() else {
             return None;
         };
         let service = rs.settings().services().get(index)?;

@@ -14,16 +14,15 @@ use crate::telling::told;
 use c_store::Session;
 use c_values::Answer;
 use ds_machine::{Refusal, Reply};
-use rs_core::{Event, Rs};
+use rs_core::Event;
 use rs_store::RsReply;
 use script_answers::Wording;
 use std::alloc::Global;
 
-/// A session, RS once it is open, and the last reply, if it is RS's; if not, the session has it.
+/// A session, which has RS once it is open, and the last reply if it is RS's. Otherwise the session has the last reply.
 #[derive(Drop)]
 pub struct RsSession {
     pub(crate) session: Session,
-    pub(crate) services: Option<Rs>,
     pub(crate) told: Option<RsReply>,
 }
 
@@ -35,25 +34,24 @@ impl RsSession {
         first: u64,
         ring: u32,
     ) -> Result<RsSession, Refusal>
-        ensures opened { IfOk result (λ s. ContentStands s.session.store (opening incarnation first ring larger)) }
+        ensures opened { IfOk result (λ s. ContentStands s.session.node.store (opening incarnation first ring larger)) }
         ensures fits { OnOk result (IsRing ring × (first ≤ last_place)) }
-        ensures none { IfOk result (λ s. s.services ≡ None) }
+        ensures none { IfOk result (λ s. s.session.node.services ≡ None) }
         ensures silent { IfOk result (λ s. (s.session.last ≡ Nothing) × (s.told ≡ None)) }
         ensures refused { IfErr result (λ refusal. IsOpenRefusal refusal first ring) }
     {
         let session = Session::open(alloc, incarnation, first, ring)?;
         Ok(RsSession {
             session,
-            services: None,
             told: None,
         })
     }
 
     /// Reports an event at a tick to RS, and passes the label changes and the sweeps of its actions to the store.
-    pub(crate) fn serve(&mut self, alloc: Global, event: Event, tick: u64, answer: &mut Answer)
+    pub(crate) fn serve(&mut self, event: Event, tick: u64, answer: &mut Answer)
         ensures { ServesBy event tick self.old answer.new self.new }
     {
-        let reply = self.session.serve(alloc, &mut self.services, event, tick);
+        let reply = self.session.serve(event, tick);
         *answer = told(&reply);
         self.told = Some(reply);
     }

@@ -17,6 +17,7 @@ use Rattle.ds_machine.specs.declared.refusal.Refusal.TheVariants.{NotFound}
 use Rattle.ds_machine.specs.declared.reply.Reply.TheVariants.{Found, Named, Refused}
 use Rattle.ds_content.specs.Content.{ContentRecord}
 use Rattle.ds_content.specs.Stands.{ContentStands, InEachState}
+use Rattle.rs_store.specs.Pair.{PairRecord}
 use Rattle.ds_store.specs.Finding.{label_name}
 use Rattle.ds_store.specs.Turns.{Turn}
 use Rattle.ds_store.proofs.FindLemmas.{retrieve_turn, copyless_turn}
@@ -37,11 +38,13 @@ pub called : (old new : Session) (r : Request) (o : Option (List ℕ)) (text : L
 called old new r o text answer is given = subst (λ (p : Option (List ℕ)). Called old r p answer new) (sym is) given
 
 -- A command that a turn of the store answers, which leaves the store unchanged. Before the answer, the last one may be let go.
-pub told_so : (old mid new : Session) (answer : Answer) (command : Command) (reply : Reply) → mid.store ≡ old.store → Turn mid.store command reply mid.store
+pub told_so : (old mid new : Session) (answer : Answer) (command : Command) (reply : Reply) → mid.node ≡ old.node → (v : ContentRecord) → v ≡ mid.node.store → Turn v command reply v
     → Rests mid (answer_of reply) (Replied reply AsMerge) answer new → Tells old AsMerge command answer new
-told_so old mid new answer command reply same turn rests = record {
+told_so old mid new answer command reply same v is turn rests = record {
   reply = reply;
-  turn = subst (λ (w : ContentRecord). Turn old.store command reply w) (sym rests.store_is) (subst (λ (w : ContentRecord). Turn w command reply mid.store) same turn);
+  turn = subst (λ (w : PairRecord). Turn old.node.store command reply w.store) (sym rests.node_is)
+      (subst (λ (w : PairRecord). Turn w.store command reply mid.node.store) same (subst (λ (w : ContentRecord). Turn w command reply w) is turn));
+  services = ap (λ (w : PairRecord). w.services) (rests.node_is ∙ same);
   told = rests.told_is;
   kept = rests.kept;
 }

@@ -19,17 +19,18 @@ use Rattle.c_store.specs.declared.last.Last.{Last}
 use Rattle.c_store.specs.declared.last.Last.TheVariants.{Nothing, Reply as Replied, Shown}
 use Rattle.c_store.specs.declared.session.Session.{Session}
 
--- Whether the store takes one step for the command, the answer is the reply's, and the reply is kept with the wording.
+-- Whether the store takes one step for the command, RS is unchanged, the answer is the reply's, and the reply is kept with the wording.
 pub record Tells (old : Session) (wording : Wording) (command : Command) (answer : Answer) (new : Session) : Type 0 where
   pub reply : Reply
-  pub turn : Turn old.store command reply new.store
+  pub turn : Turn old.node.store command reply new.node.store
+  pub services : new.node.services ≡ old.node.services
   pub told : answer ≡ answer_of reply
   pub kept : new.last ≡ Replied reply wording
 
--- Whether the store is unchanged, `told` is the answer, and `last` is kept.
+-- Whether the store and RS are unchanged, `told` is the answer, and `last` is kept.
 pub record Rests (old : Session) (told : Answer) (last : Last) (answer : Answer) (new : Session) : Type 0 where
   pub told_is : answer ≡ told
-  pub store_is : new.store ≡ old.store
+  pub node_is : new.node ≡ old.node
   pub kept : new.last ≡ last
 
 -- Whether the answer says that the request isn't a command, and the store is unchanged.
@@ -70,8 +71,8 @@ held_shown false items = entries_of items
 -- The effect of a show: everything held, or the puts of it. If anything is held, memory may run out.
 abbrev pub ShowsIfRoom : Session → Bool → Answer → Session → Type 0
 ShowsIfRoom old all answer new =
-    let items = held_shown all old.store.held in
-    Rests old (told_shown (length items)) (Shown items) answer new ⊎ ((old.store.held ≢ []) × RestsForRoom old answer new)
+    let items = held_shown all old.node.store.held in
+    Rests old (told_shown (length items)) (Shown items) answer new ⊎ ((old.node.store.held ≢ []) × RestsForRoom old answer new)
 
 -- ---- the text
 

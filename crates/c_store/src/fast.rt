@@ -57,8 +57,9 @@ impl Session {
     pub fn fast_find(&mut self, alloc: Global, key: &Key, answer: &mut Answer)
         ensures { Tells self.old AsMerge (Retrieve key.now) answer.new self.new }
     {
-        let _stood = self.store.cursor();
-        match self.store.fast_retrieve(key) {
+        let store = self.node.store();
+        let _stood = store.cursor();
+        match store.fast_retrieve(key) {
             Some(Value::U32(number)) => {
                 let found = Reply::Found(Value::U32(*number));
                 self.tell(Wording::AsMerge, found, answer);
@@ -103,8 +104,9 @@ impl Session {
             return self.name(endpoint, answer);
         }
         self.let_go();
-        let _stood = self.store.cursor();
-        match self.store.fast_name_of(endpoint) {
+        let store = self.node.store();
+        let _stood = store.cursor();
+        match store.fast_name_of(endpoint) {
             Some(name) => {
                 overwrite(
                     &mut self.last,

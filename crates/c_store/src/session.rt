@@ -1,6 +1,6 @@
 //! Sessions. Each answer is written to the caller's variable.
 
-ghost use Rattle.std.specs.Prelude.{◌≡◌, ◌≤◌, drop, false, length, IfOk, IfErr, OnOk};
+ghost use Rattle.std.specs.Prelude.{◌≡◌, ◌≤◌, None, drop, false, length, IfOk, IfErr, OnOk};
 ghost use Rattle.ds_feed.specs.Kept.{IsRing};
 ghost use Rattle.ds_held.specs.Limits.{larger};
 ghost use Rattle.ds_machine.specs.State.{opening};
@@ -18,28 +18,30 @@ use c_values::{Answer, Given, answer_of, no_room};
 use ds_entry::Items;
 use ds_machine::{Command, Refusal, Reply};
 use ds_names::NoRoom;
-use ds_store::Store;
+use rs_store::RsStore;
 use script_answers::Wording;
 use std::alloc::Global;
 
-/// A store, and its last answer.
+/// A store, RS once it has begun, and the last answer.
 #[derive(Drop)]
 pub struct Session {
-    pub(crate) store: Store,
+    /// RS and its store.
+    pub node: RsStore,
     pub(crate) last: Last,
 }
 
 impl Session {
     /// Opens a store with at most 128 subscriptions and 4096 keys. Refuses as `Store::open` does.
     pub fn open(alloc: Global, incarnation: u64, first: u64, ring: u32) -> Result<Session, Refusal>
-        ensures opened { IfOk result (λ session. ContentStands session.store (opening incarnation first ring larger)) }
+        ensures opened { IfOk result (λ session. ContentStands session.node.store (opening incarnation first ring larger)) }
         ensures fits { OnOk result (IsRing ring × (first ≤ last_place)) }
+        ensures none { IfOk result (λ session. session.node.services ≡ None) }
         ensures silent { IfOk result (λ session. session.last ≡ Nothing) }
         ensures refused { IfErr result (λ refusal. IsOpenRefusal refusal first ring) }
     {
-        let store = Store::open(alloc, incarnation, first, ring)?;
+        let node = RsStore::open(alloc, incarnation, first, ring)?;
         Ok(Session {
-            store,
+            node,
             last: Last::Nothing,
         })
     }
@@ -56,8 +58,9 @@ impl Session {
     pub(crate) fn answer(&mut self, wording: Wording, command: Command, answer: &mut Answer)
         ensures { Tells self.old wording command answer.new self.new }
     {
-        let _stood = self.store.cursor();
-        let reply = self.store.apply(command);
+        let store = self.node.store_mut();
+        let _stood = store.cursor();
+        let reply = store.apply(command);
         self.tell_reply(wording, reply, answer);
     }
 
@@ -93,7 +96,7 @@ impl Session {
     // Drops the last answer if it holds allocated memory. The store is unchanged.
     #[inline(always)]
     pub(crate) fn let_go(&mut self)
-        ensures store { self.new.store ≡ self.old.store }
+        ensures node { self.new.node ≡ self.old.node }
         ensures let_go { holds_memory self.new.last ≡ false }
     {
         if self.last.holds_memory() {
@@ -104,7 +107,7 @@ impl Session {
     // Drops the last answer. Not inlined, because most answers hold no memory.
     #[inline(never)]
     fn drop_last(&mut self)
-        ensures store { self.new.store ≡ self.old.store }
+        ensures node { self.new.node ≡ self.old.node }
         ensures dropped { self.new.last ≡ Nothing }
     {
         self.last = Last::Nothing;
@@ -133,7 +136,7 @@ impl Session {
     pub(crate) fn show(&mut self, alloc: Global, all: bool, answer: &mut Answer)
         ensures { ShowsIfRoom self.old all answer.new self.new }
     {
-        match held_shown(alloc, self.store.held(), all) {
+        match held_shown(alloc, self.node.store().held(), all) {
             Ok(items) => self.keep(items, answer),
             Err(NoRoom) => self.refuse(answer),
         }

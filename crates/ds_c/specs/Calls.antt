@@ -38,7 +38,7 @@ pub record IsOpenWord (first ring word : ℕ) : Type 0 where
 abbrev pub Opened : ℕ → ℕ → ℕ → ℕ → Option RsSession → Type 0
 Opened incarnation first ring word None = IsOpenWord first ring word
 Opened incarnation first ring word (Some s) =
-    (word ≡ done) × ContentStands s.session.store (opening incarnation first ring larger) × (s.services ≡ None) ×
+    (word ≡ done) × ContentStands s.session.node.store (opening incarnation first ring larger) × (s.session.node.services ≡ None) ×
     ((s.session.last ≡ Nothing) × (s.told ≡ None))
 
 -- The effect of a call that opens. An open handle is unchanged.

@@ -57,28 +57,30 @@ abbrev pub ReadsAction : Option RsSession → ℕ → RsAction → ℕ → RsAct
 ReadsAction held index before word action = ReadsOf (λ s. action_in s index) held before word action
 
 abbrev pub ReadsService : Option RsSession → ℕ → RsService → ℕ → RsService → Type 0
-ReadsService held index before word service = ReadsOf (λ s. service_row s.services index) held before word service
+ReadsService held index before word service = ReadsOf (λ s. service_row s.session.node.services index) held before word service
 
 abbrev pub ReadsNext : Option RsSession → ℕ → ℕ → ℕ → Type 0
-ReadsNext held before word generation = ReadsOf (λ s. option_map (λ rs. rs.next) s.services) held before word generation
+ReadsNext held before word generation = ReadsOf (λ s. option_map (λ rs. rs.next) s.session.node.services) held before word generation
 
 -- The effect of a call that writes the first tick that has actions.
 abbrev pub ReadsDueTick : Option RsSession → ℕ → ℕ → ℕ → Type 0
 ReadsDueTick None before word tick = (word ≡ is_closed) × (tick ≡ before)
-ReadsDueTick (Some s) before word tick = (part : Option ℕ) × ReadsDue s.services part × ReadsPart part before word tick
+ReadsDueTick (Some s) before word tick = (part : Option ℕ) × ReadsDue s.session.node.services part × ReadsPart part before word tick
 
 -- The effect of a call that judges whether an instance may publish under a key.
 abbrev pub FindsPublisher : Option RsSession → ℕ → ℕ → ℕ → List ℕ → ℕ → Type 0
 FindsPublisher None generation slot kind name word = word ≡ is_closed
-FindsPublisher (Some s) generation slot kind name word = word ≡ cond (may_publish_in s.services generation slot kind name) done not_allowed
+FindsPublisher (Some s) generation slot kind name word =
+    word ≡ cond (may_publish_in s.session.node.services generation slot kind name) done not_allowed
 
 -- The effect of a call that judges whether an instance may complain of a service.
 abbrev pub FindsComplainer : Option RsSession → ℕ → ℕ → List ℕ → ℕ → Type 0
 FindsComplainer None generation slot label word = word ≡ is_closed
 FindsComplainer (Some s) generation slot label word =
-    word ≡ cond (may_deal_in may_complain s.services generation slot label) done not_allowed
+    word ≡ cond (may_deal_in may_complain s.session.node.services generation slot label) done not_allowed
 
 -- The effect of a call that judges whether an instance may connect to a service.
 abbrev pub FindsConnector : Option RsSession → ℕ → ℕ → List ℕ → ℕ → Type 0
 FindsConnector None generation slot label word = word ≡ is_closed
-FindsConnector (Some s) generation slot label word = word ≡ cond (may_deal_in may_connect s.services generation slot label) done not_allowed
+FindsConnector (Some s) generation slot label word =
+    word ≡ cond (may_deal_in may_connect s.session.node.services generation slot label) done not_allowed

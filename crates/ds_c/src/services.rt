@@ -47,7 +47,7 @@ pub extern "C" fn ds_rs_event(
     match handle.take(alloc) {
         None => IS_CLOSED,
         Some(mut session) => {
-            session.serve_event(alloc, event, answer);
+            session.serve_event(event, answer);
             handle.put(alloc, session);
             DONE
         }

@@ -5,3 +5,4 @@ pub mod Serving
 pub mod Turns
 pub mod Laws
 pub mod Renewing
+pub mod Lending

@@ -19,7 +19,5 @@ pub use by_rs::is_by_rs;
 pub use call::{RsCommand, RsReply};
 pub use machine::pairs_take_turns;
 pub use pair::RsStore;
-pub use renewing::renew;
 pub use replies::Replies;
-pub use serving::{ask, begin, serve};
 pub use threads::pairs_cross_threads;

@@ -23,7 +23,7 @@ impl Model for Replies {
 
 impl Replies {
     /// Takes over the replies of a `Vec`. It takes no memory.
-    pub fn of(replies: Vec<Option<Reply>>) -> Replies
+    pub(crate) fn of(replies: Vec<Option<Reply>>) -> Replies
         ensures { result ≡ replies.items }
     {
         Replies { replies }

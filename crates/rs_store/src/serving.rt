@@ -23,9 +23,8 @@ use std::alloc::Global;
 /// The most actions of one event: a kill, a tombstone of a label, a sweep, a start and a label's put.
 const MOST_ACTIONS: usize = 5;
 
-/// Passes a client's command to the store. Once RS has begun, refuses a command with RS as its caller as NotAllowed,
-/// before any other cause, and leaves the store unchanged.
-pub fn ask(services: &Option<Rs>, store: &mut Store, command: Command) -> RsReply
+// Passes a client's command to the store, or refuses it as NotAllowed, as `RsStore::answer` does.
+pub(crate) fn ask(services: &Option<Rs>, store: &mut Store, command: Command) -> RsReply
     ensures { ClientTurn services.now store.old command result store.new }
 {
     if services.is_some() && is_by_rs(&command) {
@@ -34,16 +33,8 @@ pub fn ask(services: &Option<Rs>, store: &mut Store, command: Command) -> RsRepl
     RsReply::Replied(turn(store, command))
 }
 
-/// Begins RS with settings: every service is down, the first start gets the generation `next`, and the slots begin at
-/// `first`.
-///
-/// A system with one RS uses 1 and 16. A later run continues at the earlier run's next generation. Two hosts that exchange
-/// entries use disjoint slots.
-///
-/// Refuses as Exists if RS has begun, then as OutOfRange if `next` isn't 1 to 2097152, `first` is below 16, or the last
-/// slot is above 1023. Then reports NoRoom if memory runs out, which only settings with a service take. A refusal changes
-/// nothing.
-pub fn begin(
+// Begins RS, as `RsStore::begin` does.
+pub(crate) fn begin(
     alloc: Global,
     services: &mut Option<Rs>,
     settings: Settings,
@@ -68,15 +59,8 @@ pub fn begin(
     }
 }
 
-/// Passes an event to RS at a tick, and RS's label changes and sweeps to the store, in order. Returns RS's actions, the
-/// store's reply to each, and the service that RS gave up.
-///
-/// Refuses as RS's `event` does, and changes neither RS nor the store then. NoRoom is reported after every other fault, and
-/// only for an event with actions. RS has stepped even if the store refuses one of its changes.
-///
-/// Before RS has begun, nothing changes. An event of a label is refused as UnknownLabel, one of an endpoint as OldEndpoint,
-/// and a tick has no actions.
-pub fn serve(
+// Passes an event to RS, as `RsStore::tell` does.
+pub(crate) fn serve(
     alloc: Global,
     services: &mut Option<Rs>,
     store: &mut Store,

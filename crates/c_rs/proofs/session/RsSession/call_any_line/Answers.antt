@@ -9,5 +9,5 @@ returns-in-Err-BadLine c =
     inr (inl (
       c.in-Err-BadLine.place,
       rw c.in-Err-BadLine.field-0-is at c.in-Err-BadLine.ensures,
-      record { done = record { told_is = cc; store_is = c.rest.ensures.store_is; kept = c.rest.ensures.kept }; services = refl; told = refl },
+      record { done = record { told_is = cc; node_is = c.rest.ensures.node_is; kept = c.rest.ensures.kept }; told = refl },
     ))
