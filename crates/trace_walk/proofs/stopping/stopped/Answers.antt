@@ -16,7 +16,7 @@ pub returns-clause-stops : goal.returns-clause-stops
 returns-clause-stops c =
     let items = c.args.items.now in
     let first = c.in_ok-first.first in
-    let is : first ≡ take c.args.done items = c.in_ok-first.ensures ∙ ap (λ (l : List Item). take c.args.done l) c.as_slice.ensures in
+    let is : first ≡ take c.args.done items = c.in_ok-first.ensures.same ∙ ap (λ (l : List Item). take c.args.done l) c.as_slice.ensures in
     IfOk-weaker c.stopped_after.result _ _
     (λ reply e s stands few.
     let step = c.apply-reply.ensures.step s stands in
@@ -30,7 +30,7 @@ pub returns-clause-fails : goal.returns-clause-fails
 returns-clause-fails c =
     let items = c.args.items.now in
     let first = c.in_ok-first.first in
-    let is : first ≡ take c.args.done items = c.in_ok-first.ensures ∙ ap (λ (l : List Item). take c.args.done l) c.as_slice.ensures in
+    let is : first ≡ take c.args.done items = c.in_ok-first.ensures.same ∙ ap (λ (l : List Item). take c.args.done l) c.as_slice.ensures in
     IfErr-weaker c.stopped_after.result _ _
     (λ fault f s stands few.
     let step = c.apply-reply.ensures.step s stands in
