@@ -192,7 +192,7 @@ next_key_within settings states tick next slots kept =
     key_below slots.first settings.slots slots.freed slots.taken states kept.fit.once kept.fit.taken kept.own
 
 -- where a service isn't up, there are fewer that are than services
-fewer_up : (states : List State) (at : ℕ) → at < length states → is_up (get_or states at Down) ≡ false → up_count states < length states
+pub fewer_up : (states : List State) (at : ℕ) → at < length states → is_up (get_or states at Down) ≡ false → up_count states < length states
 fewer_up states at within rest =
     omega (arith, was, sum_by-set (λ s. one (is_up s)) states at (Up up) Down within, count_by-le-length is_up (set states at (Up up)), length-set states at (Up up))
   where

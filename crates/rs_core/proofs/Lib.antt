@@ -4,5 +4,7 @@ pub mod RunLemmas
 pub mod SaysLemmas
 pub mod RefusalLemmas
 pub mod ReadingLemmas
+pub mod SettlingLemmas
+pub mod SettlingPremiseLemmas
 pub mod RenewalLemmas
 pub mod LateLemmas

@@ -127,11 +127,11 @@ is_there s what i e =
     let place : at.0 ≡ i = (let q : i ≡ 0 + at.0 = at.1 in omega arith) in
     subst (λ (n : ℕ). is_sought what (service_at s n) (state_at s n) ≡ true) place at.2
 
-false_true : {P : Type 0} → false ≡ true → P
+pub false_true : {P : Type 0} → false ≡ true → P
 false_true e = absurd (let n : false ≡ true = e in cc)
 
 -- an instance runs where a test of one holds
-abbrev Runs : State → Type 0
+abbrev pub Runs : State → Type 0
 Runs state = (r : Running) × (state ≡ Up r)
 
 runs_when : (test : Running → Bool) (state : State) → when_up test state ≡ true → Runs state
@@ -141,11 +141,11 @@ runs_when test (Waiting p) e = false_true e
 runs_when test GaveUp e = false_true e
 
 -- also where it is tested beside another test
-runs_also : (b : Bool) (test : Running → Bool) (state : State) → b && when_up test state ≡ true → Runs state
+pub runs_also : (b : Bool) (test : Running → Bool) (state : State) → b && when_up test state ≡ true → Runs state
 runs_also true test state e = runs_when test state e
 runs_also false test state e = false_true e
 
-waits_when : (test : Pause → Bool) (state : State) → when_waiting test state ≡ true → (p : Pause) × (state ≡ Waiting p)
+pub waits_when : (test : Pause → Bool) (state : State) → when_waiting test state ≡ true → (p : Pause) × (state ≡ Waiting p)
 waits_when test (Waiting p) e = (p, refl)
 waits_when test Down e = false_true e
 waits_when test (Up r) e = false_true e
@@ -173,7 +173,7 @@ start_acts s tick place e =
     let is = waits_when (λ p. nat_le p.until tick) (state_at s place) (is_there s (sought.Rested tick) place e) in
     subst (λ (z : State). actions_of s (service_at s place) z Resume ≢ []) (sym is.1) (cons_not _ _)
 
-same_task : (p q : Task) → Some p ≡ Some q → p ≡ q
+pub same_task : (p q : Task) → Some p ≡ Some q → p ≡ q
 same_task p q e = cc
 
 due_acts : (s : RsRecord) (tick : ℕ) (p : Task) → due s tick ≡ Some p → ActsAt s p.place p.deed

@@ -12,6 +12,8 @@ pub mod Run
 pub mod Says
 pub mod Numbering
 pub mod Reading
+pub mod Settling
+pub mod SettlingPremises
 pub mod Renewal
 pub mod Planning
 pub mod Late

@@ -17,6 +17,7 @@ mod law;
 mod numberer;
 mod plan;
 mod rs;
+mod settling;
 mod slots;
 mod state;
 
@@ -30,4 +31,5 @@ pub use law::{
 pub use numberer::{Numberer, SeqSpent};
 pub use plan::Plan;
 pub use rs::Rs;
+pub use settling::{services_recover, settling_premises, ticks_settle};
 pub use state::{Pause, Running, State};

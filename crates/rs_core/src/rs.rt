@@ -105,6 +105,9 @@ impl Rs {
     ///
     /// NoRoom is reported after every other fault, and only for an event that has actions: not for a heartbeat, for a
     /// `Stop` that ends a wait, or for a tick at which nothing is due.
+    ///
+    /// A tick does one thing. Reported until it has no actions, it settles RS: by the laws `ticks_settle` and
+    /// `services_recover`, each service whose wait is over runs then, and at most as many reports as services have actions.
     pub fn event(&mut self, event: Event, tick: u64) -> Result<Actions, RsFault>
         ensures step { IfOk result (λ actions. RsStep self.old event tick actions self.new) }
         ensures refused { IfErr result (λ fault. fault ≢ RsFault.NoRoom → refusal self.old event tick ≡ Some fault) }
