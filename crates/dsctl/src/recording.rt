@@ -7,7 +7,7 @@ use line_io::Plain;
 use std::io;
 use std::process::ExitCode;
 use std::rt::Runtime;
-use trace_record::{Form, RecordFault, record};
+use trace_record::{Form, RecordFault, Recording};
 
 /// Runs a store on the commands of the input, and writes the trace of that run. Standard error gets the number and
 /// place of a bad line, and what is wrong with it. Greets a user at a terminal.
@@ -20,7 +20,10 @@ pub(crate) fn record_input<R: Runtime + AllocGlobal>(
     greet(rt, terminals, Greeting::Commands);
     let mut reader = Plain::new(WithTail::new(Typed::unprompted(rt, input)));
     let mut writer = Plain::new(Answers::new(rt, io::writer(rt)));
-    let recorded = record(rt.alloc(), &mut reader, &mut writer, form_of(form));
+    let recorded = match Recording::open(rt.alloc(), &mut reader, form_of(form)) {
+        Ok(recording) => recording.record(&mut reader, &mut writer),
+        Err(fault) => Err(fault),
+    };
     outcome(rt, recorded, &mut reader, writer.fault)
 }
 

@@ -1,7 +1,7 @@
 -- Why a recording ends by its reader or its writer.
 use Rattle.std.proofs.Common.{◌≡◌, ℕ, inl, inr, ◌⊎◌, sym, subst}
 use Rattle.line_io.specs.Streams.{OnlyCalls, HasFailedWrite}
-use Rattle.line_io.proofs.CallLemmas.{no_calls, only_calls_on, failed_on}
+use Rattle.line_io.proofs.CallLemmas.{only_calls_on, failed_on}
 use Rattle.line_io.specs.declared.streams.Source.{Ghosts as Reader}
 use Rattle.line_io.specs.declared.streams.Sink.{Ghosts as Writer}
 use Rattle.trace_walk.specs.Reads.{BlamesLines}
@@ -37,10 +37,6 @@ input_cause r w (BadLine number place) old new from to wrote is c = wrote
 input_cause r w ReadFault old new from to wrote is c = (c, wrote)
 input_cause r w WriteFault old new from to wrote is c = absurd is
 input_cause r w NoRoom old new from to wrote is c = wrote
-
--- out of memory before anything is written
-pub nothing_blamed : {R W : Type 0} (r : Reader R) (w : Writer W) (fault : RecordFault) (old new : R) (now : W) → fault ≡ NoRoom → IsToBlame r w fault old new now now
-nothing_blamed r w fault old new now is = subst (λ (f : RecordFault). IsToBlame r w f old new now now) (sym is) (no_calls w.writes now)
 
 -- after the waiting entries are written, it is still the fault, or a write failed there
 either : {R W : Type 0} (r : Reader R) (w : Writer W) (fault result : RecordFault) (old new : R) (from mid to : W) → (OnlyCalls w.writes from to → IsToBlame r w fault old new from to) → OnlyCalls w.writes from mid

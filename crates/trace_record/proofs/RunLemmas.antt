@@ -250,21 +250,19 @@ module _ (form : Form) (ring : ℕ) (known : Option (List ℕ)) (first : List �
       → ((bytes input : List ℕ) → Holds bytes input → IsFirstLines bytes input) → HasRun known first had header waits mid Holds count
       → WritesPart mid has waits
       → StopsRecording form known had has WriteFault
-  settled_unwritten Holds count whole r p =
-      inr (
-        first ++ r.asking,
-        r.sent ++ waits,
-        count,
-        is_record form ring first r.asking (r.sent ++ waits) r.state count opens r.recorded,
-        part_more had mid has r.sent waits r.written p,
-        by_known known _ (λ bytes k. whole bytes (first ++ r.asking) (r.input bytes k)),
-      )
+  settled_unwritten Holds count whole r p = (
+    first ++ r.asking,
+    r.sent ++ waits,
+    count,
+    is_record form ring first r.asking (r.sent ++ waits) r.state count opens r.recorded,
+    part_more had mid has r.sent waits r.written p,
+    by_known known _ (λ bytes k. whole bytes (first ++ r.asking) (r.input bytes k)),
+  )
 
   -- it failed before
   settled_failed : HasFailed known first had header mid → Appends mid has [] → StopsRecording form known had has WriteFault
   settled_failed r a =
-      let p = r.written in
-      inr (
+      let p = r.written in (
         first ++ r.asking,
         r.text,
         r.count,
@@ -279,8 +277,7 @@ module _ (form : Form) (ring : ℕ) (known : Option (List ℕ)) (first : List �
       → HasRun known first had header waits mid (IsBeforeFault header.format fault) count → Appends mid has waits
       → StopsRecording form known had has fault
   settled_up_to fault count other r a =
-      let written = other (r.sent ++ waits) (Appends-trans had mid has r.sent waits r.written a) in
-      inr (
+      let written = other (r.sent ++ waits) (Appends-trans had mid has r.sent waits r.written a) in (
         first ++ r.asking,
         r.sent ++ waits,
         count,
@@ -306,7 +303,3 @@ module _ (form : Form) (ring : ℕ) (known : Option (List ℕ)) (first : List �
   fault_settled (BadLine number place) result r s = up_to_settled (BadLine number place) result (λ text a. a) r s
   fault_settled ReadFault result r s = up_to_settled ReadFault result (λ text a. a) r s
   fault_settled NoRoom result r s = up_to_settled NoRoom result (λ text a. a) r s
-
--- out of memory for the store
-pub nothing_recorded : (form : Form) (known had : Option (List ℕ)) (fault : RecordFault) → fault ≡ NoRoom → StopsRecording form known had had fault
-nothing_recorded form known had fault e = inl (e, Appends-nil had)

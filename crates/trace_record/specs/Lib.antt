@@ -6,3 +6,4 @@ pub mod Stepping
 pub mod Steps
 pub mod Running
 pub mod Causes
+pub mod Begun

@@ -1,5 +1,5 @@
 -- The recorded trace of a run of one store.
-use Rattle.std.specs.Prelude.{◌≡◌, ℕ, ◌⊎◌, List, [], ◌++◌, length, Option, IfSome}
+use Rattle.std.specs.Prelude.{◌≡◌, ℕ, List, ◌++◌, length, Option, IfSome}
 use Rattle.std.specs.Io.KnownBytes.{Appends}
 use Rattle.ds_held.specs.Limits.{smaller}
 use Rattle.line_io.specs.Transfer.{WritesPart}
@@ -10,7 +10,7 @@ use Rattle.trace_walk.specs.declared.header.Header.{Header}
 use Rattle.trace_walk.specs.Legal.{IsTrace, opened_by}
 use Rattle.trace_walk.specs.Text.{TraceEntry}
 use Rattle.trace_record.specs.declared.fault.RecordFault.{RecordFault}
-use Rattle.trace_record.specs.declared.fault.RecordFault.TheVariants.{BadLine, WriteFault, NoRoom}
+use Rattle.trace_record.specs.declared.fault.RecordFault.TheVariants.{BadLine, WriteFault}
 use Rattle.trace_record.specs.declared.form.Form.{Form}
 use Rattle.trace_record.specs.declared.form.Form.TheVariants.{One, Two}
 use Rattle.trace_record.specs.Stepping.{AllAnswered}
@@ -55,13 +55,9 @@ abbrev pub WritesBy : RecordFault → (had has : Option (List ℕ)) → List ℕ
 WritesBy WriteFault had has text = WritesPart had has text
 WritesBy _ had has text = Appends had has text
 
--- Whether nothing was written because memory ran out for the store.
-abbrev pub WritesNothing : RecordFault → (had has : Option (List ℕ)) → Type 0
-WritesNothing fault had has = (fault ≡ NoRoom) × Appends had has []
-
 -- Whether, however the recording ends, the trace of whole entries was written, or, if the writer failed, a front of it.
 abbrev pub StopsRecording : Form → (known had has : Option (List ℕ)) → RecordFault → Type 0
 StopsRecording form known had has fault =
-    WritesNothing fault had has
-    ⊎ ((input text : List ℕ) × (count : ℕ) ×
-    IsRecord form input text count × WritesBy fault had has text × IfSome known (λ bytes. IsBeforeFault (format_of form) fault bytes input))
+    (input text : List ℕ) × (count : ℕ)
+    × IsRecord form input text count × WritesBy fault had has text
+    × IfSome known (λ bytes. IsBeforeFault (format_of form) fault bytes input)

@@ -10,9 +10,8 @@ use Rattle.trace_record.specs.declared.fault.RecordFault.{RecordFault}
 use Rattle.trace_record.specs.declared.fault.RecordFault.TheVariants.{WriteFault}
 use Rattle.trace_record.specs.declared.recorder.Recorder.{Recorder}
 use Rattle.trace_record.specs.Reading.{ComesToNext, GoesToNoRing}
-use Rattle.trace_record.specs.declared.form.Form.{Form}
-use Rattle.trace_record.specs.Asking.{IsFirstLines, IsAllLines, OpensWith}
-use Rattle.trace_record.specs.Record.{IsBeforeFault, Records, StopsRecording, header_of}
+use Rattle.trace_record.specs.Asking.{IsFirstLines, IsAllLines}
+use Rattle.trace_record.specs.Record.{IsBeforeFault}
 use Rattle.trace_record.specs.Steps.{Recorded}
 
 -- Whether a front of the entries so far is written, the rest waits, and this is the result of reading the next line.
@@ -66,17 +65,3 @@ RunsOn old from has next new now ran =
 abbrev pub WritesRest : RecordFault → (had has : Option (List ℕ)) → List ℕ → RecordFault → Type 0
 WritesRest WriteFault had has waits result = (result ≡ WriteFault) × Appends had has []
 WritesRest fault had has waits result = ((result ≡ fault) × Appends had has waits) ⊎ ((result ≡ WriteFault) × WritesPart had has waits)
-
--- Whether, after a beginning that leads here, all entries are recorded and written.
-abbrev pub RecordsAll : Recorder → (from had : Option (List ℕ)) → Result Bool RecordFault → Option (List ℕ) → ℕ → Type 0
-RecordsAll old from had next has count =
-    (form : Form) (ring : ℕ) (known : Option (List ℕ)) (first : List ℕ) →
-    OpensWith first ring → Runs known first had (header_of form ring) old from had next 0 →
-    Records form known had has count
-
--- Why they aren't.
-abbrev pub StopsBefore : Recorder → (from had : Option (List ℕ)) → Result Bool RecordFault → Option (List ℕ) → RecordFault → Type 0
-StopsBefore old from had next has fault =
-    (form : Form) (ring : ℕ) (known : Option (List ℕ)) (first : List ℕ) →
-    OpensWith first ring → Runs known first had (header_of form ring) old from had next 0 →
-    StopsRecording form known had has fault

@@ -9,6 +9,7 @@ mod begin;
 mod fault;
 mod form;
 mod line;
+mod opened;
 mod pass;
 mod place;
 mod recorder;
@@ -18,4 +19,4 @@ mod waiting;
 
 pub use fault::RecordFault;
 pub use form::Form;
-pub use recording::record;
+pub use opened::Recording;
