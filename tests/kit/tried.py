@@ -14,7 +14,7 @@ COLUMNS = ("edit", "verdict", "sum", "date")
 FOLDERS = ("must-fail", "wrong-bodies")
 ROW = re.compile(r"tried (\S+)\t([a-z ]+)\t([0-9a-f]{16})\t(\d{4}-\d\d-\d\d)")  # as a run prints it
 # Estimated minutes of a processor: of a crate's proof for each byte of its files, and for each edit, several of which share a check.
-MINUTES_A_BYTE, MINUTES_AN_EDIT = 5e-6, 0.05
+MINUTES_A_BYTE, MINUTES_AN_EDIT = 1e-5, 0.25
 WRITING = threading.Lock()
 
 
@@ -89,25 +89,30 @@ def last_tried(edit, sum, rows):
     return row.date if row and row.sum == sum else ""
 
 
-def minutes(name, edits):
-    """Returns about how many processor minutes it takes to prove a crate and to try its edits. No figure of the machine is in it."""
-    return MINUTES_A_BYTE * sum(path.stat().st_size for path in texts_of(name)) + MINUTES_AN_EDIT * len(edits)
+def minutes(name, count):
+    """Returns about how many processor minutes it takes to prove a crate and to try some of its edits. No figure of the machine is in it."""
+    return MINUTES_A_BYTE * sum(path.stat().st_size for path in texts_of(name)) + MINUTES_AN_EDIT * count
+
+
+def by_age(name, rows):
+    """Returns a crate's edits, those first that weren't tried for the longest time, each with the date of its verdict."""
+    edits = edits_of(name)
+    dates = {edit: last_tried(edit, sum, rows) for edit, sum in sums(name, edits).items()}
+    return sorted(dates.items(), key=lambda it: (it[1], it[0].stem))
 
 
 def stalest(names, most):
-    """Returns the crates with an edit that wasn't tried for the longest time, as many as take `most` minutes; the first in any case."""
-    rows, oldest = read(), {}
-    for name in names:
-        edits = edits_of(name)
-        dates = [last_tried(edit, sum, rows) for edit, sum in sums(name, edits).items()]
-        if edits:
-            oldest[name] = (min(dates), -dates.count(min(dates)), name)
-    chosen, left = [], most
-    for name in sorted(oldest, key=oldest.get):
-        left -= minutes(name, edits_of(name))
-        if chosen and left < 0:
+    """Returns edits by crate, those that weren't tried for the longest time, as many as take `most` minutes; one in any case. A crate with
+    more edits of the oldest date comes first."""
+    rows, chosen, left = read(), {}, most
+    aged = {name: edits for name in names if (edits := by_age(name, rows))}
+    oldest = {name: (edits[0][1], -sum(date == edits[0][1] for _, date in edits), name) for name, edits in aged.items()}
+    for name in sorted(aged, key=oldest.get):
+        count = int((left - minutes(name, 0)) / MINUTES_AN_EDIT)
+        if chosen and count < 1:
             break
-        chosen.append(name)
+        chosen[name] = [edit for edit, _ in aged[name][: max(1, count)]]
+        left -= minutes(name, len(chosen[name]))
     return chosen
 
 
