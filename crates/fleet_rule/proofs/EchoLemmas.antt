@@ -23,10 +23,10 @@ use Rattle.fleet_rule.proofs.LawLemmas as laws
 
 module _ {I : Type 0} where
   -- A bridge after an event that changed it little: its outbox has a few items more.
-  record SameBut (new old : Bridge I) (more : List I) : Type 0 where
-    met : new.met ≡ old.met
-    must_resend : new.must_resend ≡ old.must_resend
-    outbox : ArePart new.outbox (old.outbox ++ more)
+  pub record SameBut (new old : Bridge I) (more : List I) : Type 0 where
+    pub met : new.met ≡ old.met
+    pub must_resend : new.must_resend ≡ old.must_resend
+    pub outbox : ArePart new.outbox (old.outbox ++ more)
 
   same : (b : Bridge I) → SameBut b b []
   same b = record { met = refl; must_resend = refl; outbox = part_left b.outbox [] }
@@ -54,9 +54,9 @@ module _ {I : Type 0} where
 module _ {I : Type 0} (covers : I → I → Bool) (reflexive : (i : I) → covers i i ≡ true)
     (transitive : (i j k : I) → covers i j ≡ true → covers j k ≡ true → covers i k ≡ true) where
   -- What an event leaves unchanged, at a bridge that met this server and need not resend.
-  record Quietly (w x : Fleet I) (k : ℕ) (more : List I) : Type 0 where
-    history : x.server.history ≡ w.server.history
-    bridge : SameBut (bridge_at x k) (bridge_at w k) more
+  pub record Quietly (w x : Fleet I) (k : ℕ) (more : List I) : Type 0 where
+    pub history : x.server.history ≡ w.server.history
+    pub bridge : SameBut (bridge_at x k) (bridge_at w k) more
 
   -- The outbox is no longer than it was.
   same_outbox : (w : Fleet I) (j k : ℕ) (host : Host I) → host.bridge.met ≡ (bridge_at w j).met → host.bridge.must_resend ≡ (bridge_at w j).must_resend →
@@ -70,7 +70,7 @@ module _ {I : Type 0} (covers : I → I → Bool) (reflexive : (i : I) → cover
       })
 
   -- It met this server, and the answer to a meeting is of it, too: the bridge ignores it.
-  no_meeting : (w : Fleet I) (j q k : ℕ) → IsKept covers w → (bridge_at w k).met ≡ Some w.server.history → k ≡ j → May covers w (Meets j q) → ⊥
+  pub no_meeting : (w : Fleet I) (j q k : ℕ) → IsKept covers w → (bridge_at w k).met ≡ Some w.server.history → k ≡ j → May covers w (Meets j q) → ⊥
   no_meeting w j q k h a e m =
       let at : (bridge_at w j).met ≡ Some w.server.history = subst (λ (z : ℕ). (bridge_at w z).met ≡ Some w.server.history) e a in
       let t : ProducerIs covers w.server (bridge_at w j) (Met q) = subst (λ (l : Producer I). ProducerIs covers w.server (bridge_at w j) l) m.0 (h.hosts j).producer in
@@ -93,7 +93,7 @@ module _ {I : Type 0} (covers : I → I → Bool) (reflexive : (i : I) → cover
   on_consumer : (w : Fleet I) (j k : ℕ) (l : Consumer I) → SameBut (bridge_at (with_consumer w j l) k) (bridge_at w k) []
   on_consumer w j k l = same_outbox w j k (record (w.hosts j) { consumer = l }) refl refl refl
 
-  quiet_step : (w : Fleet I) (e : Event I) (k : ℕ) → IsKept covers w → May covers w e → breaks k e ≡ false →
+  pub quiet_step : (w : Fleet I) (e : Event I) (k : ℕ) → IsKept covers w → May covers w e → breaks k e ≡ false →
       (bridge_at w k).met ≡ Some w.server.history → (bridge_at w k).must_resend ≡ false → Quietly w (after covers w e) k (change_at k e)
   quiet_step w (Changes j i held) k h m n a o = quiet_change w j k i held
   quiet_step w (AsksToMeet j) k h m n a o = record { history = refl; bridge = on_producer w j k Meeting }

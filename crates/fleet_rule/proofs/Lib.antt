@@ -5,6 +5,7 @@ pub mod HostLemmas
 pub mod StepLemmas
 pub mod LawLemmas
 pub mod EchoLemmas
+pub mod KnownLemmas
 pub mod SameLemmas
 pub mod RunLemmas
 pub mod ExampleLemmas
@@ -13,3 +14,5 @@ pub mod CarelessReadingLemmas
 pub mod CarelessSendingLemmas
 pub mod CarelessMeetingLemmas
 pub mod PremiseLemmas
+pub mod KnownGuardLemmas
+pub mod DigestLemmas

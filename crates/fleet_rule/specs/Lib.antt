@@ -11,3 +11,5 @@ pub mod CarelessReading
 pub mod CarelessSending
 pub mod CarelessMeeting
 pub mod Premises
+pub mod Known
+pub mod Digest

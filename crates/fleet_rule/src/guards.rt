@@ -5,6 +5,7 @@ ghost use Rattle.fleet_rule.specs.CarelessCompaction.{OutboxIsNeeded, ResendingI
 ghost use Rattle.fleet_rule.specs.CarelessMeeting.{PositionIsNeeded, ConsumedIsNeeded, SendingAgainIsNeeded, NewsIsNeeded, NeedIsNeeded};
 ghost use Rattle.fleet_rule.specs.CarelessReading.{SameHistoryIsNeeded, SamePositionIsNeeded, GapIsNeeded, NotingIsNeeded};
 ghost use Rattle.fleet_rule.specs.CarelessSending.{ReplicasAreNeeded, CountIsNeeded, RestIsNeeded};
+ghost use Rattle.fleet_rule.specs.Known.{LookIsNeeded, ToldIsNeeded, OwedIsNeeded, WaitIsNeeded};
 ghost use Rattle.fleet_rule.specs.Premises.{SeeingIsNeeded, ChoiceIsNeeded};
 
 /// Laws: a compaction adds the outbox first, waits for resending, never follows a dropped item, and replaces neither another history nor a
@@ -48,4 +49,13 @@ pub fn meeting_guards_are_needed()
 pub fn premises_are_needed()
     ensures seeing { SeeingIsNeeded covers }
     ensures choice { ChoiceIsNeeded covers }
+{}
+
+/// Laws: a change that a bridge held already isn't answered before a look that began after it, while something waits in the outbox, while
+/// all has yet to be resent, or before the replicas have what the log has. Otherwise they may lack it.
+pub fn known_guards_are_needed()
+    ensures look { LookIsNeeded covers }
+    ensures told { ToldIsNeeded covers }
+    ensures owed { OwedIsNeeded covers }
+    ensures wait { WaitIsNeeded covers }
 {}

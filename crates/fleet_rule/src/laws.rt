@@ -2,17 +2,20 @@
 
 ghost use Rattle.ds_entry.specs.ItemCovers.{covers};
 ghost use Rattle.fleet_rule.specs.Example.{ChangesCome, LostIsSentAgain, SnapshotsCome};
+ghost use Rattle.fleet_rule.specs.Known.{KnownIsKept};
 ghost use Rattle.fleet_rule.specs.Laws.{AnsweredIsKept, ReadersHoldAll, BridgesAgree};
 ghost use Rattle.fleet_rule.specs.Laws.{SnapshotsAreWhole, NothingHeldIsLost, NothingIsEchoed};
 ghost use Rattle.fleet_rule.specs.Same.{BridgesHoldTheSame, TopsJoin, TopsOfAllJoin};
 
 /// Laws of every list of events: bridges crash, connections end, servers fail over and lose what they had.
 ///
-/// The replicas have each answered change until the server loses something. Bridges that have read the log hold all of it, and agree once
+/// The replicas have each answered change until the server loses something, and all that a bridge held when it asked, if the history is the
+/// one that it met and all that waited is acknowledged. Bridges that have read the log hold all of it, and agree once
 /// they have sent everything. A snapshot and the log from its end on are whole. A bridge that lives on makes good what a server lost, and
 /// echoes nothing.
 pub fn items_are_kept()
     ensures answered { AnsweredIsKept covers }
+    ensures known { KnownIsKept covers }
     ensures read { ReadersHoldAll covers }
     ensures agree { BridgesAgree covers }
     ensures same { BridgesHoldTheSame }

@@ -1,12 +1,16 @@
 use Rattle.ds_entry.specs.ItemCovers.{covers}
 use Rattle.ds_entry.proofs.ItemLemmas.{covers-refl, covers-trans}
 use Rattle.fleet_rule.proofs.EchoLemmas.{nothing_is_echoed}
+use Rattle.fleet_rule.proofs.KnownLemmas.{known_is_kept}
 use Rattle.fleet_rule.proofs.SameLemmas.{bridges_hold_the_same, tops_join, tops_of_all_join}
 use Rattle.fleet_rule.proofs.LawLemmas as lemmas
 use Rattle.fleet_rule.proofs.laws.items_are_kept.Goals as goal
 
 pub returns-clause-answered : goal.returns-clause-answered
 returns-clause-answered c = lemmas.answered_is_kept covers covers-refl covers-trans
+
+pub returns-clause-known : goal.returns-clause-known
+returns-clause-known c = known_is_kept covers covers-refl covers-trans
 
 pub returns-clause-read : goal.returns-clause-read
 returns-clause-read c = lemmas.readers_hold_all covers covers-refl covers-trans
