@@ -102,11 +102,11 @@ def by_age(name, rows):
 
 
 def stalest(names, most):
-    """Returns edits by crate, those that weren't tried for the longest time, as many as take `most` minutes; one in any case. A crate with
-    more edits of the oldest date comes first."""
+    """Returns edits by crate, those that weren't tried for the longest time, as many as take `most` minutes; one in any case. Of crates with
+    edits of one date that comes first whose proof is the shortest, since each is proved once more before its edits are tried."""
     rows, chosen, left = read(), {}, most
     aged = {name: edits for name in names if (edits := by_age(name, rows))}
-    oldest = {name: (edits[0][1], -sum(date == edits[0][1] for _, date in edits), name) for name, edits in aged.items()}
+    oldest = {name: (edits[0][1], minutes(name, 0), name) for name, edits in aged.items()}
     for name in sorted(aged, key=oldest.get):
         count = int((left - minutes(name, 0)) / MINUTES_AN_EDIT)
         if chosen and count < 1:
