@@ -47,7 +47,7 @@ module _ {M C R : Type 0} (steps : M → C → R → M → Type 0) (owes : R →
   MissesTurn Busy p q = FindsBusy p q
   MissesTurn Worn p q = Looks steps p.me.0 (2 ^ 63) false q.me.0 × Rests q
 
-  -- The same, with the seat being the same one.
+  -- Whether the same seat called nothing, for this cause.
   abbrev pub FindsNoTurn : NoTurn → SeatOf M C R → SeatOf M C R → Type 0
   FindsNoTurn Busy p q = SameSeat p q × FindsBusy p q
   FindsNoTurn Worn p q = FindsWorn steps p q

@@ -25,7 +25,7 @@ endpoint_in_force (Waiting p) = None
 endpoint_in_force Down = None
 endpoint_in_force GaveUp = None
 
--- Its generation.
+-- The generation of that instance.
 abbrev pub in_force : State → Option ℕ
 in_force state = option_map (λ e. e.generation) (endpoint_in_force state)
 
@@ -39,7 +39,7 @@ pub record IsUncounted (s : RsRecord) (endpoint : EndpointRecord) : Type 0 where
   pub given : endpoint.generation < s.next
   pub none : (k : ℕ) → in_force (state_at s k) ≡ Some endpoint.generation → ⊥
 
--- Whether what comes from the instance is refused as of an old endpoint.
+-- Whether an event of the instance is refused with OldEndpoint.
 pub record IsLate (s : RsRecord) (endpoint : EndpointRecord) (tick : ℕ) : Type 0 where
   pub beat : asked s (Beat endpoint) tick ≡ Err OldEndpoint
   pub death : (cause : ℕ) → asked s (Death endpoint cause) tick ≡ Err OldEndpoint

@@ -46,8 +46,8 @@ pub fn numbers_rise()
     ensures { NumbersRise }
 {}
 
-/// Laws of instances that ended: after its death RS doesn't count an instance, and whatever comes from it later is refused as of an old
-/// endpoint. Steps keep generations single, and only a plan that starts an instance takes one.
+/// Laws of instances that ended: RS doesn't count an instance after its death, and an event of that instance that comes later is refused:
+/// OldEndpoint, if no earlier cause applies. Steps keep generations single, and only a plan that starts an instance takes one.
 pub fn deaths_are_final()
     ensures dead { DeadAreUncounted }
     ensures late { UncountedStayLate }
