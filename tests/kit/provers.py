@@ -4,7 +4,6 @@ import os
 import pathlib
 import shutil
 import subprocess
-import sys
 import tempfile
 
 import toolchain
@@ -120,7 +119,12 @@ class ProverAfterCi(Prover):
         return room / self.name
 
 
-def is_left_by_ci(name):
-    """Returns whether `rt ci` left the libraries below a crate in this tree. A stamp is an earlier check's."""
-    lefts = [(it, ROOT / "crates" / it / "out" / "rlib") for it in closure(name) - {name}]
-    return all((left / f"{it}.rlib").is_dir() and not (left / "stamp").exists() for it, left in lefts)
+@functools.cache
+def left_by_ci():
+    """Returns the crates whose libraries `rt ci` left in this tree."""
+    return {name for name in dependencies() if toolchain.is_left_by_ci(ROOT, name)}
+
+
+def prover(name, is_after_ci):
+    """Returns what proves a crate: over what `rt ci` left, if it left every library below that crate."""
+    return (ProverAfterCi if is_after_ci and closure(name) - {name} <= left_by_ci() else Prover)(name)

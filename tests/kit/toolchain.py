@@ -28,3 +28,9 @@ def program():
 def crate(root, name):
     """Returns a crate of a repository as the toolchain knows it: `words` has the compiler's arguments for it."""
     return library().Crate(str(root / "crates" / name), str(root), {})
+
+
+def is_left_by_ci(root, name):
+    """Returns whether `rt ci` left the library of a crate in a repository. A stamp is an earlier check's."""
+    left = root / "crates" / name / "out" / "rlib"
+    return (left / f"{name}.rlib").is_dir() and not (left / "stamp").exists()
