@@ -7,7 +7,9 @@ import subprocess
 import sys
 from concurrent.futures import ProcessPoolExecutor
 from dataclasses import dataclass
-from typing import List, Optional
+from typing import List, Optional, Union
+
+import tables
 
 TESTS = pathlib.Path(__file__).resolve().parent.parent
 CASES = TESTS / "dsctl" / "cases"
@@ -29,7 +31,7 @@ class Case:
 
     name: str
     args: List[str]
-    input: pathlib.Path
+    input: Union[pathlib.Path, tables.Text]
     output: bytes
     status: int = 0
     error: Optional[bytes] = None  # None: any text if the status is above 1, else a line for each bad line, or for the one reported
@@ -53,6 +55,12 @@ class Ran:
     error: bytes
 
 
+def cases_of(table):
+    """Returns the cases of a table, named as if each had a folder beside it."""
+    folder = table.parent.relative_to(CASES)
+    return [Case(f"{folder}/{it.name()}", it.args, tables.Text(it.input), it.output, it.status, it.error) for it in tables.rows(table)]
+
+
 def read_case(folder):
     """Reads the case that the files of a folder describe."""
 
@@ -70,15 +78,21 @@ def read_case(folder):
     )
 
 
+def read_cases():
+    """Reads every case of tests/dsctl/cases, by its name."""
+    read = [read_case(path.parent) for path in CASES.rglob("output")]
+    read += [case for table in CASES.rglob("*.cases") for case in cases_of(table)]
+    return sorted(read, key=lambda it: it.name)
+
+
 def all_cases():
     """Reads every case of tests/dsctl/cases, and every script, settings text, trace and text of commands of examples/ as a case of its own."""
-    folders = sorted(path.parent for path in CASES.rglob("output"))
     words = {".ds": [], ".toml": ["settings"], ".trace": ["verify"], ".commands": ["record"]}
     files = sorted(it for it in EXAMPLES.iterdir() if it.suffix in words)
     examples = [Case(f"examples/{it.name}", words[it.suffix], it, wanted_of(it), status_beside(it)) for it in files]
     older, newer = EXAMPLES / "older.trace", EXAMPLES / "upgraded.trace"
     examples.append(Case("examples/older.trace upgraded", ["upgrade"], older, newer.read_bytes()))
-    return [read_case(folder) for folder in folders] + examples
+    return read_cases() + examples
 
 
 def wanted_of(file):
