@@ -1,8 +1,41 @@
 /* A bridge: the parts of a fleet, each a struct and an enum of states of its own. The files of the parts begin with a
- * table each, of what becomes of a state by an event. docs/design/bridge.md says which part asks next. Used within the
- * library.
+ * table each, of what becomes of a state by an event. Used within the library.
  *
- * The parts share one connection, the teller's, for one round of questions at a time. */
+ * The parts share one connection, the teller's, for one round of questions at a time. ds_fleet.c chooses the next round:
+ *
+ *   if                                          | the teller's next round
+ *   --------------------------------------------+-------------------------------------------------
+ *   the server isn't met                        | the meeting
+ *   reading has a gap                           | fetching the snapshot
+ *   reading is at its end, a second has passed  | comparing
+ *   reading is at its end, the stream is long   | compacting
+ *   reading is at its end, an answer is `known` | a look, the first half of a comparing
+ *   something is untold                         | telling
+ *
+ * A store is in step if the server is met, reading is at its end, and nothing is untold. The bridge doesn't look for the
+ * teller's answer each time that the listener's news wakes it: that takes 6.4 system calls per change in place of 4.9,
+ * and no answer arrives earlier.
+ *
+ * crates/fleet_rule defines what a bridge may do, and has its laws. The tables' cells are these events of its definitions:
+ *
+ *   part, state      | event here                            | events of the rule
+ *   -----------------+---------------------------------------+--------------------------------------------------------------
+ *   server: CALLED   | met                                   | IsMet, then Meets, or Ignores if the history is the same
+ *   CALLED, MET      | connection lost or silent, or demoted | Disconnects
+ *   telling: NEWS    | sent, added, replicated               | AsksToAdd, IsAdded, IsReplicated, GetsAcknowledged
+ *                    | a part of several wasn't added        | AsksToAdd of the parts before it
+ *                    | the outbox is long                    | Folds
+ *   reading: BEHIND, | its entries are merged                | AsksToRead, IsRead, Consumes
+ *   END              | an item fits neither store            | ConsumesPart
+ *   GAP              | the snapshot is fetched               | AsksToFetch, IsFetched, TakesSnapshot, or TakesPart
+ *   any              | everything is to be read once more    | Rereads; after a loss Meets
+ *   compacting       | due, and written                      | AsksToCompact, IsCompacted
+ *                    | another bridge was faster             | IsOnlyAdded, or Ignores if nothing was added
+ *   comparing        | the server lost something             | Loses before it, then IsMet, Meets
+ *                    | others differ, this bridge is first   | Doubts
+ *   the step         | an own change took effect             | Changes
+ *                    | all held items are put into the outbox| Refills
+ */
 #ifndef DS_FLEET_BRIDGE_H
 #define DS_FLEET_BRIDGE_H
 
