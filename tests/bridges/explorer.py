@@ -1,7 +1,7 @@
 #!/usr/bin/env python3
 """tests/bridges/explorer.py [COUNT [FIRST]]: draws schedules of what bridges decide, against a model of a server that loses, and checks laws.
 
-The decisions are those of fleet/*.c, without lines, connections and time. An item is a number, so a store holds a set. Two bridges share a
+The decisions are those of daemon/fleet/*.c, without lines, connections and time. An item is a number, so a store holds a set. Two bridges share a
 server, and the events of clients, questions, answers and losses come in any order. COUNT schedules, or 3,000, begin with the seed FIRST, or
 0: none may break a law. Then guards are taken out of the decisions: for each of these wrong rules a schedule is sought that breaks a law, and
 shrunk until each of its events is needed. The last line is 'N passed, M failed'.

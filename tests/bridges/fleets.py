@@ -44,11 +44,11 @@ def until(so, what, seconds=PATIENCE):
         time.sleep(TICK)
 
 
-def build(library, program, *flags, folder=ROOT / "dsfleet"):
+def build(library, program, *flags, folder=ROOT / "daemon" / "dsfleet"):
     """Builds a bridge."""
     ran = subprocess.run([folder / "build", library, program, *flags], capture_output=True, text=True)
     if ran.returncode:
-        raise AssertionError(f"dsfleet/build: {ran.stderr[:3000]}")
+        raise AssertionError(f"daemon/dsfleet/build: {ran.stderr[:3000]}")
     return program
 
 
@@ -57,7 +57,7 @@ def dsask():
     """Builds dsask, once, and returns its path."""
     program = pathlib.Path(tempfile.mkdtemp(prefix="dsask")) / "dsask"
     atexit.register(shutil.rmtree, program.parent)
-    subprocess.run([ROOT / "ask" / "build", program], check=True)
+    subprocess.run([ROOT / "daemon" / "ask" / "build", program], check=True)
     return program
 
 
@@ -65,9 +65,9 @@ def build_over(library, program, source, *flags):
     """Builds a program that uses only the library of a fleet."""
     page = subprocess.run(["rt", "doc"], capture_output=True, text=True, check=True).stdout.split()[0]
     heap = os.environ.get("DS_HEAP") or pathlib.Path(page).parent / "c" / "liblibc_c.a"
-    parts = [ROOT / "serve" / "text.c", *(ROOT / "fleet").glob("*.c")]
+    parts = [ROOT / "daemon" / "serve" / "text.c", *(ROOT / "daemon" / "fleet").glob("*.c")]
     words = [os.environ.get("CC", "cc"), "-std=c11", "-pthread", "-D_GNU_SOURCE", "-Wall", "-Wextra", "-Wpedantic", "-Werror", "-O2", *flags]
-    subprocess.run([*words, "-I", ROOT / "c", "-I", ROOT / "serve", "-I", ROOT / "fleet", "-o", program, source, *parts, library, heap, "-lhiredis"], check=True)
+    subprocess.run([*words, "-I", ROOT / "c", "-I", ROOT / "daemon" / "serve", "-I", ROOT / "daemon" / "fleet", "-o", program, source, *parts, library, heap, "-lhiredis"], check=True)
     return program
 
 

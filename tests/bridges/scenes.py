@@ -1096,7 +1096,7 @@ def words_of_the_command_line(fleet, draw):
     status, out, err = run("--help")
     assert (status, err) == (0, "") and out.startswith("usage: dsfleet"), out
     for option in set(re.findall(r"--[a-z-]+", out)) - {"--version", "--help"}:
-        for page in ("docs/reference/fleet.md", "man/dsfleet.1", "completions/dsfleet.bash", "completions/_dsfleet", "completions/dsfleet.fish"):
+        for page in ("docs/reference/fleet.md", "tools/man/dsfleet.1", "tools/completions/dsfleet.bash", "tools/completions/_dsfleet", "tools/completions/dsfleet.fish"):
             text = (ROOT / page).read_text().replace("\\-", "-")
             assert option in text or f"-l {option[2:]} " in text, f"{page} lacks {option}"
     path = f"{fleet.home}/s"

@@ -1,4 +1,4 @@
-"""The tables of fleet/, cell by cell: each state of a part of a bridge meets each event, over a scripted server. scenes.py lists these.
+"""The tables of daemon/fleet/, cell by cell: each state of a part of a bridge meets each event, over a scripted server. scenes.py lists these.
 
 A table has lines ` *   STATE, .. | event | becomes, and does`: a cell for each of the states. A scene names each cell that it walks, and fails if
 the file has a cell that isn't walked.
@@ -23,17 +23,17 @@ class Walk:
 
     def __init__(self, name, fleet):
         self.name, self.fleet = name, fleet
-        rows = ROW.finditer((ROOT / "fleet" / f"{name}.c").read_text())
+        rows = ROW.finditer((ROOT / "daemon" / "fleet" / f"{name}.c").read_text())
         self.cells = {f"{state} | {it[2]}" for it in rows for state in it[1].strip().split(", ")}
         self.walked = set()
 
     def __call__(self, cell):
-        assert cell in self.cells, f"fleet/{self.name}.c has no cell `{cell}`"
+        assert cell in self.cells, f"daemon/fleet/{self.name}.c has no cell `{cell}`"
         self.walked.add(cell)
 
     def ends(self):
-        assert self.cells, f"fleet/{self.name}.c has no table"
-        assert self.cells == self.walked, f"fleet/{self.name}.c has cells that aren't walked: {self.cells - self.walked}"
+        assert self.cells, f"daemon/fleet/{self.name}.c has no table"
+        assert self.cells == self.walked, f"daemon/fleet/{self.name}.c has cells that aren't walked: {self.cells - self.walked}"
 
 
 @contextlib.contextmanager

@@ -292,9 +292,9 @@ def made(program):
     parts = {name: (read_help(said(program, name, "--help")), name) for name in names}
     version = said(program, "--version").strip()
     return {
-        ROOT / "man" / "dsctl.1": manual(version, whole, parts),
-        ROOT / "completions" / "dsctl.bash": bash(whole, parts),
-        ROOT / "completions" / "_dsctl": zsh(whole, parts),
-        ROOT / "completions" / "dsctl.fish": fish(whole, parts),
-        ROOT / "completions" / "dsctl.words": words(whole),
+        ROOT / "tools" / "man" / "dsctl.1": manual(version, whole, parts),
+        ROOT / "tools" / "completions" / "dsctl.bash": bash(whole, parts),
+        ROOT / "tools" / "completions" / "_dsctl": zsh(whole, parts),
+        ROOT / "tools" / "completions" / "dsctl.fish": fish(whole, parts),
+        ROOT / "tools" / "completions" / "dsctl.words": words(whole),
     }

@@ -78,11 +78,11 @@ def lives(pid):
         return False
 
 
-def build(library, room, *flags, folder=ROOT / "rs"):
+def build(library, room, *flags, folder=ROOT / "daemon" / "rs"):
     """Builds dsrs and dsask into a folder."""
     ran = subprocess.run([folder / "build", library, room, *flags], capture_output=True, text=True)
     if ran.returncode:
-        raise AssertionError(f"rs/build: {ran.stderr[:3000]}")
+        raise AssertionError(f"daemon/rs/build: {ran.stderr[:3000]}")
     return pathlib.Path(room)
 
 

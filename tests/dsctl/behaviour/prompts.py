@@ -23,7 +23,7 @@ LONGEST = 4096
 def keeps_the_session_at_an_interrupt(program):
     """^C takes the line back, at the start of a line and within one, and `quit` ends; with rlwrap, if it is installed, and without it. Without
     a terminal, only dsctl is run, with the same words."""
-    script = harness.TESTS.parent / "completions" / "dsctl-prompt"
+    script = harness.TESTS.parent / "tools" / "completions" / "dsctl-prompt"
     for more in [(), *([("rlwrap",)] if shutil.which("rlwrap") else [])]:
         with tempfile.TemporaryDirectory() as folder:
             for it in (*NEEDED, *more):

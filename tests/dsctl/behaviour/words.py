@@ -46,14 +46,14 @@ shown 1
 
 
 def the_manual_and_the_completions_are_current(program):
-    """man/ and completions/ have what the program's help makes."""
+    """man/ and tools/completions/ have what the program's help makes."""
     stale = [str(path.relative_to(manual.ROOT)) for path, text in manual.made(program).items() if not path.exists() or path.read_text() != text]
     assert not stale, f"not what `tests/dsctl/manual {program}` writes: {', '.join(stale)}"
 
 
 def the_manual_fits_a_terminal(program):
     """The manual page has the sections that readers look for, and no row that is shown unchanged is longer than a terminal's."""
-    page = manual.made(program)[manual.ROOT / "man" / "dsctl.1"]
+    page = manual.made(program)[manual.ROOT / "tools" / "man" / "dsctl.1"]
     titles = re.findall(r"^\.SH (.*)$", page, re.MULTILINE)
     missing = {"NAME", "SYNOPSIS", "DESCRIPTION", "OPTIONS", "COMMANDS", "EXIT STATUS", "EXAMPLES", "SEE ALSO"} - set(titles)
     assert not missing and len(set(titles)) == len(titles), f"{missing} of {titles}"
