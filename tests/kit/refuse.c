@@ -8,12 +8,11 @@
 //   REFUSE_WRITE=n   the n-th write to standard output fails with EIO
 //   REFUSE_SHORT=k   each read of standard input returns, and each write to standard output takes, at most k bytes
 //   REFUSE_AGAIN=k   each of these reads and writes fails k times with EINTR before it succeeds
-//   REFUSE_STACK=F   the file F gets, at the refused growth, the address that the program is loaded at and the words of the
-//                    stack up to main, which show which function asked (tests/kit/askers.py)
-//   REFUSE_EACH=D    growths are refused by copies of the process: at the n-th, from REFUSE_FROM to REFUSE_TO, a copy goes on without the memory
-//                    to its end, and then the process with it. D/n.out and D/n.error get what was written before, and what the copy
-//                    writes; D/n.stack is as REFUSE_STACK; D/n.status has the copy's status as `waitpid` gives it. Standard input, output
-//                    and error must be files, and the program must have no other thread
+//   REFUSE_STACK=F   the file F gets, at the refused growth, the address that the program is loaded at and those words of the
+//                    stack up to main that are addresses of its code, which show which function asked (tests/kit/askers.py)
+//   REFUSE_EACH=F    growths are refused to copies of the process: at the n-th, from REFUSE_FROM to REFUSE_TO, a copy goes on without the memory
+//                    to its end, and then the process with it, which ends after the last copy. The file F gets a row of each copy
+//                    (`struct row`). Standard input, output and error must be three files, and the program must have no other thread
 //   REFUSE_TALLY=F   the file F, four 64-bit words, gets the number of growths, reads and writes, and of bytes read
 //
 // Calls are counted from the start of the program's `main`, over all its threads. What the loader and the C library take
@@ -25,14 +24,15 @@
 // one name by which a program takes memory, reads or writes; tests/dsctl/refusals fails for a program that imports others.
 #define _GNU_SOURCE
 #include <dlfcn.h>
+#include <elf.h>
 #include <errno.h>
 #include <fcntl.h>
 #include <pthread.h>
 #include <stdatomic.h>
 #include <stddef.h>
 #include <stdint.h>
-#include <stdio.h>
 #include <stdlib.h>
+#include <sys/auxv.h>
 #include <sys/mman.h>
 #include <sys/syscall.h>
 #include <sys/uio.h>
@@ -40,7 +40,7 @@
 #include <unistd.h>
 
 enum call { GROWTH, READ, WRITE, BYTES, WORDS };
-enum { MOST_STACK = 8 << 20, MOST_PATH = 4096, SECONDS = 120 };
+enum { MOST_STACK = 8 << 20, MOST_CALLS = 1 << 16, SECONDS = 120 };
 
 static _Atomic uint64_t *tally; // NULL until main begins
 static uint64_t refused[WORDS]; // which call of each kind fails; 0 for none
@@ -51,7 +51,7 @@ static uint64_t interruptions;   // of each read and write before it succeeds
 static _Atomic uint64_t interrupted; // how many the next one has had
 static uint64_t refused_thread;  // which thread can't start; 0 for none
 static _Atomic uint64_t threads; // how many were started
-static const char *copies;       // the folder of what copies of the process write; NULL for none
+static int copies = -1;          // the file of what copies of the process did; none
 static uint64_t first_copy, last_copy; // the growths that copies are refused
 static _Atomic uint64_t own_tally[WORDS]; // a copy's
 static int stack_file = -1; // none
@@ -85,7 +85,7 @@ static void begin(void) {
     interruptions = number_of("REFUSE_AGAIN");
     refused_thread = number_of("REFUSE_THREAD");
     stack_file = opened("REFUSE_STACK");
-    copies = getenv("REFUSE_EACH");
+    copies = opened("REFUSE_EACH");
     first_copy = number_of("REFUSE_FROM");
     last_copy = number_of("REFUSE_TO");
     tally = words;
@@ -122,82 +122,118 @@ static int refuses(enum call call) {
     return tally && atomic_fetch_add(&tally[call], 1) + 1 == refused[call];
 }
 
-// The stack is written only for the thread that runs main.
+// Returns the address that the program is loaded at, and sets the first address of its code and the one after its last.
+static uint64_t code_of_program(uint64_t *first, uint64_t *end) {
+    const Elf64_Phdr *parts = (const Elf64_Phdr *)getauxval(AT_PHDR);
+    uint64_t count = getauxval(AT_PHNUM), base = 0;
+    *first = UINT64_MAX, *end = 0;
+    for (uint64_t at = 0; at < count; at++)
+        if (parts[at].p_type == PT_PHDR)
+            base = (uint64_t)parts - parts[at].p_vaddr;
+    for (uint64_t at = 0; at < count; at++) {
+        uint64_t from = base + parts[at].p_vaddr, to = from + parts[at].p_memsz;
+        if (parts[at].p_type == PT_LOAD && parts[at].p_flags & PF_X) {
+            *first = from < *first ? from : *first;
+            *end = to > *end ? to : *end;
+        }
+    }
+    return base;
+}
+
+// Fills `calls` with the address that the program is loaded at and the words of the stack that are addresses of its code. Returns how many
+// bytes that are: none for a thread that doesn't run main.
+static size_t calls_of(char *frame, uint64_t calls[MOST_CALLS]) {
+    if (frame > main_frame || main_frame - frame > MOST_STACK)
+        return 0;
+    uint64_t first, end, count = 1;
+    calls[0] = code_of_program(&first, &end);
+    for (uint64_t *at = (uint64_t *)frame; at < (uint64_t *)main_frame && count < MOST_CALLS; at++)
+        if (first <= *at && *at < end)
+            calls[count++] = *at;
+    return count * sizeof *calls;
+}
+
 static void tell_stack(char *frame) {
-    Dl_info program;
-    if (stack_file < 0 || frame > main_frame || main_frame - frame > MOST_STACK || !dladdr((void *)main_of_program, &program))
-        return;
-    syscall(SYS_write, stack_file, &program.dli_fbase, sizeof program.dli_fbase);
-    syscall(SYS_write, stack_file, frame, main_frame - frame);
+    static uint64_t calls[MOST_CALLS];
+    if (stack_file >= 0)
+        syscall(SYS_write, stack_file, calls, calls_of(frame, calls));
 }
 
 // ---- copies of the process ----
 
-static int file_of_copy(uint64_t number, const char *part) {
-    char path[MOST_PATH];
-    snprintf(path, sizeof path, "%s/%llu.%s", copies, (unsigned long long)number, part);
-    int file = open(path, O_RDWR | O_CREAT | O_TRUNC, 0600);
-    if (file < 0)
+// What is told of a copy: the growth, its status as `waitpid` gives it, how many bytes of output and error precede its own, and how many bytes
+// follow: those that it wrote to each, and what REFUSE_STACK tells.
+struct row { uint64_t number, status, before[2], written[2], stack; };
+
+static off_t place_of(int file) {
+    return lseek(file, 0, SEEK_CUR);
+}
+
+static void tell(const void *from, size_t count) {
+    if (syscall(SYS_write, copies, from, count) != (long)count)
         _exit(99);
-    return file;
 }
 
-// Gives a copy an output of its own, with what was written before.
-static void own_output(int file, uint64_t number, const char *part) {
-    char path[32], block[4096];
-    snprintf(path, sizeof path, "/proc/self/fd/%d", file);
-    int from = open(path, O_RDONLY), to = file_of_copy(number, part);
-    long done;
-    while ((done = syscall(SYS_read, from, block, sizeof block)) > 0)
-        syscall(SYS_write, to, block, done);
-    dup2(to, file);
-    close(from);
-    close(to);
+// Takes the bytes from a place on out of an output, and tells them.
+static void take_written(int file, off_t from, size_t count) {
+    char path[] = "/proc/self/fd/0", block[1 << 16];
+    path[sizeof path - 2] = '0' + file;
+    int reader = count ? open(path, O_RDONLY) : -1;
+    for (long done; count; count -= done, from += done) {
+        done = pread(reader, block, count < sizeof block ? count : sizeof block, from);
+        if (done <= 0)
+            _exit(99);
+        tell(block, done);
+    }
+    close(reader);
 }
 
-// Gives a copy an input of its own, at the same place.
-static void own_input(void) {
-    int from = open("/proc/self/fd/0", O_RDONLY);
-    lseek(from, lseek(STDIN_FILENO, 0, SEEK_CUR), SEEK_SET);
-    dup2(from, STDIN_FILENO);
-    close(from);
-}
-
-static void become_copy(uint64_t number) {
-    own_input();
-    own_output(STDOUT_FILENO, number, "out");
-    own_output(STDERR_FILENO, number, "error");
-    stack_file = file_of_copy(number, "stack");
+static void become_copy(void) {
     for (size_t at = 0; at < WORDS; at++)
         atomic_store(&own_tally[at], atomic_load(&tally[at]));
     tally = own_tally;
-    copies = NULL;
+    copies = -1;
     alarm(SECONDS);
 }
 
-// Returns whether this is the copy that the growth of this number is refused to. The process itself waits for its end.
-static int is_copy(uint64_t number) {
-    if (!copies || number < first_copy || number > last_copy)
+// Returns whether this is the copy that the growth of this number is refused to. The process itself waits for its end, and then has its input
+// and outputs as they were before. It ends after the last copy.
+static int is_copy(uint64_t number, char *frame) {
+    static uint64_t calls[MOST_CALLS];
+    if (copies < 0 || number < first_copy || number > last_copy)
         return 0;
+    off_t read_to = place_of(STDIN_FILENO);
+    struct row row = {.number = number, .before = {place_of(STDOUT_FILENO), place_of(STDERR_FILENO)}};
     pid_t copy = fork();
     if (copy == 0) {
-        become_copy(number);
+        become_copy();
         return 1;
     }
-    int status, file = file_of_copy(number, "status");
+    int status;
     if (copy < 0 || waitpid(copy, &status, 0) != copy)
         _exit(99);
-    syscall(SYS_write, file, &status, sizeof status);
-    close(file);
+    row.status = status;
+    for (int at = 0; at < 2; at++)
+        row.written[at] = place_of(STDOUT_FILENO + at) - row.before[at];
+    row.stack = calls_of(frame, calls);
+    tell(&row, sizeof row);
+    for (int at = 0; at < 2; at++) {
+        take_written(STDOUT_FILENO + at, row.before[at], row.written[at]);
+        if (ftruncate(STDOUT_FILENO + at, lseek(STDOUT_FILENO + at, row.before[at], SEEK_SET)))
+            _exit(99);
+    }
+    tell(calls, row.stack);
+    if (number == last_copy)
+        _exit(0);
+    lseek(STDIN_FILENO, read_to, SEEK_SET);
     return 0;
 }
 
 static int refuses_growth(void) {
     if (!tally || atomic_load(&tally[WRITE]) < writes_before)
         return 0;
-    if (is_copy(atomic_load(&tally[GROWTH]) + 1)) {
+    if (is_copy(atomic_load(&tally[GROWTH]) + 1, __builtin_frame_address(0))) {
         atomic_fetch_add(&tally[GROWTH], 1);
-        tell_stack(__builtin_frame_address(0));
         errno = ENOMEM;
         return 1;
     }

@@ -10,6 +10,7 @@ import askers
 import harness
 
 CALLS = ("growth", "read", "write")
+ROW = struct.Struct("7Q")  # what tests/kit/refuse.c tells of a copy
 # Names of functions that take memory, read or write. A program that calls one which tests/kit/refuse.c lacks bypasses it.
 MOVES = re.compile(
     "alloc|memalign|mmap|mremap|brk$|strn?dup|getline|getdelim|read|recv|scanf|getc|gets|write|send|printf|put[sc]|splice|syscall"
@@ -61,16 +62,19 @@ class Refuser:
         """Runs a case once, and refuses each growth from `first` to `last` to a copy of the process. Yields each copy's run, in order, up to the
         first growth that wasn't made."""
         with tempfile.TemporaryDirectory(dir=self.room) as folder:
-            room = pathlib.Path(folder)
-            environment = self.environment(REFUSE_EACH=folder, REFUSE_FROM=first, REFUSE_TO=last)
-            with case.input.open("rb") as given, open(room / "out", "wb") as out, open(room / "error", "wb") as error:
+            told, *outputs = [pathlib.Path(folder, it) for it in ("told", "out", "error")]
+            told.touch()
+            environment = self.environment(REFUSE_EACH=told, REFUSE_FROM=first, REFUSE_TO=last)
+            with case.input.open("rb") as given, outputs[0].open("wb") as out, outputs[1].open("wb") as error:
                 words = [self.program, *case.args]
                 subprocess.run(words, stdin=given, stdout=out, stderr=error, env=environment, timeout=10 * harness.SECONDS)
-            for number in range(first, last + 1):
-                if not (room / f"{number}.status").exists():
-                    return
-                output, error, self.stack, status = [(room / f"{number}.{part}").read_bytes() for part in ("out", "error", "stack", "status")]
-                yield harness.Ran(output, os.waitstatus_to_exitcode(*struct.unpack("i", status)), error)
+            written = [it.read_bytes() for it in outputs]
+            with told.open("rb") as rows:
+                while head := rows.read(ROW.size):
+                    _number, status, *counts, stack = ROW.unpack(head)
+                    output, error = [it[:before] + rows.read(count) for it, before, count in zip(written, counts[:2], counts[2:])]
+                    self.stack = rows.read(stack)
+                    yield harness.Ran(output, os.waitstatus_to_exitcode(status), error)
 
     def counted(self, case):
         """Runs a case with ample memory. Returns what is wrong, or None, and the number of growths."""
