@@ -1,0 +1,2 @@
+pub mod CrossingLemmas
+mod FreshLemmas

@@ -1,0 +1,4 @@
+pub mod Fresh
+pub mod Board
+pub mod Calls
+pub mod Crossing
