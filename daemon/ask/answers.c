@@ -8,13 +8,6 @@
 
 enum { MOST = 256 /* items of a check */ };
 
-size_t answer_length(const char *bytes, size_t length) {
-    if (!length) return 0;
-    if (*bytes == '\n') return 1;
-    const char *end = memmem(bytes, length, "\n\n", 2);
-    return end ? (size_t)(end - bytes) + 2 : 0;
-}
-
 bool answer_is_notice(const char *answer, size_t length) { return text_begins(answer, length, "notice "); }
 
 /* Written at once, so a pipe's reader has each answer on arrival. */

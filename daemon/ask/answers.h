@@ -6,8 +6,6 @@
 #include <stdbool.h>
 #include <stddef.h>
 
-/* Returns how many bytes the first answer has, with the empty line, or 0 if the answer isn't whole. */
-size_t answer_length(const char *bytes, size_t length);
 /* Whether an answer is a notice, which answers no line. */
 bool answer_is_notice(const char *answer, size_t length);
 

@@ -1,16 +1,14 @@
 /* dsask: sends lines to a dsrs or a dsfleet, and prints the answers. */
 #include "answers.h"
-#include "ds.h"
+#include "client.h"
 #include "text.h"
 #include "usage.h"
 #include <errno.h>
-#include <fcntl.h>
 #include <poll.h>
 #include <signal.h>
 #include <stdio.h>
 #include <stdlib.h>
 #include <string.h>
-#include <sys/socket.h>
 #include <sys/un.h>
 #include <unistd.h>
 
@@ -57,14 +55,13 @@ static const char lines[] =
 
 struct options { struct watching watching; const char *socket; char **line; int count; };
 
-/* A connection, the bytes still to be sent, and how many answers are missing. */
+/* What is asked by a client, and how many answers are missing. */
 struct asking {
-    int socket;
+    struct ds_client *client;
     bool reads;            /* standard input hasn't ended */
     bool prompts;
     size_t owed;
     char last;             /* the last byte of the lines */
-    struct text unsent, came;
     struct printing printing;
     struct watching *watching; /* or NULL */
 };
@@ -107,29 +104,11 @@ static int read_words(int count, char **words, struct options *options) {
 
 /* ---- asking ---- */
 
-/* Returns a socket above the standard descriptors, of which the caller may have closed some; or -1 with errno. */
-static int new_socket(void) {
-    int low = socket(AF_UNIX, SOCK_STREAM | SOCK_CLOEXEC, 0);
-    if (low < 0 || low > STDERR_FILENO) return low;
-    int high = fcntl(low, F_DUPFD_CLOEXEC, STDERR_FILENO + 1);
-    close(low);
-    return high;
-}
-
-static int connected(const char *path) {
-    struct sockaddr_un address = {.sun_family = AF_UNIX};
-    snprintf(address.sun_path, sizeof address.sun_path, "%s", path);
-    int it = new_socket();
-    if (it >= 0 && !connect(it, (struct sockaddr *)&address, sizeof address)) return it;
-    fprintf(stderr, "dsask: %s: %s\n", path, strerror(errno));
-    return -1;
-}
-
 /* Gives lines to be sent, of which each whole one is owed an answer. */
 static bool give(struct asking *asking, const char *bytes, size_t length) {
     for (size_t i = 0; i < length; i++) asking->owed += bytes[i] == '\n';
     if (length) asking->last = bytes[length - 1];
-    return text_put(&asking->unsent, bytes, length);
+    return !ds_client_put(asking->client, bytes, length);
 }
 
 /* At a terminal, `help` is answered here, and the answer to `status` is a table unless lines are typed ahead. */
@@ -143,38 +122,26 @@ static bool read_input(struct asking *asking) {
     return asking->last == '\n' || give(asking, "\n", 1);
 }
 
-/* Bytes that the other end sent before a hang-up are read all the same. */
-static void send_some(struct asking *asking) {
-    ssize_t put = send(asking->socket, asking->unsent.bytes, asking->unsent.length, MSG_DONTWAIT | MSG_NOSIGNAL);
-    if (put > 0) text_drop(&asking->unsent, (size_t)put);
-    if (put < 0 && errno == EPIPE) text_free(&asking->unsent);
-}
-
-/* Takes the answers that have come whole. */
+/* Takes the answers that have come whole. Returns false if memory ran out, or nobody reads the output. */
 static bool take_answers(struct asking *asking) {
+    const char *answer;
     size_t length;
-    while ((length = answer_length(asking->came.bytes, asking->came.length)) > 0) {
+    while ((length = ds_client_take(asking->client, &answer)) > 0) {
         struct text next = {0};
-        bool is_notice = answer_is_notice(asking->came.bytes, length);
-        bool fine = asking->watching ? watching_take(asking->watching, asking->came.bytes, length, &next)
-                                     : printing_put(&asking->printing, asking->came.bytes, length);
-        asking->owed -= !is_notice;
+        asking->owed -= !answer_is_notice(answer, length);
+        bool fine = asking->watching ? watching_take(asking->watching, answer, length, &next) : printing_put(&asking->printing, answer, length);
         fine = fine && give(asking, next.bytes, next.length);
         text_free(&next);
         if (!fine) return false;
-        text_drop(&asking->came, length);
     }
     return true;
 }
 
-/* Returns false where the other end hung up, memory ran out, or nobody reads the output. */
-static bool receive(struct asking *asking) {
-    if (!text_room(&asking->came, PIECE)) return false;
-    ssize_t length = recv(asking->socket, asking->came.bytes + asking->came.length, PIECE, 0);
-    if (length <= 0) errno = ECONNRESET;
-    if (length <= 0) return false;
-    asking->came.length += (size_t)length;
-    return take_answers(asking);
+/* Sends and receives. Returns false if the other end hung up, too. */
+static bool exchange(struct asking *asking) {
+    uint32_t fault = ds_client_turn(asking->client);
+    if (fault) errno = fault == DS_CLIENT_LOST ? ECONNRESET : ENOMEM;
+    return !fault && take_answers(asking);
 }
 
 static void prompt(const struct asking *asking) {
@@ -187,12 +154,11 @@ static void prompt(const struct asking *asking) {
 static bool run(struct asking *asking) {
     prompt(asking);
     while (asking->owed || asking->reads || asking->watching) {
-        short events = (short)(POLLIN | (asking->unsent.length ? POLLOUT : 0));
-        struct pollfd polled[] = {{.fd = asking->socket, .events = events}, {.fd = asking->reads ? STDIN_FILENO : -1, .events = POLLIN}};
+        struct pollfd polled[] = {{.fd = ds_client_file(asking->client), .events = ds_client_events(asking->client)},
+                                  {.fd = asking->reads ? STDIN_FILENO : -1, .events = POLLIN}};
         if (poll(polled, 2, -1) < 0) return false;
-        if (polled[0].revents & POLLOUT) send_some(asking);
-        if (polled[0].revents & (POLLIN | POLLHUP | POLLERR)) {
-            if (!receive(asking)) return false;
+        if (polled[0].revents) {
+            if (!exchange(asking)) return false;
             prompt(asking);
         }
         if (!polled[1].revents) continue;
@@ -203,11 +169,9 @@ static bool run(struct asking *asking) {
 }
 
 static int ask(const struct options *options, struct asking *asking) {
-    bool fine = true;
-    if (options->watching.pattern) {
-        fine = watching_begin(asking->watching, &asking->unsent);
-        asking->owed = 1;
-    }
+    struct text first = {0};
+    bool fine = !options->watching.pattern || (watching_begin(asking->watching, &first) && give(asking, first.bytes, first.length));
+    text_free(&first);
     for (int i = 0; fine && i < options->count; i++)
         fine = give(asking, options->line[i], strlen(options->line[i])) && give(asking, "\n", 1);
     if (!fine) return out_of_memory();
@@ -222,15 +186,16 @@ int main(int count, char **words) {
     int status = read_words(count, words, &options);
     if (status != GO_ON) return status;
     signal(SIGPIPE, SIG_IGN);
-    struct asking asking = {.socket = connected(options.socket), .last = '\n'};
-    if (asking.socket < 0) return REFUSED;
+    struct asking asking = {.last = '\n'};
+    if (ds_client_open(&asking.client, options.socket, -1)) {
+        fprintf(stderr, "dsask: %s: %s\n", options.socket, strerror(errno));
+        return REFUSED;
+    }
     asking.watching = options.watching.pattern ? &options.watching : NULL;
     asking.reads = !options.count && !asking.watching;
     asking.prompts = asking.reads && isatty(STDIN_FILENO) && isatty(STDOUT_FILENO);
     if (asking.prompts) fputs(greeting, stderr);
     status = ask(&options, &asking);
-    text_free(&asking.unsent);
-    text_free(&asking.came);
-    close(asking.socket);
+    ds_client_close(asking.client);
     return status;
 }

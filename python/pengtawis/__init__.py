@@ -1,10 +1,12 @@
 """Pengtawis: where drivers are that crash and restart. docs/guide/python.md is its page.
 
-A `Store`, an `Rs`, a `Map` and the driver tables are in this process, over libds. A `Client` and an `AsyncClient` send lines to a dsfleet.
+A `Store`, an `Rs`, a `Map` and the driver tables are in this process, over libds. A `Client` and an `AsyncClient` send lines to a dsfleet
+or a dsrs, and an `Instance` is the side of a process that dsrs started.
 Every refusal is an exception, and is raised. Those that come with actions of RS, with moves of a table or in the list of
 `Store.publish_all` are only returned.
 """
 from .client import AsyncClient, Client
+from .instance import Instance
 from .map import Map
 from .refusals import (
     Ahead, AlreadyUp, Assigned, BadCause, BadFirst, BadItems, BadKind, BadLabel, BadLine, BadPattern, BadRing, BadSub,
@@ -18,9 +20,10 @@ from .table import Fail, FileTable, Finish, Hold, Move, Moved, NetworkTable, Sen
 from .values import (
     RS, Change, Cursor, Done, Endpoint, Floor, Items, Merged, Page, Reading, Subscribed, Swept, Value, Version, read_item,
 )
+from .watch import Anew, Watch
 
 __all__ = [
-    "AsyncClient", "BadItems", "BadLine", "Client", "FileTable", "Map", "NetworkTable", "Rs", "Store", "RS", "Change",
+    "Anew", "AsyncClient", "BadItems", "BadLine", "Client", "FileTable", "Instance", "Map", "NetworkTable", "Rs", "Store", "RS", "Change",
     "Cursor", "Done", "Endpoint", "Floor", "Items", "Merged", "Page", "Reading", "Subscribed", "Swept", "Value", "Version",
     "read_item", "Acted", "Action", "Cause", "Class", "GiveUp", "Kill", "Offer", "Ping", "Service", "Start", "State", "Sweep",
     "Fail", "Finish", "Hold", "Move", "Moved", "Send", "StartPort", "Ahead", "AlreadyUp", "Assigned", "BadCause", "BadFirst",
@@ -28,5 +31,5 @@ __all__ = [
     "GenerationsSpent", "IsClosed", "IsOpen", "Missing", "NoCaller", "NoDevice", "NoRoom", "NoSlot", "NotAllowed", "NotFound",
     "NotOwner", "NotPending", "NotSender", "NotUp", "OldCursor", "OldEndpoint", "OutOfRange", "Refused", "SharedName",
     "Stale", "TickBack", "Toml", "TooLong", "TooMany", "TwoIds", "TwoLabels", "TwoUnits", "UnknownField", "UnknownLabel",
-    "Worn",
+    "Watch", "Worn",
 ]

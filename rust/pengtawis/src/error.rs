@@ -37,6 +37,15 @@ macro_rules! refusals {
                 }
             }
 
+            /// Returns the refusal of a word, if the word is known.
+            pub(crate) fn worded(word: &str, version: Version) -> Option<Refusal> {
+                match word {
+                    $($word => Some(Refusal::$name),)*
+                    "clash" => Some(Refusal::Clash(version)),
+                    _ => None,
+                }
+            }
+
             fn said(&self) -> &'static str {
                 match self {
                     $(Refusal::$name => $said,)*
@@ -174,3 +183,59 @@ impl fmt::Display for Error {
 }
 
 impl std::error::Error for Error {}
+
+/// Why a call of a [`Client`](crate::Client) did nothing.
+#[derive(Debug)]
+#[non_exhaustive]
+pub enum ClientError {
+    /// The daemon refused the call. Nothing changed.
+    Refused(Refusal),
+    /// The connection acts under another endpoint.
+    NotSender,
+    /// The daemon can't read the line.
+    BadLine,
+    /// The daemon doesn't know the line, or not from this client.
+    NoRequest,
+    /// A refusal of a newer daemon, by its word.
+    Other(String),
+    /// The time is over. A later answer is dropped, so the next call gets its own.
+    Timeout,
+    /// There is no connection.
+    Lost(std::io::Error),
+    /// A line with a newline, or no endpoint to publish under. Nothing was sent.
+    BadCall,
+}
+
+impl ClientError {
+    /// Returns the daemon's word, or `timeout`, `lost` or `badcall`.
+    pub fn word(&self) -> &str {
+        match self {
+            ClientError::Refused(refusal) => refusal.word(),
+            ClientError::NotSender => "notsender",
+            ClientError::BadLine => "badline",
+            ClientError::NoRequest => "norequest",
+            ClientError::Other(word) => word,
+            ClientError::Timeout => "timeout",
+            ClientError::Lost(_) => "lost",
+            ClientError::BadCall => "badcall",
+        }
+    }
+}
+
+impl From<Refusal> for ClientError {
+    fn from(refusal: Refusal) -> ClientError {
+        ClientError::Refused(refusal)
+    }
+}
+
+impl fmt::Display for ClientError {
+    fn fmt(&self, to: &mut fmt::Formatter<'_>) -> fmt::Result {
+        match self {
+            ClientError::Refused(refusal) => refusal.fmt(to),
+            ClientError::Lost(why) => write!(to, "lost: {why}"),
+            other => to.write_str(other.word()),
+        }
+    }
+}
+
+impl std::error::Error for ClientError {}

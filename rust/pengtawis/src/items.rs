@@ -191,7 +191,7 @@ fn kind_of(word: &str) -> Option<Kind> {
     }
 }
 
-fn body_of(kind: Kind, text: &str) -> Option<Body<'_>> {
+pub(crate) fn body_of(kind: Kind, text: &str) -> Option<Body<'_>> {
     match kind {
         Kind::Label => {
             let (generation, slot) = text.split_once('/')?;

@@ -1,7 +1,8 @@
 //! Pengtawis: where drivers are that crash and restart. `docs/guide/rust.md` is its page.
 //!
 //! A [`Store`], an [`Rs`] beside one, a [`Map`] and a [`Table`] are in this process, over the library for C, which is proved; this crate
-//! around it is tested. Every refusal is a variant of [`Refusal`]. No call panics.
+//! around it is tested. Every refusal is a variant of [`Refusal`]. No call panics. A [`Client`] sends lines to a dsfleet or a dsrs, and an
+//! [`Instance`] is the side of a process that dsrs started.
 //!
 //! If memory runs out, a call of a `Store`, an `Rs`, a `Map` or a `Table` is refused as [`Refusal::NoRoom`], and you can repeat it. Keep
 //! the [`Shown`] of a check until [`items`](Shown::items) succeeded; dropping it loses its items. Iterating over [`Items`] allocates by
@@ -9,19 +10,25 @@
 
 #![doc(test(attr(deny(unused_must_use))))] // an example that drops an answer fails
 
+mod client;
 mod error;
 mod ffi;
+mod instance;
 mod items;
 #[cfg(test)]
 mod layout;
 mod map;
 mod rs;
 mod shown;
+mod sockets;
 mod store;
 mod table;
 mod values;
+mod watch;
 
-pub use error::{Error, Refusal, Stopped};
+pub use client::Client;
+pub use error::{ClientError, Error, Refusal, Stopped};
+pub use instance::Instance;
 pub use items::{Body, Change, Item, Items, ItemsIter, OwnedItem, OwnedItems};
 pub use map::Map;
 pub use rs::{Acted, Action, Cause, Rs, Service, SettingsFault, State};
@@ -29,6 +36,7 @@ pub use shown::Shown;
 pub use store::{Found, Store};
 pub use table::{Class, Move, Moves, Server, Table};
 pub use values::{Cursor, Done, Endpoint, Kind, Kinds, Merged, NoEndpoint, Owed, Scope, Subscribed, Swept, Value, Version, RS};
+pub use watch::{Event, Watch};
 
 /// The examples of the guide.
 #[cfg(doctest)]
