@@ -4,6 +4,9 @@
  * those of heartbeats. Between answers the daemon sends notices, pings and peers, which are known by their first word.
  *
  * A watch takes notices for no more than a wake-up. All that it returns comes from `since` at its cursor, or from a snapshot. */
+#ifndef _GNU_SOURCE
+#define _GNU_SOURCE
+#endif
 #include "client.h"
 #include <errno.h>
 #include <fcntl.h>
@@ -599,7 +602,7 @@ bool ds_item_read(const char **lines, struct ds_item *item) {
     return true;
 }
 
-/* Takes the first notice, of a subscription that is no watch's. */
+/* Takes the first notice whose subscription isn't a watch's. */
 static bool take_notice(struct ds_client *client, int *sub) {
     for (int it = 0; it < SUBS; it++) {
         if (!has(client->noticed, it) || has(client->watched, it)) continue;

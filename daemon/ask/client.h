@@ -145,7 +145,7 @@ uint32_t ds_instance_open(struct ds_client **instance, int timeout) DS_NODISCARD
 struct ds_endpoint ds_instance_endpoint(const struct ds_client *instance);
 /* Returns the descriptor at which the instance accepts clients, DS_LISTEN, or -1. */
 int ds_instance_listener(void);
-/* Answers pings for so many milliseconds. Returns 0 when they are over. */
+/* Answers pings for this time. Returns 0 when the time is over. */
 uint32_t ds_instance_wait(struct ds_client *instance, int milliseconds) DS_NODISCARD;
 /* Sends a heartbeat, for a process that is busy between two waits. */
 uint32_t ds_instance_beat(struct ds_client *instance) DS_NODISCARD;

@@ -55,7 +55,7 @@ static const char lines[] =
 
 struct options { struct watching watching; const char *socket; char **line; int count; };
 
-/* What is asked by a client, and how many answers are missing. */
+/* A client, and how many of its answers are missing. */
 struct asking {
     struct ds_client *client;
     bool reads;            /* standard input hasn't ended */

@@ -4,30 +4,16 @@
 SOCKET is that of a dsrs. It needs the package `pengtawis`: PYTHONPATH=python in the repository, or docs/guide/python.md.
 """
 import contextlib
-import socket
 import sys
-import time
 
-from pengtawis import Client, Endpoint, NotFound
-
-
-def connected(dsrs, path, label):
-    """Returns the endpoint of the living instance, and a connection to it."""
-    while True:
-        try:
-            where = Endpoint.parse(dsrs.ask(f"retrieve {label} label")[0].removeprefix("found "))
-            service = socket.socket(socket.AF_UNIX, socket.SOCK_SEQPACKET)
-            service.connect(f"{path}.d/{where.generation}.{where.slot}")
-            return where, service
-        except (NotFound, ConnectionRefusedError, FileNotFoundError):
-            time.sleep(0.001)  # until RS starts the next instance
+from pengtawis import Client
 
 
 def answers(path, label):
     """Yields each answer with the endpoint that was asked. Once an instance died, its answer is empty."""
     with Client(path) as dsrs:
         while True:
-            where, service = connected(dsrs, path, label)
+            where, service = dsrs.connect(label)
             with service, contextlib.suppress(ConnectionError):
                 service.send(b"hello")
                 while said := service.recv(4096):

@@ -5,29 +5,14 @@ It needs the package `pengtawis`: PYTHONPATH=python in the repository, or docs/g
 """
 import sys
 
-from pengtawis import Change, Client, read_item
-
-MOST = 256  # items that one check shows
-
-
-def changes(client, sub):
-    """Yields the changes that weren't shown yet."""
-    shown = MOST
-    while shown == MOST:
-        *lines, _ = client.ask(f"check {sub} {MOST}")
-        shown = len(lines)
-        yield from (it for it in map(read_item, lines) if isinstance(it, Change))  # a check shows floors, too
+from pengtawis import Change, Client, Endpoint
 
 
 def watch(path):
     with Client(path) as client:
-        *_, told = client.ask('subscribe "eth0" 1 first new')
-        sub = told.removeprefix("sub ")  # the number of the subscription
-        client.ask(f"listen {sub}")
-        while True:
-            for change in changes(client, sub):
-                print(f"{change.name} is at {change.value}" if change.value else f"{change.name} is gone", flush=True)
-            next(client.notices())
+        for it in client.watch("eth0", [Endpoint]):
+            if isinstance(it, Change):  # a watch shows floors, too
+                print(f"{it.name} is at {it.value}" if it.value else f"{it.name} is gone", flush=True)
 
 
 if __name__ == "__main__":

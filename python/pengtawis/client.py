@@ -218,7 +218,7 @@ class Client:
                 self._late, self._later = self._later, 0  # the next answers are those to heartbeats
 
     def _is_other(self, answer: List[str]) -> bool:
-        """Takes a line that is no answer. A client gets none but notices."""
+        """Takes a line that isn't an answer. A client gets none but notices."""
         return False
 
     # ---- requests ----

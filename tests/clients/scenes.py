@@ -413,14 +413,26 @@ def an_instance_beats_and_publishes(stage):
     dsrs.peer.line("publish 3/16 over a.n u32 3.0 = 1")
     dsrs.peer.say("ping\n\npeer 2/17\n\ntaken\n\n")
     dsrs.peer.line("beat")
+    late = "actions 0\n\n"  # to the heartbeat
     for number in range(1, 4):
         dsrs.peer.line(f"publish 3/16 over a.n u32 3.{number} = {number + 1}")
-        if number == 1:
-            dsrs.peer.say("actions 0\n\n")  # to the heartbeat
-        dsrs.peer.say("taken\n\nping\n\n")
+        dsrs.peer.say(f"{late}taken\n\n" if number == 2 else f"{late}taken\n\nping\n\n")
+        if number == 2:  # while the instance waits
+            time.sleep(0.01)
+            dsrs.peer.say("ping\n\n")
         dsrs.peer.line("beat")
-        dsrs.peer.say("actions 0\n\n")
     dsrs.peer.line("publish 3/16 over a.n u32 3.4 = 5")
+    dsrs.peer.say(late)
+    dsrs.peer.say("refused nocaller\n\n")
+    dsrs.peer.line("")  # it ends at once
+    dsrs.end()
+    equal(dsrs.player.ran.returncode, 1)
+
+
+@scene
+def an_instance_whose_dsrs_ends(stage):
+    dsrs = OfInstance(stage)
+    dsrs.peer.answers(("publish 3/16 over a.n u32 3.0 = 1", "taken"))
     dsrs.end()
     equal(dsrs.player.ran.returncode, 0)
 
