@@ -1,6 +1,6 @@
 /* follow SOCKET: prints where the service `count` is, and what it publishes, while it and its dsrs are killed. ^C ends it.
  *
- * cc -I c -I ask -o /tmp/follow examples/client/follow.c ask/client.c */
+ * cc -I c -I daemon/ask -o /tmp/follow examples/client/follow.c daemon/ask/client.c */
 #include "client.h"
 #include <stdio.h>
 

@@ -1,4 +1,4 @@
-/* player: carries out the commands of standard input by ask/client.c, and prints a line for each. player instance: the process of a
+/* player: carries out the commands of standard input by daemon/ask/client.c, and prints a line for each. player instance: the process of a
  * service. tests/clients/players.py starts it. */
 #include "client.h"
 #include <inttypes.h>
@@ -9,7 +9,7 @@
 #include <sys/socket.h>
 #include <unistd.h>
 
-enum { LINE = 1 << 16, WATCHES = 16, TURN = 20 /* milliseconds */ };
+enum { LINE = 1 << 16, WATCHES = 16 };
 
 static struct ds_client *client;
 static struct ds_watch *watches[WATCHES];
@@ -249,11 +249,12 @@ static void live(void) {
     struct ds_watch *watch = NULL;
     must(ds_instance_open(&client, 5000));
     must(ds_instance_notify("READY=1"));
+    int turn = getenv("TURN") ? atoi(getenv("TURN")) : 20; /* milliseconds */
     if (getenv("DS_SUB")) must(ds_watch_open(&watch, client, "d", DS_LABEL, NULL));
     for (uint32_t number = 1;; number++) {
         publish("n", ds_value_u32(number));
         if (watch) look(watch);
-        must(ds_instance_wait(client, TURN));
+        must(ds_instance_wait(client, turn));
         answer(ds_instance_listener());
     }
 }

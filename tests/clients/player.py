@@ -9,7 +9,7 @@ import pengtawis
 from pengtawis import Anew, BadLine, Change, Client, Endpoint, Floor, Instance, Refused
 from pengtawis.values import KINDS, SPELLED
 
-TURN = 0.02  # seconds
+TURN = int(os.environ.get("TURN", "20")) / 1000  # seconds
 KIND = {word: kind for word, (kind, _) in SPELLED.items()}
 WORD = {kind: word for word, kind in KIND.items()}
 

@@ -6,8 +6,6 @@ use std::io::{self, BufRead, Read, Write};
 use std::os::unix::net::UnixListener;
 use std::time::Duration;
 
-const TURN: Duration = Duration::from_millis(20);
-
 fn time(text: &str) -> Option<Duration> {
     text.parse::<u64>().ok().map(Duration::from_millis)
 }
@@ -188,6 +186,7 @@ fn look(me: &mut Instance, label: &str, watch: &mut Watch) -> Result<(), ClientE
 fn live() -> Result<(), ClientError> {
     let mut me = Instance::open(Some(Duration::from_secs(5)))?;
     let (label, listener) = (env::var("DS_LABEL").unwrap_or_default(), me.listener()?);
+    let turn = time(&env::var("TURN").unwrap_or_default()).unwrap_or(Duration::from_millis(20));
     listener.set_nonblocking(true).map_err(ClientError::Lost)?;
     me.notify("READY=1")?;
     let mut watch = env::var("DS_SUB").ok().map(|_| Watch::new("d", Kind::Label, None));
@@ -196,7 +195,7 @@ fn live() -> Result<(), ClientError> {
         if let Some(watch) = &mut watch {
             look(&mut me, &label, watch)?;
         }
-        me.wait(TURN)?;
+        me.wait(turn)?;
         answer(me.endpoint(), &listener);
     }
     Ok(())

@@ -390,7 +390,7 @@ class OfInstance:
         self.listener.bind(f"{stage.home}/l")
         self.listener.listen()
         given = {"DS_FD": theirs.fileno(), "DS_LISTEN": self.listener.fileno(), "DS_LABEL": "a", "DS_ENDPOINT": "3/16"}
-        given.update(DS_FOLDER=f"{stage.path}.d", NOTIFY_SOCKET=f"{stage.home}/n")
+        given.update(DS_FOLDER=f"{stage.path}.d", NOTIFY_SOCKET=f"{stage.home}/n", TURN=500)
         named = {key: str(value) for key, value in given.items()}
         player = Player([*stage.words(), "instance"], env=stage.environment(named), pass_fds=[theirs.fileno(), self.listener.fileno()])
         stage.open.append(player)
@@ -418,7 +418,7 @@ def an_instance_beats_and_publishes(stage):
         dsrs.peer.line(f"publish 3/16 over a.n u32 3.{number} = {number + 1}")
         dsrs.peer.say(f"{late}taken\n\n" if number == 2 else f"{late}taken\n\nping\n\n")
         if number == 2:  # while the instance waits
-            time.sleep(0.01)
+            time.sleep(0.05)
             dsrs.peer.say("ping\n\n")
         dsrs.peer.line("beat")
     dsrs.peer.line("publish 3/16 over a.n u32 3.4 = 5")
