@@ -54,7 +54,9 @@ class _Inbox:
 
     def take(self, sub: int) -> bool:
         """Takes the notice of a subscription, and returns whether there was one."""
-        return sub in self._notices and not self._notices.pop(sub)
+        has = sub in self._notices
+        self._notices.pop(sub, None)
+        return has
 
 
 def _quoted(text: str) -> str:

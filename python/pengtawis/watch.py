@@ -4,7 +4,7 @@ from __future__ import annotations
 import collections
 import itertools
 import time
-from typing import TYPE_CHECKING, Deque, Iterator, List, NamedTuple, Optional, Union
+from typing import TYPE_CHECKING, Deque, Iterator, List, Optional, Union
 
 from .refusals import Ahead, Behind, OldCursor
 from .values import Change, Cursor, Floor, read_item
@@ -16,8 +16,11 @@ MOST = 256  # items of a since
 PAUSE, LONGEST = 0.001, 0.032  # seconds between two attempts
 
 
-class Anew(NamedTuple):
+class Anew:
     """Says that all that was known is forgotten: the items that follow are all there is."""
+
+    def __repr__(self) -> str:
+        return "Anew()"
 
 
 def pauses() -> Iterator[float]:

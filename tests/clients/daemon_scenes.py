@@ -4,6 +4,7 @@ import re
 import shutil
 import signal
 import socket
+import subprocess
 import threading
 
 import fleets
@@ -11,12 +12,21 @@ import supervisors
 from players import ROOT, Skipped, equal, until
 
 SCENES = []
-FOREVER = 'limit = 1000\nclass = "server"\n'
 
 
 def scene(function):
     SCENES.append(function)
     return function
+
+
+def only(language):
+    """Marks a scene that is played in one language."""
+
+    def marked(function):
+        function.languages = (language,)
+        return function
+
+    return marked
 
 
 def build(built):
@@ -175,6 +185,40 @@ def a_daemon_that_stops(stage):
     it.end()
 
 
+def shape(lines):
+    """Returns what follow.c printed without the seconds, and each line once that is repeated."""
+    plain = [re.sub(r"seconds = \d+", "seconds = N", it.strip()) for it in lines]
+    return [it for at, it in enumerate(plain) if not at or it != plain[at - 1]]
+
+
+@scene
+@only("c")
+def the_session_of_the_guide(stage):
+    """The client of docs/guide/client.md prints what the page shows, when the page's commands kill the service and dsrs."""
+    page = (ROOT / "docs/guide/client.md").read_text()
+    compiles = re.search(r"^    (cc .*)$", page, re.MULTILINE)[1].replace("/tmp/follow", f"{stage.home}/follow")
+    kills = re.search(r"^    \$ (kill -9 .*dsask.*)$", page, re.MULTILINE)[1]
+    wanted = shape(re.search(r"\$ /tmp/follow /tmp/socket\n((?:    .*\n)+)", page)[1].splitlines())
+    subprocess.run(["sh", "-c", compiles], cwd=ROOT, check=True)
+    it = stage.enter(supervisors.Host([stage.built.room / "dsrs"], stage.built.room))
+    it.service("count", f"#!/bin/sh\nPYTHONPATH={stage.built.package} exec python3 {ROOT}/examples/client/count/run\n")
+    it.start(settings=(ROOT / "examples/client/settings.toml").read_text())
+    it.logged("ready count 1/16")
+    with open(stage.home / "said", "w") as said:
+        follow = subprocess.Popen([stage.home / "follow", it.path], stdout=said)
+    got = lambda: shape((stage.home / "said").read_text().splitlines())  # noqa: E731
+    for end, then in ((3, "service"), (7, "dsrs"), (10, None)):
+        until(lambda end=end: got()[:end] == wanted[:end], lambda: f"{got()}, and not {wanted}")
+        if then == "service":
+            subprocess.run(["sh", "-c", kills.replace("dsask", f"{stage.built.room}/dsask").replace("/tmp/socket", str(it.path))], check=True)
+        if then == "dsrs":
+            it.kill()
+            it.start()
+    follow.kill()
+    follow.wait()
+    it.end()
+
+
 # ---- a dsfleet ----
 
 
@@ -313,5 +357,3 @@ def cursors_of_a_dsfleet(stage):
     player.plays(("subscribe eth.* 1", "sub 123"), ("notice 5000", "notice 123"), ("check 123", "".join(f"{label(it)}|" for it in range(1, 5))))
     player.end()
 
-
-assert ROOT

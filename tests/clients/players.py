@@ -30,7 +30,7 @@ def until(so, what, seconds=PATIENCE):
         found = so()
         if found:
             return found
-        assert time.monotonic() < end, f"not within {seconds} s: {what}"
+        assert time.monotonic() < end, f"not within {seconds} s: {what() if callable(what) else what}"
         time.sleep(0.01)
 
 
