@@ -540,9 +540,9 @@ static char *scope_of(struct ds_client *client, const char *pattern, unsigned ki
     return NULL;
 }
 
-/* Subscribes by the first number of a range that may be used. */
+/* Subscribes by the first number of a range that may be used. Without one it is refused, as by the daemon. */
 static uint32_t subscribe_from(struct ds_client *client, const char *scope, const char *when, int first, int count, int *sub) {
-    uint32_t fault = DS_NOTALLOWED;
+    uint32_t fault = judge(client, "refused notallowed\n");
     for (int it = first; fault == DS_NOTALLOWED && it < first + count; it++) {
         if (has(client->used, it)) continue;
         *sub = it;

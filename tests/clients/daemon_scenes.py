@@ -274,7 +274,7 @@ def bridge(stage, **how):
 def publishes(it, first, count):
     """Publishes labels, generation by generation, as RS does."""
     for generation in range(first, first + count):
-        equal(it.ask(f"publish 0/2 over eth{generation % 7} label {generation}.0 = {generation}/16"), ["taken"])
+        equal(it.ask(f"publish 0/2 over eth{generation % 7} label {generation}.0 = {generation}/16")[0], "taken")
 
 
 def label(generation):
