@@ -354,6 +354,8 @@ def cursors_of_a_dsfleet(stage):
     player.plays((f"watch eth.* 1 {incarnation} {position}", "watch 1"), ("next 1 5000", label(4)), ("next 1 100", "fault timeout"))
     player.plays((f"watch eth.* 1 {incarnation - 1} {position}", "watch 2"), ("next 2 5000", "anew"), ("next 2 5000", label(1)))
     player.plays((f"watch eth.* 1 {incarnation} {position + 99}", "watch 3"), ("next 3 5000", "anew"), ("next 3 5000", label(1)))
-    player.plays(("subscribe eth.* 1", "sub 123"), ("notice 5000", "notice 123"), ("check 123", "".join(f"{label(it)}|" for it in range(1, 5))))
+    player.plays(("subscribe eth.* 1", "sub 123"), ("check 123", "".join(f"{label(it)}|" for it in range(1, 5))))
+    publishes(it, 5, 1)
+    player.plays(("notice 20000", "notice 123"), ("check 123", f"{label(5)}|"))
     player.end()
 
