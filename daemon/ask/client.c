@@ -140,7 +140,8 @@ static bool pause_until(int64_t end, int *pause) {
 /* ---- faults ---- */
 
 static uint32_t fail(struct ds_client *client, uint32_t fault) {
-    const char *word = fault == DS_CLIENT_TIMEOUT ? "timeout" : fault == DS_CLIENT_LOST ? "lost" : fault == DS_CLIENT_NOMEMORY ? "noroom" : "badcall";
+    const char *word = fault == DS_CLIENT_TIMEOUT ? "timeout" : fault == DS_CLIENT_LOST ? "lost" : "badcall";
+    if (fault == DS_CLIENT_NOMEMORY) word = "noroom";
     snprintf(client->word, sizeof client->word, "%s", word);
     return fault;
 }
@@ -518,7 +519,9 @@ static uint32_t change(struct ds_client *client, const char *name, const struct 
     return fault;
 }
 
-uint32_t ds_client_publish(struct ds_client *client, const char *name, const struct ds_value *value) { return change(client, name, value, value->kind); }
+uint32_t ds_client_publish(struct ds_client *client, const char *name, const struct ds_value *value) {
+    return change(client, name, value, value->kind);
+}
 
 uint32_t ds_client_delete(struct ds_client *client, const char *name, uint8_t kind) { return change(client, name, NULL, kind); }
 
@@ -583,7 +586,8 @@ uint32_t ds_client_check(struct ds_client *client, int sub, const char **items) 
 static bool read_change(const char *line, const char *head, struct ds_item *item) {
     char kind[6], mark;
     int used = 0;
-    int parts = sscanf(head, "%64s %5s %64s %" SCNu32 ".%" SCNu32 " %c%n", item->name, kind, item->owner, &item->epoch, &item->seq, &mark, &used);
+    int parts = sscanf(head, "%64s %5s %64s %" SCNu32 ".%" SCNu32 " %c%n", item->name, kind, item->owner, &item->epoch, &item->seq, &mark,
+                       &used);
     if (parts != 6 || !(item->value.kind = kind_of(kind))) return false;
     item->kind = mark == '=' ? DS_ITEM_PUT : DS_ITEM_GONE;
     bool is_short = item->value.kind == DS_LABEL || item->value.kind == DS_U32;
@@ -660,7 +664,8 @@ uint32_t ds_client_connect(struct ds_client *client, const char *label, struct d
 
 /* ---- watches ---- */
 
-uint32_t ds_watch_open(struct ds_watch **watch, struct ds_client *client, const char *pattern, unsigned kinds, const struct ds_cursor *from) {
+uint32_t ds_watch_open(struct ds_watch **watch, struct ds_client *client, const char *pattern, unsigned kinds,
+                       const struct ds_cursor *from) {
     uint32_t fault;
     char *scope = scope_of(client, pattern, kinds, &fault);
     *watch = scope ? calloc(1, sizeof **watch) : NULL;
@@ -733,7 +738,8 @@ static uint32_t fetch(struct ds_watch *watch) {
     struct ds_cursor at = watch->cursor;
     const char *answer;
     uint32_t fault = DS_BEHIND;
-    if (watch->has_cursor) fault = ask(client, &answer, "since %s %" PRIu64 " %" PRIu64 " %d", watch->scope, at.incarnation, at.position, MOST);
+    if (watch->has_cursor)
+        fault = ask(client, &answer, "since %s %" PRIu64 " %" PRIu64 " %d", watch->scope, at.incarnation, at.position, MOST);
     if (!fault) return keep_items(watch, answer, false);
     if (!is_lost_cursor(fault)) return fault;
     fault = ask(client, &answer, "snapshot %s", watch->scope);

@@ -127,7 +127,8 @@ uint32_t ds_client_connect(struct ds_client *client, const char *label, struct d
 
 /* Follows the names of these kinds that a pattern matches. Without a cursor the first item is DS_ITEM_ANEW, and then come all that
  * are held; with the cursor of an earlier watch come those after it. */
-uint32_t ds_watch_open(struct ds_watch **watch, struct ds_client *client, const char *pattern, unsigned kinds, const struct ds_cursor *from) DS_NODISCARD;
+uint32_t ds_watch_open(struct ds_watch **watch, struct ds_client *client, const char *pattern, unsigned kinds,
+                       const struct ds_cursor *from) DS_NODISCARD;
 void ds_watch_close(struct ds_watch *watch);
 /* Waits for the next item: DS_CLIENT_TIMEOUT if there is none in time. A lost connection is opened again, and the watch continues at
  * its cursor. If the journal doesn't have the cursor any longer, DS_ITEM_ANEW and a snapshot follow. DS_CLIENT_LOST: the daemon can't

@@ -129,7 +129,8 @@ static bool take_answers(struct asking *asking) {
     while ((length = ds_client_take(asking->client, &answer)) > 0) {
         struct text next = {0};
         asking->owed -= !answer_is_notice(answer, length);
-        bool fine = asking->watching ? watching_take(asking->watching, answer, length, &next) : printing_put(&asking->printing, answer, length);
+        bool fine = asking->watching ? watching_take(asking->watching, answer, length, &next)
+                                     : printing_put(&asking->printing, answer, length);
         fine = fine && give(asking, next.bytes, next.length);
         text_free(&next);
         if (!fine) return false;

@@ -150,7 +150,7 @@ class Client:
             self.ask(f"as {self.endpoint}")
 
     def fileno(self) -> int:
-        """Returns the descriptor to poll. What came earlier is in the client already: call `Watch.next` or `notices` until they time out."""
+        """Returns the descriptor to poll. Then call `Watch.next` or `notices` until they time out: more may have come with an answer."""
         return self._socket.fileno()
 
     def ask(self, line: str) -> List[str]:

@@ -183,7 +183,8 @@ static void play_two(char *rest) {
 }
 
 static const struct { const char *word; void (*play)(char *rest); } plays[] = {
-    {"open", play_open}, {"ask", play_ask}, {"retrieve", play_retrieve}, {"nameof", play_nameof}, {"as", play_as}, {"publish", play_publish},
+    {"open", play_open}, {"ask", play_ask}, {"retrieve", play_retrieve}, {"nameof", play_nameof}, {"as", play_as},
+    {"publish", play_publish},
     {"delete", play_delete}, {"subscribe", play_subscribe}, {"check", play_check}, {"notice", play_notice}, {"watch", play_watch},
     {"next", play_next}, {"cursor", play_cursor}, {"unwatch", play_unwatch}, {"connect", play_connect}, {"reconnect", play_reconnect},
     {"two", play_two},
