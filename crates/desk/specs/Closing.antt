@@ -95,7 +95,13 @@ module _ {M C R : Type 0} {G : Ghosts (View M C R)} where
   abbrev pub AllLearnt : List (Pass M C R G) → Type 0
   AllLearnt passes = total_of notes_made passes ≡ total_of notes_learnt passes
 
-  -- Whether the fault is the first that applies to these passes, if they are to close a desk of `made` passes.
+  -- Whether the fault is the first that these passes have, if they are to close a desk of `made` passes.
+  abbrev pub IsPassesFault : DeskFault → ℕ → List (Pass M C R G) → Type 0
+  IsPassesFault PassesOut made passes = length passes < made
+  IsPassesFault Noted made passes = (made ≤ length passes) × (total_of notes_made passes ≢ total_of notes_learnt passes)
+  IsPassesFault _ made passes = ⊥
+
+  -- Like `IsPassesFault`, but memory may run out if the passes have no fault.
   abbrev pub IsCloseFault : DeskFault → ℕ → List (Pass M C R G) → Type 0
   IsCloseFault PassesOut made passes = length passes < made
   IsCloseFault Noted made passes = (made ≤ length passes) × (total_of notes_made passes ≢ total_of notes_learnt passes)

@@ -1,9 +1,11 @@
 //! The account of a closed desk: how often each bit was raised and taken.
 
-ghost use Rattle.std.specs.Prelude.{◌≡◌, ◌≤◌, ◌<◌, ℕ, [], length, slice_get, vec_capacity};
+ghost use Rattle.std.specs.Prelude.{◌≡◌, ◌≤◌, ◌<◌, ℕ, [], length, slice_get, vec_capacity, IfErr};
 ghost use Rattle.std.specs.Option.{option_copied};
 ghost use Rattle.desk.specs.Closing.{IsRow, Sums};
 
+use crate::fault::DeskFault;
+use std::alloc::Global;
 use std::marker::Model;
 
 /// The account of one bit of a server's pending word.
@@ -45,6 +47,26 @@ impl Account {
         ensures { option_copied result ≡ slice_get self.now index }
     {
         self.rows.get(index)
+    }
+}
+
+/// The memory for the account of a desk that is still open.
+#[derive(Drop)]
+pub struct AccountRoom {
+    pub(crate) rows: Vec<Row>,
+    ghost empty: { rows.items ≡ [] },
+    ghost room: { 128 ≤ vec_capacity rows },
+}
+
+impl AccountRoom {
+    /// Allocates the memory. Fails only if memory runs out.
+    pub fn new(alloc: Global) -> Result<AccountRoom, DeskFault>
+        ensures { IfErr result (λ fault. fault ≡ DeskFault.NoRoom) }
+    {
+        match Vec::with_capacity(alloc, 128) {
+            Ok(rows) => Ok(AccountRoom { rows }),
+            Err(_) => Err(DeskFault::NoRoom),
+        }
     }
 }
 

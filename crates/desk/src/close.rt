@@ -1,18 +1,18 @@
 //! Closing a desk.
 
-ghost use Rattle.std.specs.Prelude.{◌≡◌, ◌≤◌, ◌+◌, ℕ, [], length, vec_capacity, IfOk, IfErr, OnOk};
+ghost use Rattle.std.specs.Prelude.{◌≡◌, ◌≤◌, ◌+◌, ℕ, length, IfOk, IfErr, OnOk};
 ghost use Rattle.std.specs.List.{AllByRecursion};
 ghost use mathlib.Core.List.{IsPrefix};
 ghost use Rattle.desk_rule.specs.History.{total_of};
 ghost use Rattle.desk_rule.specs.Notices.{raised_by, taken_by};
 ghost use Rattle.desk_rule.specs.Seat.{IsAtTable};
 ghost use Rattle.desk.specs.Desk.{first_call, identity, opened_with, pass_count};
-ghost use Rattle.desk.specs.Closing.{AllAgree, AllLearnt, HasAllNoticed, HasAllSeen, IsAccount, IsCloseFault};
+ghost use Rattle.desk.specs.Closing.{AllAgree, AllLearnt, HasAllNoticed, HasAllSeen, IsAccount, IsCloseFault, IsPassesFault};
 ghost use Rattle.desk.specs.Closing.{LeavesHistory, Wraps, gathered};
 ghost use Rattle.desk.specs.Pass.{desk_of, notes_learnt, notes_made};
 ghost use Rattle.desk.specs.Tally.{Tallies};
 
-use crate::account::{Account, Row, add_rows, fill_rows};
+use crate::account::{Account, AccountRoom, add_rows, fill_rows};
 use crate::desk::{Desk, DeskOf};
 use crate::fault::DeskFault;
 use crate::pass::{Pass, PassOf};
@@ -55,15 +55,10 @@ fn count_notes<M: Machine>(passes: &Vec<Pass<M>>) -> (u128, u128)
     (made, learnt)
 }
 
-// Allocates the rows of the account, if these passes can close a desk of `made` passes. Otherwise returns why not.
-fn room_to_close<M: Machine>(
-    alloc: Global,
-    made: u32,
-    passes: &Vec<Pass<M>>,
-) -> Result<Vec<Row>, DeskFault>
-    ensures room { IfOk result (λ rows. (rows.items ≡ []) × (128 ≤ vec_capacity rows)) }
+/// Fails if these passes can't close a desk of `made` passes: some are missing, or they didn't learn as many notes as they made.
+pub(crate) fn can_close<M: Machine>(made: u32, passes: &Vec<Pass<M>>) -> Result<(), DeskFault>
     ensures closes { OnOk result ((made ≤ length passes.now.items) × AllLearnt passes.now.items) }
-    ensures stays { IfErr result (λ fault. IsCloseFault fault made passes.now.items) }
+    ensures stays { IfErr result (λ fault. IsPassesFault fault made passes.now.items) }
 {
     if passes.len() < made as usize {
         return Err(DeskFault::PassesOut);
@@ -72,9 +67,21 @@ fn room_to_close<M: Machine>(
     if made != learnt {
         return Err(DeskFault::Noted);
     }
-    match Vec::with_capacity(alloc, 128) {
-        Ok(rows) => Ok(rows),
-        Err(_) => Err(DeskFault::NoRoom),
+    Ok(())
+}
+
+// Allocates the memory for the account, if these passes can close a desk of `made` passes. Otherwise returns why not.
+fn room_to_close<M: Machine>(
+    alloc: Global,
+    made: u32,
+    passes: &Vec<Pass<M>>,
+) -> Result<AccountRoom, DeskFault>
+    ensures closes { OnOk result ((made ≤ length passes.now.items) × AllLearnt passes.now.items) }
+    ensures stays { IfErr result (λ fault. IsCloseFault fault made passes.now.items) }
+{
+    match can_close(made, passes) {
+        Ok(()) => AccountRoom::new(alloc),
+        Err(fault) => Err(fault),
     }
 }
 
@@ -131,16 +138,25 @@ impl<M: Machine> Desk<M> {
         ensures refused { IfErr result (λ stop. IsCloseFault stop.fault (pass_count self) passes) }
         ensures back { IfErr result (λ stop. (stop.desk ≡ self) × (stop.passes ≡ passes)) }
     {
-        let mut rows = match room_to_close(alloc, self.made, &passes.passes) {
-            Ok(rows) => rows,
-            Err(fault) => {
-                return Err(CloseStop {
-                    fault,
-                    desk: self,
-                    passes,
-                });
-            }
-        };
+        match room_to_close(alloc, self.made, &passes.passes) {
+            Ok(room) => Ok(self.close_all(room, passes)),
+            Err(fault) => Err(CloseStop {
+                fault,
+                desk: self,
+                passes,
+            }),
+        }
+    }
+
+    /// Like `close`, with all of the desk's passes and memory that was allocated before. Can't fail.
+    pub(crate) fn close_all(self, room: AccountRoom, passes: Passes<M>) -> Closed<M>
+        requires of_desk { AllByRecursion (λ p. desk_of p ≡ identity self) passes }
+        requires enough { pass_count self ≤ length passes }
+        ensures history { LeavesHistory M.stands M.steps M.owes (opened_with self) (first_call self) passes result }
+        ensures agree { AllAgree passes }
+        ensures account { IsAccount passes result.account }
+    {
+        let AccountRoom { mut rows } = room;
         let PassesOf { passes: mut others } = passes;
         let last = others.pop().unwrap();
         let PassOf {
@@ -154,9 +170,9 @@ impl<M: Machine> Desk<M> {
         gather(&table.shared, &mut seat, &mut raises, &mut takes, others);
         let (machine, pending) = close_table(table, seat);
         fill_rows(&pending, &raises, &takes, &mut rows);
-        Ok(Closed {
+        Closed {
             machine,
             account: Account { rows },
-        })
+        }
     }
 }

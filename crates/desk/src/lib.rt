@@ -10,6 +10,7 @@
 mod account;
 mod call;
 mod close;
+mod close_into;
 mod desk;
 mod fault;
 mod free_call;
@@ -18,7 +19,7 @@ mod open;
 mod pass;
 mod passes;
 
-pub use account::{Account, Row};
+pub use account::{Account, AccountRoom, Row};
 pub use close::{CloseStop, Closed};
 pub use desk::{Answer, Desk, DeskOf, Made, Taken};
 pub use desk_rule::NoTurn;

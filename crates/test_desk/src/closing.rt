@@ -9,7 +9,7 @@ use crate::followed::Followed;
 use crate::playing::look;
 use crate::table::Table;
 use crate::tell::{tell, tell_fault};
-use desk::{CloseStop, Closed, Desk, Note, Pass, Passes};
+use desk::{AccountRoom, CloseStop, Closed, Desk, Note, Pass, Passes};
 use std::alloc::Global;
 use test_kit::Failure;
 
@@ -146,7 +146,11 @@ where
     M::Reply: Drop,
     requires { AllByRecursion (λ p. desk_of p ≡ identity desk) passes }
 {
-    match desk.close(alloc, passes) {
+    let room = match AccountRoom::new(alloc) {
+        Ok(room) => room,
+        Err(fault) => return tell_fault(rt, fault),
+    };
+    match desk.close_into(room, passes) {
         Ok(closed) => tell_closed(rt, &closed, sub),
         Err(stop) => tell_fault(rt, stop.fault),
     }

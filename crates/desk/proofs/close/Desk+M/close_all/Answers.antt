@@ -2,18 +2,18 @@ use Rattle.std.proofs.Common.{◌≡◌, ◌++◌, [], length, arith, ◌∙◌,
 use Rattle.std.specs.Option.{option_to_list}
 use Rattle.desk.specs.Pass.{desk_of}
 use Rattle.desk.proofs.CloseLemmas.{account_of, all_agree, all_gathered, all_last, all_noticed, all_seen, left_of_passes, length_gathered}
-use Rattle.desk.proofs.close.Desk+M.close.Goals as goal
+use Rattle.desk.proofs.close.Desk+M.close_all.Goals as goal
 
 pub gather-requires-clause-at : goal.gather-requires-clause-at
 gather-requires-clause-at g c =
     let items = sym c.passes.view_is ∙ (c.pop.ensures.items ∙ ap (λ o. c.pop.new.self.items ++ option_to_list o) c.unwrap-last.ensures) in
-    let last = all_last (λ p. desk_of p ≡ c.args.self.table.shared.table_id) c.pop.new.self.items c.args.passes c.unwrap-last.result items c.requires in
+    let last = all_last (λ p. desk_of p ≡ c.args.self.table.shared.table_id) c.pop.new.self.items c.args.passes c.unwrap-last.result items c.requires.of_desk in
     (last.1, c.args.self.words, c.args.self.slots)
 
 pub gather-requires-clause-others : goal.gather-requires-clause-others
 gather-requires-clause-others g c =
     let items = sym c.passes.view_is ∙ (c.pop.ensures.items ∙ ap (λ o. c.pop.new.self.items ++ option_to_list o) c.unwrap-last.ensures) in
-    let last = all_last (λ p. desk_of p ≡ c.args.self.table.shared.table_id) c.pop.new.self.items c.args.passes c.unwrap-last.result items c.requires in
+    let last = all_last (λ p. desk_of p ≡ c.args.self.table.shared.table_id) c.pop.new.self.items c.args.passes c.unwrap-last.result items c.requires.of_desk in
     last.0
 
 pub gather-requires-clause-counted : goal.gather-requires-clause-counted
@@ -22,7 +22,7 @@ gather-requires-clause-counted g c = (c.unwrap-last.result.raises_counted, c.unw
 pub close_table-machine-requires-clause-at : goal.close_table-machine-requires-clause-at
 close_table-machine-requires-clause-at g c =
     let items = sym c.passes.view_is ∙ (c.pop.ensures.items ∙ ap (λ o. c.pop.new.self.items ++ option_to_list o) c.unwrap-last.ensures) in
-    let last = all_last (λ p. desk_of p ≡ c.args.self.table.shared.table_id) c.pop.new.self.items c.args.passes c.unwrap-last.result items c.requires in
+    let last = all_last (λ p. desk_of p ≡ c.args.self.table.shared.table_id) c.pop.new.self.items c.args.passes c.unwrap-last.result items c.requires.of_desk in
     (c.gather.ensures.same.0 ∙ last.1, c.args.self.words, c.args.self.slots)
 
 pub close_table-machine-requires-clause-all : goal.close_table-machine-requires-clause-all
@@ -30,7 +30,7 @@ close_table-machine-requires-clause-all g c =
     let items = sym c.passes.view_is ∙ (c.pop.ensures.items ∙ ap (λ o. c.pop.new.self.items ++ option_to_list o) c.unwrap-last.ensures) in
     let is = all_gathered c.args.passes c.pop.new.self.items c.unwrap-last.result _ items c.gather.ensures.passes in
     let made : c.args.self.table.shared.key.passes ≡ c.args.self.made = c.args.self.counted in
-    let enough = c.in-Ok.ensures.closes.0 in
+    let enough = c.requires.enough in
     let same : length c.args.passes ≡ length c.passes.inside.passes.items = ap length (sym c.passes.view_is) in
     let size : length c.gather.new.seat.me.0.passes ≡ length c.args.passes = ap length is ∙ (length_gathered (λ v e. e) [] c.args.passes ∙ omega arith) in omega arith
 
