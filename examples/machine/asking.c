@@ -10,7 +10,7 @@
 #include <sys/un.h>
 #include <unistd.h>
 
-enum { PATIENCE = 10000, PAUSE = 20, SHOW_EACH = 20 /* milliseconds */ };
+enum { PATIENCE = 60000, PAUSE = 20, SHOW_EACH = 20 /* milliseconds */ };
 
 static int connected(const char *path, int type) {
     struct sockaddr_un address = {.sun_family = AF_UNIX};

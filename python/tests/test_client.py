@@ -23,7 +23,7 @@ from pengtawis.client import _Inbox as Inbox, _judged
 
 DRAWN = 25000
 AT_ONCE = 50  # calls of one asyncio client
-PATIENCE = 30  # seconds that an answer may take
+PATIENCE = 60  # seconds that an answer may take
 LABEL = "publish 0/2 new eth0 label 3.0 = 3/16"
 NO_FLEET = "PENGTAWIS_DSFLEET names no dsfleet"
 HAS_FLEET = "PENGTAWIS_DSFLEET" in os.environ

@@ -27,7 +27,7 @@ BLOCK = re.compile(r"(?<=\n\n)(?:    .*\n)+")
 EXAMPLES = support.ROOT / "examples" / "python"
 WATCH = EXAMPLES / "watch.py"
 AS_IN_C = ("fileserver", "supervisor")  # the examples that print what those in C print
-PATIENCE = 30  # seconds
+PATIENCE = 60  # seconds
 TO_INSTALL = ("pip", "setuptools", "wheel")
 CALLER = """\
 from pengtawis import Endpoint, Items, Map, Store

@@ -4,7 +4,7 @@ import itertools
 import time
 
 from fleets import Fleet, Proxy, until
-from scenes import number, numbers, offer, shows
+from scenes import REST, number, numbers, offer, shows
 from state_scenes import in_step
 from scripted import Scripted
 
@@ -16,10 +16,10 @@ def what_was_refused_is_lost(fleet, draw):
     bridge, theirs = fleet.start(), number("k", 1, 2)
     offer(bridge, number("k", 1, 1))
     fleet.ask("XADD", "ds:items", "*", "from", "x", "items", theirs + "\n")
-    until(lambda: bridge.state().get("refused clash") == "1", "it is refused", 5)
-    time.sleep(1.2)  # so that it has looked
+    until(lambda: bridge.state().get("refused clash") == "1", "it is refused")
+    time.sleep(REST)  # so that it has looked
     fleet.ask("FLUSHALL")
-    until(lambda: {number("k", 1, 1).encode(), theirs.encode()} <= set(fleet.told()), "both are sent again", 5)
+    until(lambda: {number("k", 1, 1).encode(), theirs.encode()} <= set(fleet.told()), "both are sent again")
 
 
 def known_after_a_look(fleet, draw):
@@ -98,14 +98,14 @@ def who_waits_is_not_first(fleet, draw):
         return made
 
     offer(bridge, number("a", 1, 1))
-    earlier = until(own, "it has a digest", 5)
+    earlier = until(own, "it has a digest")
     offer(bridge, number("b", 1, 1))
-    until(lambda: own() != earlier, "it has a later one", 5)
+    until(lambda: own() != earlier, "it has a later one")
     agrees = script.script("HGETALL ds:digests", with_peers(None), 5)
-    until(agrees.is_used, "it compares", 10)
+    until(agrees.is_used, "it compares")
     assert bridge.state()["differing"] == "1" and fleet.entries() == 2, "it sends what the first of its kind sends"
     waits = script.script("HGETALL ds:digests", with_peers(earlier), 1 << 30)
-    until(lambda: fleet.entries() > 2, "it sends everything, as the other one waits", 10)
+    until(lambda: fleet.entries() > 2, "it sends everything, as the other one waits")
     waits.left = 0
 
 
@@ -125,7 +125,7 @@ def parts_before_a_denied_one(fleet, draw):
             clients = [room.enter_context(bridge.client()) for _ in lines]  # one whose answer waits isn't read
             for client, line in zip(clients, lines):
                 client.send(f"offer {line}")
-            until(lambda: int(bridge.state()["untold"]) == sum(len(it) + 1 for it in lines), "all of it waits", 10)
+            until(lambda: int(bridge.state()["untold"]) == sum(len(it) + 1 for it in lines), "all of it waits")
             bridge.pause()
             time.sleep(0.3)  # the answers to what was sent are on their way
             before, answers, denied.left = added(), itertools.count(), 0
@@ -145,13 +145,13 @@ def three_owners_of_a_key(fleet, draw):
     offer(bridge, lines[0])
     for line in lines[1:]:
         fleet.ask("XADD", "ds:items", "*", "from", "x", "items", line + "\n")
-    until(lambda: bridge.state().get("refused notowner") == "2", "both are refused", 5)
+    until(lambda: bridge.state().get("refused notowner") == "2", "both are refused")
     for line in numbers("n", 40):
         offer(bridge, line)
-    time.sleep(1.2)
+    time.sleep(REST)
     assert {it.encode() for it in lines} <= set(fleet.told()), "an item is compacted away"
     offer(bridge, "! a 1")
-    until(lambda: fleet.entries() <= 20, "it is compacted once one of them is gone", 10)
+    until(lambda: fleet.entries() <= 20, "it is compacted once one of them is gone")
     assert {it.encode() for it in lines[1:]} <= set(fleet.told()), "an item is compacted away"
 
 
@@ -167,10 +167,10 @@ def answers_that_are_too_long(fleet, draw):
     bridge = fleet.start(url=script.url())
     peak = peak_of(bridge)
     for at, made in enumerate((b"*2147483647\r\n", b"$999999999999\r\n", b"$2147483648\r\n", b"*-2\r\n", b"$1x\r\n", b"what\r\n", b"*65537\r\n")):
-        before, begun = bridge.said().count("more than was asked for"), time.monotonic()
+        before = bridge.said().count("more than was asked for")
         script.script("XLEN", made)
         offer(bridge, number("a", at + 1, 1))
-        assert time.monotonic() - begun < 3, f"{made}: its change is answered after {time.monotonic() - begun:.1f} s"
+        assert not any(it in bridge.said() for it in ("answers too slowly", "answers nothing")), f"{made}: it waits for what doesn't come"
         if at == 0:
             assert bridge.said().count("more than was asked for") == before + 1, bridge.said()
     assert peak_of(bridge) - peak < 1 << 20, f"it took {(peak_of(bridge) - peak) >> 10} MB"
@@ -190,7 +190,7 @@ def an_answer_that_trickles(fleet, draw):
     script.script("XLEN", trickles)
     begun = time.monotonic()
     offer(bridge, number("a", 1, 1))
-    assert time.monotonic() - begun < 9, f"its change is answered after {time.monotonic() - begun:.1f} s"
+    assert time.monotonic() - begun < 40, f"its change is answered after {time.monotonic() - begun:.1f} s"
     assert "answers too slowly" in bridge.said(), bridge.said()
 
 
@@ -198,6 +198,7 @@ def others_come_while_replicas_are_missing(fleet, draw):
     """While a bridge waits a minute for a replica, what others compacted reaches it, and it looks for losses."""
     waits, other = fleet.start("--replicas", "1", "--within", "60000"), fleet.start()
     with waits.client() as client:
+        begun = time.monotonic()
         client.send(f"offer {number('own', 1, 1)}")
         shows(other, [number("own", 1, 1)])
         waits.pause()
@@ -206,7 +207,8 @@ def others_come_while_replicas_are_missing(fleet, draw):
             offer(other, line)
         until(lambda: fleet.entries() <= 20, "the stream is compacted")
         waits.resume()
-        shows(waits, [number("own", 1, 1), *lines], 15)  # a reading may wait for ten
+        shows(waits, [number("own", 1, 1), *lines])  # a reading may wait for ten
         fleet.ask("DEL", "ds:items")
-        until(lambda: "event=lost" in waits.said(), "it notices a loss", 8)
+        until(lambda: "event=lost" in waits.said(), "it notices a loss")
+        assert time.monotonic() - begun < 55, "what others did waits for the replica"
         assert not client.has_answer(0.2)

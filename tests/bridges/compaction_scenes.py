@@ -4,7 +4,7 @@ import threading
 import time
 
 from fleets import Clock, Fleet, Gone, until
-from scenes import number, numbers, offer, shows
+from scenes import REST, number, numbers, offer, shows
 from scripted import SWALLOW, Scripted
 
 LOAD = 3  # seconds
@@ -28,7 +28,7 @@ def once_looked(script, bridge, work):
     """Does the work right after a look of the bridge, and waits until the next one finds a loss."""
     losses = bridge.said().count("event=lost")
     script.script(LOOKED, lambda raw: work() or raw)
-    until(lambda: bridge.said().count("event=lost") > losses, "it finds a loss", 15)
+    until(lambda: bridge.said().count("event=lost") > losses, "it finds a loss")
 
 
 def a_change_while_its_bridge_compacts(fleet, draw):
@@ -39,7 +39,7 @@ def a_change_while_its_bridge_compacts(fleet, draw):
 
         def takes_effect(raw):
             second.send(f"offer {late}")
-            until(lambda: bridge.holds(late), "it takes effect", 5)
+            until(lambda: bridge.holds(late), "it takes effect")
             script.script_first("EXEC", lambda done: bridge.kill() or done)
             return raw
 
@@ -47,8 +47,8 @@ def a_change_while_its_bridge_compacts(fleet, draw):
         with contextlib.suppress(Gone):
             for line in lines:
                 client.ask(f"offer {line}")
-        until(lambda: bridge.process is None, "it compacts", 10)
-    until(lambda: other.holds(late), "a bridge that runs on has the change", 3)
+        until(lambda: bridge.process is None, "it compacts")
+    until(lambda: other.holds(late), "a bridge that runs on has the change")
     bridge.start()
     bridge.serves()
     assert bridge.ask(f"offer {late}") == ["known"]
@@ -110,8 +110,8 @@ def a_stream_begun_anew(fleet, draw):
         far = number("far", 1, 1)
         fleet.ask("XADD", "ds:items", "99999999999999-0", "from", "x", "items", far + "\n")
         for it in (bridge, other):
-            until(lambda: it.holds(far), "it is read", 5)
-        time.sleep(1.2)  # so that it has looked
+            until(lambda: it.holds(far), "it is read")
+        time.sleep(REST)  # so that it has looked
         lines = numbers("b", 8)
 
         def work():
@@ -130,7 +130,7 @@ def a_stream_begun_anew_while_it_is_compacted(fleet, draw):
         watched = script.script("WATCH", lambda raw: begun_anew(fleet, other, lines) or raw)
         for line in numbers("d", 6):
             fleet.ask("XADD", "ds:items", "*", "from", "x", "items", line + "\n")
-        until(lambda: watched.is_used() and "event=lost" in bridge.said(), "it finds a loss", 10)
+        until(lambda: watched.is_used() and "event=lost" in bridge.said(), "it finds a loss")
         outlives(fleet, lines)
 
 
@@ -140,7 +140,7 @@ def a_server_that_names_no_run(fleet, draw):
     script.script("INFO", lambda raw: raw.replace(b"run_id:", b"run_is:"), 1 << 30)
     bridge, lines = fleet.start("--keep", "5", url=script.url()), numbers("a", 12)
     offer_each(bridge, lines)
-    until(lambda: int(bridge.state()["compactions"]), "the stream is compacted", 10)
+    until(lambda: int(bridge.state()["compactions"]), "the stream is compacted")
     outlives(fleet, lines)
 
 
@@ -148,7 +148,7 @@ def a_clock_that_goes_back(fleet, draw):
     """A stream is deleted, and the server's clock goes back for a moment: the ids of what comes then are smaller, and those after it aren't."""
     clock = fleet.adopt(Clock())
     with Fleet(fleet.words, named=clock.named) as late_fleet, two_with_a_stream(late_fleet) as (script, bridge, other), bridge.client() as client:
-        time.sleep(1.2)  # so that it has looked
+        time.sleep(REST)  # so that it has looked
         lines, after = numbers("b", 8), number("after", 1, 1)
 
         def work():
@@ -157,7 +157,7 @@ def a_clock_that_goes_back(fleet, draw):
             offer_each(other, lines)
             clock.add(0)
             offer(other, after)
-            until(lambda: bridge.holds(after), "it reads what has a greater id", 5)
+            until(lambda: bridge.holds(after), "it reads what has a greater id")
             assert not bridge.holds(lines[0])
             other.kill()
             client.send(f"offer {number('c', 1, 1)}")
@@ -172,7 +172,7 @@ def a_history_that_changes(fleet, draw):
     with Fleet([]) as replica, two_with_a_stream(fleet) as (script, bridge, _), bridge.client() as client:
         replica.follow(fleet)
         script.script("XREAD", SWALLOW, 1 << 30)  # or the listener hears that the server becomes a replica
-        until(lambda: script.asked["XREAD COUNT"] and bridge.state()["state"] == "instep", "it is in step", 10)
+        until(lambda: script.asked["XREAD COUNT"] and bridge.state()["state"] == "instep", "it is in step")
         before = bridge.said()
 
         def work():

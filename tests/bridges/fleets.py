@@ -17,10 +17,10 @@ import threading
 import time
 
 ROOT = pathlib.Path(__file__).resolve().parent.parent.parent
-PATIENCE = 30  # seconds that anything may take
+PATIENCE = 60  # seconds that anything may take, on a busy machine, too
 TICK = 0.005
 FAULT = re.compile(r"^.*(ERROR: |runtime error|==\d+== ).*$", re.MULTILINE)  # of a sanitizer, or of valgrind
-DOWN_AFTER = 300  # milliseconds after which a Sentinel considers a master dead
+DOWN_AFTER = 2000  # milliseconds after which a Sentinel considers a master dead: a busy one may be silent for some hundred
 MEMORY = "/dev/shm"  # where a server that syncs each change isn't held up by a disk
 
 
@@ -438,7 +438,7 @@ class Sentinel:
         until(self.knows_master, "the Sentinel answers")
 
     def ask(self, *words):
-        with socket.create_connection(("127.0.0.1", self.port), timeout=5) as it:
+        with socket.create_connection(("127.0.0.1", self.port), timeout=PATIENCE) as it:
             return asked(it, *words)
 
     def knows_master(self):

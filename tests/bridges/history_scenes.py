@@ -4,7 +4,7 @@ import json
 import subprocess
 import sys
 
-from fleets import ROOT
+from fleets import PATIENCE, ROOT
 from history import History
 
 LEGAL = [
@@ -35,7 +35,7 @@ def histories_that_are_spoiled(fleet, draw):
     log = f"{fleet.home}/history"
     with open(log, "w", encoding="ascii") as file:
         file.writelines(json.dumps(it) + "\n" for it in LEGAL)
-    ran = subprocess.run([sys.executable, ROOT / "tests" / "bridges" / "history.py", log], capture_output=True, text=True, timeout=30)
+    ran = subprocess.run([sys.executable, ROOT / "tests" / "bridges" / "history.py", log], capture_output=True, text=True, timeout=PATIENCE)
     assert ran.returncode == 0 and ran.stdout.endswith("5 changes, 6 reads, 0 faults\n"), ran
     for rule, spoilings in SPOILED.items():
         for at, changed in spoilings:

@@ -23,22 +23,33 @@ while some := it.recv(1 << 16):
     sys.stdout.buffer.write(some)
 """
 STAYED = """
-import os, socket, sys
+import os, select, socket, sys, time
 path, user, group, count = sys.argv[1], *map(int, sys.argv[2:])
 os.setgroups([group])
 os.setgid(group)
 os.setuid(user)
-def ask(it, line):
+def send(it, line):
     try:
         it.sendall(line)
+    except OSError:
+        pass
+def got(it):
+    try:
         return it.recv(1 << 16)
     except OSError:
         return b""
+def ask(it, line):
+    send(it, line)
+    return got(it)
 all = [socket.socket(socket.AF_UNIX) for _ in range(count)]
 for it in all:
-    it.settimeout(2)
+    it.settimeout(60)
     it.connect(path)
-there = [it for it in all if ask(it, b"nameof 0/2\\n")]
+    send(it, b"nameof 0/2\\n")
+there, end = [], time.monotonic() + 60
+while (ready := select.select(all, [], [], 2)[0]) or not there and time.monotonic() < end:
+    there += [it for it in ready if got(it)]
+    all = [it for it in all if it not in ready]
 made = sum(ask(there[0], b'subscribe ".*" 2 later new\\n').startswith(b"subscribed ") for _ in range(128))
 print(len(there), made, flush=True)
 sys.stdin.read()
@@ -132,7 +143,7 @@ def an_endpoint_of_a_client_that_hangs_up(fleet, draw):
         with bridge.client() as driver:
             driver.send("as 3/17", "as 0/2", f"publish 0/2 new forged{at} label 1.0 = 1/{at + 20}", f"publish 3/17 new eth0.own{at} u32 3.{at} = 1")
     bridge.resume()
-    until(lambda: sum("eth0.own" in it for it in bridge.all()) == 9, "what it changes under its own endpoint is held", 10)
+    until(lambda: sum("eth0.own" in it for it in bridge.all()) == 9, "what it changes under its own endpoint is held")
     assert not any("forged" in it for it in bridge.all()), bridge.all()
 
 
@@ -159,15 +170,14 @@ def subscriptions_end_with_their_client(fleet, draw):
 
 def limits_of_clients(fleet, draw):
     """`state` shows the limits by redis's names. A client that sends nothing is dropped, and one that listens isn't."""
-    bridge = fleet.start("--maxclients", "4", "--timeout", "1", "--client-output-buffer-limit", "20000", "--maxmemory-clients", "100000")
+    bridge = fleet.start("--maxclients", "4", "--timeout", "4", "--client-output-buffer-limit", "20000", "--maxmemory-clients", "100000")
     state = bridge.state()
     names = ("maxclients", "timeout", "client-output-buffer-limit", "maxmemory-clients")
-    assert [state[it] for it in names] == ["4", "1", "20000", "100000"] and state["clients"] == "1", state
+    assert [state[it] for it in names] == ["4", "4", "20000", "100000"] and state["clients"] == "1", state
     with bridge.client() as idle, bridge.client() as listens:
         assert listens.ask("listen 3") == ["listening 3"] and idle.ask("show") == ["shown 0"]
         began = time.monotonic()
-        idle.it.settimeout(10)
-        assert idle.it.recv(1) == b"" and time.monotonic() - began > 0.9, "it is dropped early, or never"
+        assert idle.it.recv(1) == b"" and time.monotonic() - began > 3.9, "it is dropped early, or never"
         time.sleep(1)
         assert listens.ask("show") == ["shown 0"]
         more = [bridge.client() for _ in range(3)]

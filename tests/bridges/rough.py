@@ -109,11 +109,12 @@ class Rude(threading.Thread):
 
 
 class Prober(threading.Thread):
-    """A client that sends queries all the time. `slowest` is the seconds of the slowest answer; a stopped bridge's don't count."""
+    """A client that sends queries all the time. `slowest` is the seconds of the slowest answer; a stopped bridge's don't count. `late` is by how
+    much the machine delayed its longest rest."""
 
     def __init__(self, bridge):
         super().__init__(daemon=True)
-        self.bridge, self.slowest, self.count, self.ended = bridge, 0, 0, False
+        self.bridge, self.slowest, self.late, self.count, self.ended = bridge, 0, 0, 0, False
 
     def run(self):
         while not self.ended:
@@ -121,7 +122,9 @@ class Prober(threading.Thread):
                 with self.bridge.client() as client:
                     while not self.ended:
                         self.probe(client)
+                        begun = time.monotonic()
                         time.sleep(REST)
+                        self.late = max(self.late, time.monotonic() - begun - REST)
             except TimeoutError:
                 self.slowest = math.inf
             except (OSError, Gone):

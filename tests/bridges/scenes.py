@@ -9,7 +9,7 @@ import time
 import behaviour
 import model
 import stores
-from fleets import ROOT, Fleet, Gone, Names, Proxy, dsask, until
+from fleets import PATIENCE, ROOT, Fleet, Gone, Names, Proxy, dsask, until
 from model import lines as reader
 from model.store import Store
 from scripted import Scripted
@@ -43,10 +43,10 @@ def offer(bridge, *lines):
             assert answer == ["taken"], f"{line}: {answer}"
 
 
-def shows(bridge, lines, seconds=10):
+def shows(bridge, lines):
     """Waits until the bridge holds what the model makes of these lines."""
     wanted = held(lines)
-    until(lambda: bridge.all() == wanted, f"{bridge.socket} holds {len(wanted) - 1} items; it has {bridge.ask('all')[-1]}", seconds)
+    until(lambda: bridge.all() == wanted, f"{bridge.socket} holds {len(wanted) - 1} items; it has {bridge.ask('all')[-1]}")
 
 
 # ---- telling ----
@@ -138,7 +138,7 @@ def a_server_that_lost_all(fleet, draw):
     offer(bridges[0], *lines)
     shows(bridges[1], lines)
     fleet.empty_server()
-    until(lambda: set(fleet.told()) == {it.encode() for it in lines}, "all is sent again", 10)
+    until(lambda: set(fleet.told()) == {it.encode() for it in lines}, "all is sent again")
     late = fleet.start()
     shows(late, lines)
 
@@ -154,7 +154,7 @@ def a_server_that_lost_its_end(fleet, draw):
     shows(bridges[0], lines + late)
     fleet.restore_copy()
     fleet.ask("XADD", "ds:items", "*", "from", "x", "items", number("other", 1, 1) + "\n")
-    until(lambda: {it.encode() for it in lines + late} <= set(fleet.told()), "what it lost is sent again", 5)
+    until(lambda: {it.encode() for it in lines + late} <= set(fleet.told()), "what it lost is sent again")
     shows(fleet.start(), [*lines, *late, number("other", 1, 1)])
 
 
@@ -170,7 +170,7 @@ def only_what_is_lost_is_told_again(fleet, draw):
     for bridge in bridges:
         shows(bridge, lines + late)
     fleet.restore_copy()
-    until(lambda: {it.encode() for it in lines + late} <= set(fleet.told()), "what it lost is sent again", 5)
+    until(lambda: {it.encode() for it in lines + late} <= set(fleet.told()), "what it lost is sent again")
     time.sleep(REST)
     count = len(fleet.told())
     assert count <= len(lines) + len(bridges) * len(late), f"{count} lines are there, of {len(lines)} that it had and {len(late)} that it lost"
@@ -191,8 +191,8 @@ def a_snapshot_lost_while_it_is_read(fleet, draw):
     lost = script.script("HMGET ds:snapshot at items", lose)
     script.script("INFO", lambda raw: raw.replace(b"run_id:", b"run_id:0", 1).replace(b"\r\nredis_git_sha1:00000000", b"\r\nredis_git_sha1:0000000", 1), 1 << 30)
     script.cut()
-    until(lost.is_used, "the snapshot is read", 10)
-    until(lambda: {it.encode() for it in lines} <= set(fleet.told()), "what was in it is sent again", 10)
+    until(lost.is_used, "the snapshot is read")
+    until(lambda: {it.encode() for it in lines} <= set(fleet.told()), "what was in it is sent again")
 
 
 # ---- reading ----
@@ -266,7 +266,7 @@ def a_listener_that_is_swallowed(fleet, draw):
     proxy.blip()
     lines.append(number("b", 1, 1))
     offer(first, lines[-1])
-    shows(deaf, lines, 15)
+    shows(deaf, lines)
     assert deaf.said().count("the server answers nothing") == 2, deaf.said()
 
 
@@ -276,18 +276,25 @@ def a_rest_that_is_swallowed(fleet, draw):
     bridge = fleet.start(url=proxy.url())
     time.sleep(0.5)
     proxy.mute()
-    until(lambda: bridge.state()["connections"] == "2", "it reconnects", 20)
+    until(lambda: bridge.state()["connections"] == "2", "it reconnects")
     assert "the server answers nothing" in bridge.said(), bridge.said()
 
 
 def a_connection_at_rest(fleet, draw):
     """The kernel probes connections at rest, and no child process inherits them."""
     bridge = fleet.start()
-    time.sleep(0.5)
     port, keeps_alive = f":{fleet.port:04X}", "02"
-    with open("/proc/net/tcp", encoding="ascii") as table:
-        rows = [it.split() for it in table]
-    mine = [it for it in rows if it[2].endswith(port) and it[3] == "01"]
+
+    def rows():
+        """Returns what the kernel knows of its two connections, once both are made."""
+        with open("/proc/net/tcp", encoding="ascii") as table:
+            found = [it.split() for it in table]
+        found = [it for it in found if it[2].endswith(port) and it[3] == "01"]
+        return found if len(found) == 2 else None
+
+    until(rows, "it has two connections")
+    time.sleep(0.5)
+    mine = rows() or []
     assert len(mine) == 2 and all(it[5].startswith(keeps_alive) for it in mine), mine
     sockets = {f"socket:[{it[9]}]" for it in mine}
     for it in os.listdir(folder := f"/proc/{bridge.process.pid}/fd"):
@@ -310,7 +317,7 @@ def trimmed_by_hand(fleet, draw):
             lines.append(line)
         fleet.ask(*meddling)
         paused.resume()
-        shows(paused, lines, 12)
+        shows(paused, lines)
 
 
 def an_entry_that_is_deleted(fleet, draw):
@@ -325,7 +332,7 @@ def an_entry_that_is_deleted(fleet, draw):
         if b"deleted" in fields[3]:
             fleet.ask("XDEL", "ds:items", entry)
     paused.resume()
-    shows(paused, lines, 12)
+    shows(paused, lines)
 
 
 def everything_flushed(fleet, draw):
@@ -335,9 +342,9 @@ def everything_flushed(fleet, draw):
     offer(bridges[0], *lines)
     shows(bridges[1], lines)
     for meddling in (["FLUSHALL"], ["DEL", "ds:items"], ["XTRIM", "ds:items", "MAXLEN", 0], ["SWAPDB", 0, 1]):
-        time.sleep(1.1)  # so that they have seen what is there
+        time.sleep(REST)  # so that they have seen what is there
         fleet.ask(*meddling)
-        until(lambda: set(fleet.told()) == {it.encode() for it in lines}, f"all is sent again after {meddling}", 5)
+        until(lambda: set(fleet.told()) == {it.encode() for it in lines}, f"all is sent again after {meddling}")
     shows(fleet.start(), lines)
 
 
@@ -349,9 +356,9 @@ def a_snapshot_that_is_lost(fleet, draw):
         offer(bridges[0], line)
     for meddling in (["HDEL", "ds:snapshot", "items"], ["DEL", "ds:snapshot"]):
         until(lambda: fleet.ask("HSTRLEN", "ds:snapshot", "items") and fleet.entries() <= 20, "the stream is compacted")
-        time.sleep(1.1)  # so that they have seen it
+        time.sleep(REST)  # so that they have seen it
         fleet.ask(*meddling)
-        until(lambda: set(fleet.told()) >= {it.encode() for it in lines}, f"all is sent again after {meddling}", 5)
+        until(lambda: set(fleet.told()) >= {it.encode() for it in lines}, f"all is sent again after {meddling}")
         for at in range(25):
             lines.append(number(f"{meddling[0]}{at}", 1, 1))
             offer(bridges[1], lines[-1])
@@ -377,7 +384,7 @@ def a_young_stream_that_is_replaced(fleet, draw):
     offer(bridge, number("young", 1, 1))
     fleet.ask("FLUSHALL")
     offer(bridge, number("after", 1, 1))
-    until(lambda: number("young", 1, 1).encode() in fleet.told(), "it is sent again", 5)
+    until(lambda: number("young", 1, 1).encode() in fleet.told(), "it is sent again")
     shows(fleet.start(), [number("young", 1, 1), number("after", 1, 1)])
 
 
@@ -391,7 +398,7 @@ def a_stream_that_is_replaced(fleet, draw):
     time.sleep(REST)  # so that they have seen what is there
     other_one = "redis.call('DEL', KEYS[1]) for i = 1, 60 do redis.call('XADD', KEYS[1], '*', 'from', 'x', 'items', 'b' .. i .. ARGV[1]) end"
     fleet.ask("EVAL", other_one, 1, "ds:items", " u32 d 1.1 = 7\n")
-    until(lambda: {it.encode() for it in lines} <= set(fleet.told()), "what was answered is sent again", 5)
+    until(lambda: {it.encode() for it in lines} <= set(fleet.told()), "what was answered is sent again")
     shows(first, lines + [number(f"b{it}", 1, 7) for it in range(1, 61)])
 
 
@@ -413,7 +420,7 @@ def a_failover_and_back(fleet, draw):
         assert not {it.encode() for it in late} & set(fleet.told()), "the replica has what its master lacks"
         until(lambda: first.state()["state"] == "denied" and "READONLY" in first.state()["said"], "a replica is reported as one")
         fleet.ask("REPLICAOF", "NO", "ONE")
-        until(lambda: {it.encode() for it in lines + late} <= set(fleet.told()), "what was answered is sent again", 10)
+        until(lambda: {it.encode() for it in lines + late} <= set(fleet.told()), "what was answered is sent again")
         shows(first, [*lines, *late, *(number(f"b{at}", 1, 1) for at in range(20))])
 
 
@@ -426,7 +433,7 @@ def an_entry_that_only_counts_miss(fleet, draw):
     shows(other, lines)
     time.sleep(REST)  # so that they have seen what is there
     fleet.ask("XDEL", "ds:items", fleet.ask("XRANGE", "ds:items", "-", "+")[4][0])
-    until(lambda: {it.encode() for it in lines} <= set(fleet.told()), "it is sent again", 5)
+    until(lambda: {it.encode() for it in lines} <= set(fleet.told()), "it is sent again")
 
 
 def a_hole_that_no_count_shows(fleet, draw):
@@ -458,12 +465,12 @@ def a_hole_that_no_count_shows(fleet, draw):
         fleet.follow(replica)
         until(lambda: not is_whole(), "the replica lacks what its master lacks")
         fleet.ask("REPLICAOF", "NO", "ONE")
-        until(is_whole, "what another history lacks is sent again", 10)
+        until(is_whole, "what another history lacks is sent again")
         tell_and_lose("b")
         replica.keep_copy()
         os.rename(f"{replica.home}/copy", f"{fleet.home}/copy")
         fleet.restore_copy()
-        until(is_whole, "what another run lacks is sent again", 10)
+        until(is_whole, "what another run lacks is sent again")
 
 
 def counts_that_are_forged(fleet, draw):
@@ -473,12 +480,12 @@ def counts_that_are_forged(fleet, draw):
     offer(bridge, *lines)
     for at, forged in enumerate((-(2**63), 2**63 - 1, "12x", 10**30, 2**62)):
         fleet.ask("HSET", "ds:snapshot", "trimmed", forged)
-        time.sleep(1.2)  # so that bridges compare meanwhile
+        time.sleep(REST)  # so that bridges compare meanwhile
         before = bridge.state()["compactions"]
         for it in range(25):
             lines.append(number(f"b{at}.{it}", 1, 1))
             offer(bridge, lines[-1])
-        until(lambda: bridge.state()["compactions"] != before, "the stream is compacted", 5)
+        until(lambda: bridge.state()["compactions"] != before, "the stream is compacted")
         counted = int(fleet.ask("HGET", "ds:snapshot", "trimmed"))
         assert 0 < counted < 1000, f"{forged}: {counted}"
     time.sleep(REST)
@@ -522,7 +529,7 @@ def the_last_id_there_is(fleet, draw):
         until(lambda: bridge.state()["state"] == "denied" and "last possible ID" in bridge.state()["said"], "it is denied")
         fleet.ask("DEL", "ds:items")
         assert client.answer() == ["taken"]
-    until(lambda: set(fleet.told()) == {it.encode() for it in lines}, "all is sent again", 10)
+    until(lambda: set(fleet.told()) == {it.encode() for it in lines}, "all is sent again")
 
 
 def snapshots_of_all_kinds(fleet, draw):
@@ -553,7 +560,7 @@ def zeros_before_an_id(fleet, draw):
     fleet.ask("HSET", "ds:snapshot", "at", "0" * 50 + "9" * 15 + "-0", "items", "")
     offer(first, number("b", 1, 1))
     late = fleet.start(wait=False)
-    until(late.tries_state, "another bridge serves", 10)
+    until(late.tries_state, "another bridge serves")
     shows(late, [number("a", 1, 1), number("b", 1, 1)])
     before = script.asked["XREAD COUNT"]
     time.sleep(1)
@@ -567,7 +574,7 @@ def behind_before_anything_is_read(fleet, draw):
     proxy.mute()
     offer(first, line)
     seen = set()
-    until(lambda: seen.add(deaf.state()["behind"]) or deaf.holds(line), "it reconnects, and reads the entry", 15)
+    until(lambda: seen.add(deaf.state()["behind"]) or deaf.holds(line), "it reconnects, and reads the entry")
     assert seen == {"0"} and "didn't come" in deaf.said(), f"{seen}, {deaf.said()}"
 
 
@@ -655,11 +662,11 @@ def a_lone_publisher(fleet, draw):
 
     publish.count = 0
     quiet = time.monotonic() + 6
-    more = publish(lambda: time.monotonic() > quiet or any(it.state()["differing"] != "0" for it in (first, other)), 10)
+    more = publish(lambda: time.monotonic() > quiet or any(it.state()["differing"] != "0" for it in (first, other)), PATIENCE)
     assert time.monotonic() > quiet and more == 0, f"a bridge seems to differ; {more} entries more than changes"
     for name, line in zip(named, lacked):  # its bridge takes it for its own
         fleet.ask("XADD", "ds:items", "*", "from", name, "items", line + "\n")
-    publish(lambda: all(it.holds(line) for it in (first, other) for line in lacked), 15)
+    publish(lambda: all(it.holds(line) for it in (first, other) for line in lacked), PATIENCE)
 
 
 def entries_before_a_mark(fleet, draw):
@@ -689,7 +696,7 @@ def digests_of_the_same(fleet, draw):
     seen = set()
     for _ in range(3):
         entry = fleet.ask("XADD", "ds:items", "*", "from", "x", "items", number("a", 1, 1) + "\n").decode()
-        until(lambda: sum(it.endswith(f"-{entry}".encode()) for it in fleet.ask("HVALS", "ds:digests")) == 2, "both have a digest at this entry", 10)
+        until(lambda: sum(it.endswith(f"-{entry}".encode()) for it in fleet.ask("HVALS", "ds:digests")) == 2, "both have a digest at this entry")
         digests = {it.split(b"-")[1] for it in fleet.ask("HVALS", "ds:digests") if it.startswith(b"3-")}
         assert len(digests) == 1 and not digests & seen, f"{digests} after {seen}"
         seen |= digests
@@ -725,7 +732,7 @@ def a_clash(fleet, draw):
     offer(other, newer)
     for bridge in (first, other, late):
         shows(bridge, [*lines, *more, newer])
-        until(lambda: "refused clash" not in bridge.state(), "what is older is no longer refused", 5)
+        until(lambda: "refused clash" not in bridge.state(), "what is older is no longer refused")
 
 
 def a_clash_is_no_storm(fleet, draw):
@@ -737,7 +744,7 @@ def a_clash_is_no_storm(fleet, draw):
     fleet.ask("XTRIM", "ds:items", "MAXLEN", 0)
     fleet.ask("XADD", "ds:items", "*", "from", "x", "items", number("k", 1, 2) + "\n")
     other.resume()
-    until(lambda: first.state()["differing"] == "1" and other.state()["differing"] == "1", "both see that they differ", 10)
+    until(lambda: first.state()["differing"] == "1" and other.state()["differing"] == "1", "both see that they differ")
     before = fleet.entries()
     time.sleep(7)
     assert fleet.entries() - before <= 8, f"{fleet.entries() - before} entries in seven seconds of a clash"
@@ -759,7 +766,7 @@ def a_full_store(fleet, draw):
     offer(other, "! b 1")
     for bridge in (first, other):
         shows(bridge, [*lines[:4090], lines[-1], "! b 1", number("c", 1, 1)])
-        until(lambda: "refused full" not in bridge.state(), "it is no longer refused", 5)
+        until(lambda: "refused full" not in bridge.state(), "it is no longer refused")
 
 
 def many_refused_items(fleet, draw):
@@ -808,7 +815,7 @@ def a_stream_of_another_scope(fleet, draw):
     assert scope() == b"everything"
     for options in (("--scope", "rack1\\..* 15"), ("--scope", ".* 15")):
         refused = fleet.start(*options, wait=False)
-        until(lambda: refused.process.poll() is not None or os.path.exists(refused.socket), "it ends, or serves", 10)
+        until(lambda: refused.process.poll() is not None or os.path.exists(refused.socket), "it ends, or serves")
         assert refused.process.poll() == 2 and not os.path.exists(refused.socket), refused.said()
         assert "ERROR event=badscope" in refused.said() and "the stream's scope is `everything`" in refused.said(), refused.said()
         fleet.bridges.remove(refused)
@@ -819,7 +826,7 @@ def a_stream_of_another_scope(fleet, draw):
     assert scope() == b"everything", "the compaction lost it"
     for meddling in (["DEL", "ds:snapshot"], ["FLUSHALL"], ["HDEL", "ds:snapshot", "scope"]):
         fleet.ask(*meddling)
-        until(lambda: scope() == b"everything", f"it is written again after {meddling}", 5)
+        until(lambda: scope() == b"everything", f"it is written again after {meddling}")
     assert first.end() == 0
     fleet.bridges.clear()
     fleet.ask("HDEL", "ds:snapshot", "scope")  # as in a stream of a bridge that wrote none
@@ -832,7 +839,7 @@ def a_scope_that_changes(fleet, draw):
     bridge = fleet.start()
     offer(bridge, *numbers("a", 10))
     fleet.ask("HSET", "ds:snapshot", "scope", "b.* 2")
-    until(lambda: bridge.state()["state"] == "badscope", "it is noticed", 5)
+    until(lambda: bridge.state()["state"] == "badscope", "it is noticed")
     for at in range(30):
         fleet.ask("XADD", "ds:items", "*", "from", "x", "items", number(f"b{at}", 1, 1) + "\n")
     with bridge.client() as client:
@@ -848,7 +855,7 @@ def newlines_from_the_server(fleet, draw):
     """A scope with newlines, which `state` and the log report, doesn't end their lines."""
     bridge = fleet.start()
     fleet.ask("HSET", "ds:snapshot", "scope", "other`\n\nfound 9/99\n\nfound 9/99\n")
-    until(lambda: bridge.state()["state"] == "badscope", "it is noticed", 10)
+    until(lambda: bridge.state()["state"] == "badscope", "it is noticed")
     with bridge.client() as client:
         said = client.ask("state")[-1]
         assert said.startswith("said the stream's scope is `other`??found 9/99??found 9/99?`"), said
@@ -875,7 +882,7 @@ def a_name_that_is_not_answered(fleet, draw):
         assert bridge.all() == held([number("a", 1, 1)])
         slowest = max(slowest, time.monotonic() - begun)
         time.sleep(0.1)
-    assert slowest < 1, f"a client waited for {slowest:.1f} s"
+    assert slowest < 4, f"a client waited for {slowest:.1f} s"
     fleet.start_server()
     offer(bridge, number("b", 1, 1))
     names.answer("-")
@@ -888,7 +895,7 @@ def a_name_that_is_not_answered(fleet, draw):
     begun = time.monotonic()
     if len(fleet.words) == 1:  # valgrind complains of the thread that is left
         assert bridge.end() == 0
-    assert time.monotonic() - begun < 3, "the signal waits for the name"
+    assert time.monotonic() - begun < 30, "the signal waits for the name"
     names.answer(fleet.host)
     fleet.start_server()
 
@@ -904,17 +911,17 @@ def a_name_that_is_answered_late(fleet, draw):
         """Cuts its connections, and returns how many seconds it takes to reconnect."""
         begun = time.monotonic()
         fleet.ask("CLIENT", "KILL", "TYPE", "normal")
-        until(lambda: int(bridge.state()["connections"]) >= count, "it reconnects", 15)
+        until(lambda: int(bridge.state()["connections"]) >= count, "it reconnects")
         return time.monotonic() - begun
 
     names.answer(fleet.host)
     bridge = fleet.start(url=f"redis://fleet.test:{fleet.port}", named=names.named)
-    until(lambda: threads() == 1, "no name is being looked up", 10)
+    until(lambda: threads() == 1, "no name is being looked up")
     names.answer(None)
     reconnects(2)
     assert threads() > 1, "the name server has answered"
     names.answer(fleet.host)
-    until(lambda: threads() == 1, "the name server answers late", 10)
+    until(lambda: threads() == 1, "the name server answers late")
     with Fleet([], host="127.0.0.2", port=fleet.port) as other:
         names.answer(other.host)
         delay = reconnects(3)
@@ -937,7 +944,7 @@ def a_server_that_is_demoted(fleet, draw):
         assert number("b", 1, 1).encode() in master.told()
         master.ask("CONFIG", "SET", "replica-serve-stale-data", "no")
         master.ask("REPLICAOF", "127.0.0.1", 1)
-        until(lambda: "MASTERDOWN" in bridge.said(), "a replica without a master is reported as one", 10)
+        until(lambda: "MASTERDOWN" in bridge.said(), "a replica without a master is reported as one")
         fleet.ask("REPLICAOF", "NO", "ONE")
         names.answer(fleet.host)
         offer(bridge, number("c", 1, 1))
@@ -959,7 +966,7 @@ def a_driver_comes_back(fleet, draw):
         wanted = [it for it in wanted if it]
 
         def answers():
-            return subprocess.run([dsask(), *words[1:]], capture_output=True, text=True, timeout=30).stdout.splitlines()
+            return subprocess.run([dsask(), *words[1:]], capture_output=True, text=True, timeout=PATIENCE).stdout.splitlines()
 
         given = answers()
         assert given == wanted, f"{command}: {given} instead of {wanted}"
@@ -972,7 +979,7 @@ def a_shell_script_watches(fleet, draw):
     here.ask("publish 0/2 new one.eth0 label 3.0 = 3/16")
     words, named = [ROOT / "examples/shell/watch.sh", there.socket, "one.eth0"], {**os.environ, "DSASK": str(dsask())}
     with subprocess.Popen(words, env=named, stdin=subprocess.DEVNULL, stdout=subprocess.PIPE, text=True) as watch:
-        late = threading.Timer(60, watch.kill)
+        late = threading.Timer(4 * PATIENCE, watch.kill)
         late.start()
         assert watch.stdout.readline() == "one.eth0 is at 3/16\n"
         with subprocess.Popen(words, env=named, stdin=subprocess.DEVNULL, stdout=subprocess.PIPE, text=True) as second:
@@ -985,12 +992,12 @@ def a_shell_script_watches(fleet, draw):
         here.ask("publish 0/2 new one.eth0 label 4.0 = 4/16")
         assert watch.stdout.readline() == "one.eth0 is at 4/16\n"
         watch.terminate()
-        assert watch.wait(30) == 1 and watch.stdout.read() == ""
+        assert watch.wait(PATIENCE) == 1 and watch.stdout.read() == ""
         late.cancel()
     with subprocess.Popen(words, env=named, stdin=subprocess.DEVNULL, stdout=subprocess.PIPE, stderr=subprocess.PIPE, text=True) as watch:
         assert watch.stdout.readline() == "one.eth0 is at 4/16\n"
         there.kill()
-        assert watch.wait(30) == 1 and watch.stdout.read() == "", "the dsfleet ended"
+        assert watch.wait(PATIENCE) == 1 and watch.stdout.read() == "", "the dsfleet ended"
     ran = subprocess.run([*words[:2]], env=named, capture_output=True, text=True)
     assert ran.returncode == 2 and ran.stderr.startswith("watch.sh SOCKET NAME: "), ran
 
@@ -1077,7 +1084,7 @@ def who_hangs_up(fleet, draw):
 def sockets_are_taken_over(fleet, draw):
     """A bridge takes over the socket of a killed bridge, but not of a living one. A signal ends it, and removes its socket."""
     bridge = fleet.start()
-    second = subprocess.run([*fleet.words, bridge.socket, bridge.url], capture_output=True, text=True, timeout=30)
+    second = subprocess.run([*fleet.words, bridge.socket, bridge.url], capture_output=True, text=True, timeout=PATIENCE)
     assert second.returncode == 3 and "another one serves it" in second.stderr, second
     bridge.kill()
     assert os.path.exists(bridge.socket)
@@ -1090,7 +1097,7 @@ def words_of_the_command_line(fleet, draw):
     """Each usage error is reported, and pages and completions have each option of the help."""
 
     def run(*words):
-        ran = subprocess.run([*fleet.words, *words], capture_output=True, text=True, timeout=30)
+        ran = subprocess.run([*fleet.words, *words], capture_output=True, text=True, timeout=PATIENCE)
         return ran.returncode, ran.stdout, ran.stderr
 
     status, out, err = run("--help")

@@ -45,7 +45,7 @@ class Scripted(Proxy):
 
     def script_and_wait(self, question, made, times=1):
         rule = self.script(question, made, times)
-        until(rule.is_used, f"the answer to {question} is scripted", 10)
+        until(rule.is_used, f"the answer to {question} is scripted")
 
     def join(self, near):
         try:

@@ -14,7 +14,7 @@ from scripted import CUT, SWALLOW, Scripted
 ERROR, TYPE, DEMOTED = b"-ERR scripted\r\n", b"*1\r\n:1\r\n", b"-READONLY scripted\r\n"
 NOTHING = b"*-1\r\n"
 WRITING = "EVAL local stream, snapshot"  # the transaction of a compaction
-REST = 1.2  # seconds in which a bridge compares
+REST = 2.6  # seconds in which a bridge compares
 ROW = re.compile(r"^ \*   ([A-Z, ]+|any) +\| (.+?) *\|", re.MULTILINE)
 
 
@@ -47,7 +47,7 @@ def walking(fleet, name, *options):
 
 
 def in_step(bridge):
-    until(lambda: bridge.state()["state"] == "instep", "it is in step", 10)
+    until(lambda: bridge.state()["state"] == "instep", "it is in step")
 
 
 def connections(bridge):
@@ -55,19 +55,19 @@ def connections(bridge):
 
 
 def says(bridge, words, count=1):
-    until(lambda: bridge.said().count(words) >= count, f"it logs {words}", 10)
+    until(lambda: bridge.said().count(words) >= count, f"it logs {words}")
 
 
 def reconnects(bridge, work):
     """Checks that the work costs the bridge its connections, and that it reconnects."""
     before = connections(bridge)
     work()
-    until(lambda: connections(bridge) > before, "it reconnects", 15)
+    until(lambda: connections(bridge) > before, "it reconnects")
     in_step(bridge)
 
 
 def told(fleet, *lines):
-    until(lambda: {it.encode() for it in lines} <= set(fleet.told()), "the stream has it", 10)
+    until(lambda: {it.encode() for it in lines} <= set(fleet.told()), "the stream has it")
 
 
 def states_of_the_server(fleet, draw):
@@ -126,7 +126,7 @@ def states_of_the_server(fleet, draw):
         before = connections(bridge)
         fleet.ask("DEL", "ds:items")
         says(bridge, "event=lost")
-        until(lambda: connections(bridge) > before, "both connections are made anew", 10)
+        until(lambda: connections(bridge) > before, "both connections are made anew")
         told(fleet, *kept)
         walk("MET | a loss, or all is read once more")
         script.script("INFO", bytes, whole=True)  # the teller's
@@ -250,13 +250,13 @@ def states_of_telling(fleet, draw):
             assert fleet.entries() == entries + 1, "it is added again"
             walk("NEWS | .. an error instead of replicas")
             script.script("WAIT", CUT)
-            until(lambda: fleet.entries() == entries + 2, "the next server gets it again", 10)
+            until(lambda: fleet.entries() == entries + 2, "the next server gets it again")
             walk("ADDED | the connection ends")
             script.script("WAIT", b":1\r\n")
             assert client.answer() == ["taken"]
             script.script("WAIT", CUT)
             client.send(f"offer {lines[6]}")
-            until(lambda: fleet.entries() == entries + 4, "the next server gets it again", 10)
+            until(lambda: fleet.entries() == entries + 4, "the next server gets it again")
             script.script("WAIT", b":1\r\n", 1 << 30)
             assert client.answer() == ["taken"]
         walk("NEWS | the connection ends")
@@ -339,7 +339,7 @@ def states_of_reading(fleet, draw):
         def starts_again(work, state):
             before = started.left
             work()
-            until(lambda: started.left < before, f"in {state} it reads from the first entry on", 10)
+            until(lambda: started.left < before, f"in {state} it reads from the first entry on")
             in_step(bridge)
             walk(f"{state} | everything is to be read once more")
 
@@ -366,7 +366,7 @@ def states_of_compacting(fleet, draw):
             """Lets the stream grow, and waits until it is compacted, even if late."""
             before = int(bridge.state()["compactions"])
             grow()
-            until(lambda: int(bridge.state()["compactions"]) > before, "the stream is compacted", 10)
+            until(lambda: int(bridge.state()["compactions"]) > before, "the stream is compacted")
             told(fleet, *lines)
 
         compacts()
@@ -439,7 +439,7 @@ def states_of_compacting(fleet, draw):
         before, unwatched = ended(), script.asked["UNWATCH"]
         script.script("HMGET ds:snapshot at scope", overfills)
         grow()
-        until(lambda: ended() > before, "the compaction ends", 10)
+        until(lambda: ended() > before, "the compaction ends")
         time.sleep(REST)
         told(fleet, *lines, *many)
         assert script.asked["UNWATCH"] > unwatched
@@ -473,8 +473,8 @@ def states_of_comparing(fleet, draw):
         entries = fleet.entries()
         differs = script.script("HGETALL ds:digests", differing(bridge), 4)
         says(bridge, "event=differs")
-        until(lambda: fleet.entries() > entries, "everything is sent again", 10)
-        until(differs.is_used, "it is compared", 20)
+        until(lambda: fleet.entries() > entries, "everything is sent again")
+        until(differs.is_used, "it is compared")
         walk("any | others differ, and this is the first of its kind")
         in_step(bridge)
         lines.append(number("late", 1, 1))

@@ -6,7 +6,7 @@ import shutil
 import subprocess
 import time
 
-from fleets import ROOT, Fleet, Names, Proxy, Skipped, free_port, until
+from fleets import PATIENCE, ROOT, Fleet, Names, Proxy, Skipped, free_port, until
 from scenes import number, numbers, offer, shows
 
 NAME = "redis.example.org"  # the server's, on the page
@@ -108,7 +108,7 @@ class Trickle(Proxy):
 
 
 def ran(fleet, *words):
-    return subprocess.run([*fleet.words, *words], capture_output=True, text=True, timeout=30)
+    return subprocess.run([*fleet.words, *words], capture_output=True, text=True, timeout=PATIENCE)
 
 
 def needed_by_bridges(fleet):
@@ -130,7 +130,7 @@ def tls_of_a_bridge(fleet, draw):
         lines = numbers("a", 3000)
         offer(secure[0], *lines)
         for at, bridge in enumerate((plain, *secure)):
-            shows(bridge, lines, 20)
+            shows(bridge, lines)
             lines.append(number("b", at + 1, draw.randrange(100)))
             offer(bridge, lines[-1])
         server.kill_server()
@@ -164,10 +164,10 @@ def a_server_that_shakes_no_hands(fleet, draw):
     needed_by_bridges(fleet)
     with contextlib.closing(Proxy(fleet.port, *range(99))) as proxy:
         bridge = fleet.start(url=proxy.url().replace("redis:", "rediss:"), wait=False)
-        until(lambda: proxy.count, "it calls", 20)
+        until(lambda: proxy.count, "it calls")
         time.sleep(1)  # in which it begins TLS
         begun = bridge.spent()
-        until(lambda: "the server answers nothing" in bridge.said(), "it is given up", 20)
+        until(lambda: "the server answers nothing" in bridge.said(), "it is given up")
         spent = bridge.spent() - begun
         assert spent < 0.2, f"{spent} s of processor time in five seconds of waiting"
         assert bridge.end() == 0

@@ -66,7 +66,7 @@ def pieces(program, typed, words=(), settings=()):
     try:
         while select.select([ours], [], [], harness.SECONDS)[0] and (read := shown(ours)):
             seen += read
-        started.wait(timeout=10)
+        started.wait(timeout=harness.SECONDS)
     finally:
         started.kill()
         started.wait()
@@ -91,7 +91,7 @@ def session(program, words, typed, streams=("stdin", "stdout", "stderr"), prompt
                 if not read:
                     break
                 seen += read
-        started.wait(timeout=10)
+        started.wait(timeout=harness.SECONDS)
     finally:
         started.kill()
         started.wait()

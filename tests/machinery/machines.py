@@ -14,6 +14,7 @@ EXAMPLE = ROOT / "examples" / "machine"
 COUNTS = re.compile(r"^done ((?:\w+ \d+ ?)+)$", re.MULTILINE)
 AT = re.compile(r"^at (\d+) (\d+)$", re.MULTILINE)
 NOTE = re.compile(r"^([\d.]+) (\w+) (\w+) (\d+)/\d+ ?(.*)$", re.MULTILINE)
+GENEROUS = 30000  # ticks of a heartbeat period that no living service misses
 READY = ("disk0", "disk1", "probe", "console", "eth0", "fs", "inet")
 
 
@@ -67,6 +68,12 @@ class Machine(supervisors.Host):
         for label in ("fs", "probe") if "disk1" in labels else ():
             run = self.home / "services" / label / "run"
             supervisors.write_program(run, run.read_text().replace(" ../../disk1.image", "").replace("disk0 disk1", "disk0"))
+
+    def give_periods(self, drivers, servers):
+        """Gives drivers and servers other heartbeat periods."""
+        path = self.home / "settings.toml"
+        text = re.sub(r"^period = 100$", f"period = {drivers}", path.read_text(), flags=re.MULTILINE)
+        path.write_text(re.sub(r"^period = 1000$", f"period = {servers}", text, flags=re.MULTILINE))
 
     def begin(self, tick=1):
         self.start(settings=(self.home / "settings.toml").read_text(), tick=tick, options=("--grace", "0"))

@@ -12,7 +12,9 @@ from machines import counts_of
 from outcomes import failures_of
 from supervisors import ROOT, Skipped, equal
 
-PATIENCE = 60  # seconds that an application may take
+PATIENCE = 180  # seconds that an application may take, on a busy machine, too
+MISSED = 100  # ticks of a heartbeat period, where a driver is to be missed soon
+ROUNDS = 12  # of an application, until a service has failed often enough
 SMALL = 1024  # blocks
 SCENES = []
 
@@ -73,6 +75,19 @@ def harmed(machine, harm, application):
         harm.stop()
 
 
+def harmed_often(machine, harm, least, *words):
+    """Harms something while a client of the file server works, and starts that again until there were enough failures. Returns the harm."""
+    harm.start()
+    try:
+        for _ in range(ROUNDS):
+            all_is_well(ended(machine.files(*words)))
+            if harm.is_denied or len(failures_of(machine.supervised.read(), machine.notes_of(), harm.label)) > least:
+                break
+    finally:
+        harm.stop()
+    return harm
+
+
 @scene
 def undisturbed(make):
     with make() as machine:
@@ -88,7 +103,7 @@ def undisturbed(make):
 def kills(make):
     """No request is lost while a driver of the mirror is killed each quarter of a second, and the file is written and read."""
     with make() as machine:
-        all_is_well(harmed(machine, Kill(machine, "disk0", 0.25), machine.files("write", 5, 32)))
+        harmed_often(machine, Kill(machine, "disk0", 0.25), 5, "write", 5, 32)
         all_is_well(ended(machine.files("check", 0, 32)))
         images_are(machine)
         all_recovered(machine, "disk0", 5)
@@ -99,7 +114,7 @@ def kills(make):
 @scene
 def kills_of_the_only_disk(make):
     with make(disks=1) as machine:
-        all_is_well(harmed(machine, Kill(machine, "disk0", 0.25), machine.files("write", 4, 32)))
+        harmed_often(machine, Kill(machine, "disk0", 0.25), 4, "write", 4, 32)
         all_recovered(machine, "disk0", 4)
         machine.end()
 
@@ -107,8 +122,8 @@ def kills_of_the_only_disk(make):
 @scene
 def stops(make):
     """RS notices a driver that is stopped, by its heartbeats or a complaint."""
-    with make(disks=1) as machine:
-        all_is_well(harmed(machine, Stop(machine, "disk0", 0.8), machine.files("read", 4, 32)))
+    with make(disks=1, period=MISSED) as machine:
+        harmed_often(machine, Stop(machine, "disk0", 0.8), 3, "read", 4, 32)
         failures = all_recovered(machine, "disk0", 3)
         assert {it.cause for it in failures} <= {"heartbeat", "complaint"}, [it.cause for it in failures]
         machine.end()
@@ -194,7 +209,9 @@ def a_driver_that_reads_wrongly_is_blamed(make):
     with make(READS_WRONGLY) as machine:
         all_is_well(ended(machine.files("read", 2, 32)))
         all_recovered(machine, "disk0")
-        equal({why for _, word, _, _, why in machine.notes_of() if word == "complains"}, {"it reads a right disk wrongly"})
+        whys = {why for _, word, _, _, why in machine.notes_of() if word == "complains"}
+        assert "it reads a right disk wrongly" in whys, "nobody complained"
+        assert whys <= {"it reads a right disk wrongly", "hung up"}, whys  # the second one, if on a busy machine the next instance begins too late
         equal(machine.count("healed"), 0)
         machine.end()
 
@@ -238,10 +255,8 @@ def a_driver_that_wants_more_is_ended(make):
 @scene
 def flips(make):
     """No request is lost while bits of the running driver are flipped, and the file is written and read."""
-    with make() as machine:
-        harm = Flip(machine, "disk0", 0.004, seed=1)
-        all_is_well(harmed(machine, harm, machine.files("write", 6, 32)))
-        if harm.is_denied:
+    with make(period=MISSED) as machine:
+        if harmed_often(machine, Flip(machine, "disk0", 0.004, seed=1), 3, "write", 6, 32).is_denied:
             raise Skipped("another process's memory may not be written")
         all_is_well(ended(machine.files("check", 0, 32)))
         images_are(machine)
@@ -286,7 +301,7 @@ def the_readme(make):
     folder = make.room / "readme"
     script = "\n".join(["set -e", *lines, "wait %2", "kill %1", "wait %1"]).replace("/tmp/", f"{folder}/").replace("crates/ds_c/out/libds_c.a", make.library)
     script = script.replace(" read 4096 10 32", " read 4096 2 32").replace("socket &", "socket 2>/dev/null &\nsleep 1")
-    ran = subprocess.run(["bash", "-c", script], cwd=ROOT, capture_output=True, text=True, timeout=PATIENCE)
+    ran = subprocess.run(["bash", "-c", script], cwd=ROOT, capture_output=True, text=True, timeout=5 * PATIENCE)
     counts = counts_of(ran.stdout)
     assert ran.returncode == 0 and counts, ran.stdout[-300:] + ran.stderr[-1000:]
     all_is_well(counts)

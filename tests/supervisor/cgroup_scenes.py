@@ -102,10 +102,9 @@ live()
         host.logged("began b 3/17")
         time.sleep(1.2)
         assert lives(pid) and not host.has_logged("stray"), f"it ends before its instance: {host.log()[-500:]}"
-        first, begun = host.pid("a"), time.monotonic()
-        os.kill(first, signal.SIGKILL)
+        os.kill(host.pid("a"), signal.SIGKILL)
         host.noted("a 4/16 older False")
-        assert time.monotonic() - begun < SOON, "it isn't killed at once"
+        assert host.when("began a 4/16") - host.when("died a 1/16") < SOON, "it isn't killed at once"
         assert not lives(pid), "it outlives its instance"
         pid = int(host.noted("a 4/16 left").split()[-1])
         host.ask("service down a")

@@ -80,7 +80,7 @@ live()
 
 @scene
 def a_connection_ends_with_its_instance(host):
-    """A peer of an instance notices its end, and its old endpoint is refused. A connection to the next instance works at once."""
+    """A peer of an instance notices its end, and its old endpoint is refused. A connection to the next instance works once that is up."""
     asks = HANDED + '''
 dsrs.sendall(b"connect 1/16\\n")
 _, _, (it,) = next_message()
@@ -88,8 +88,11 @@ note(greet(it))
 note(f"then {it.recv(99)}")
 while (at := ask("retrieve d label")) == "found 1/16" or not at.startswith("found "): time.sleep(0.01)
 note("old " + ask("connect 1/16"))
-dsrs.sendall(f"connect {at.split()[1]}\\n".encode())
-_, last, (it,) = next_message()
+def again():
+    dsrs.sendall(f"connect {at.split()[1]}\\n".encode())
+    return next_message()[1:]
+while (said := again())[0] == "refused oldendpoint": time.sleep(0.01)  # until the older one's processes are gone
+last, (it,) = said
 note(f"again {last} {greet(it)}")
 live()
 '''
@@ -119,7 +122,7 @@ note("full" if "refused full" in last else f"never full: {last[-200:]}")
 note("still " + ask("retrieve d label"))
 live()
 '''
-    host.start({"d": ({}, "time.sleep(1000)\n"), "f": ({"class": "server", "period": 200}, asks)})
+    host.start({"d": ({}, "time.sleep(1000)\n"), "f": ({"class": "server", "period": 3000}, asks)})
     host.noted("f 2/17 full")
     host.noted("f 2/17 still found 1/16")
     host.ask("service down d")

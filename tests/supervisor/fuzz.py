@@ -2,7 +2,7 @@
 import random
 import socket
 
-from supervisors import Gone, until
+from supervisors import PATIENCE, Gone, until
 
 WORDS = ("publish", "delete", "retrieve", "nameof", "subscribe", "check", "listen", "since", "snapshot", "page", "show", "all", "beat", "complain", "connect",
          "service", "status", "offer", "sweep", "death", "tick", "settings", "side", "map", "deliver", "")
@@ -55,7 +55,7 @@ def connected(host, slot):
     """Connects to the relay of an instance: what is sent there comes from the instance."""
     it = socket.socket(socket.AF_UNIX, socket.SOCK_SEQPACKET)
     it.connect(f"{host.path}.d/{slot}")
-    it.settimeout(20)
+    it.settimeout(PATIENCE)
     return it
 
 

@@ -9,7 +9,7 @@ import time
 
 import refusal_scenes
 from scenes import asked, scene, used
-from supervisors import Skipped, equal, lives, until
+from supervisors import PATIENCE, Skipped, equal, lives, until
 
 SLEEPS = "#!/bin/sh\nexec sleep 1000\n"
 
@@ -191,11 +191,13 @@ if not forcing:
         except OSError: pass
         time.sleep(0.0005)
 time.sleep(3)
+end = time.monotonic() + 60
+while int(open(GENERATIONS).read() or 0) <= LEAST and time.monotonic() < end: time.sleep(0.1)
 os.kill(forcing, signal.SIGKILL)
 os.waitpid(forcing, 0)
 begun = time.monotonic()
 dsrs.send_signal(signal.SIGTERM)
-try: print("ended", dsrs.wait(10), time.monotonic() - begun < 5)
+try: print("ended", dsrs.wait(40), time.monotonic() - begun < 30)
 except subprocess.TimeoutExpired: print("it doesn't end"), dsrs.kill()
 """
 
@@ -205,13 +207,14 @@ def a_number_that_comes_again_is_another_process(host):
     """The number of a process is given to the next one as soon as it is free. No service is lost by that, and the supervisor ends."""
     if os.geteuid() or subprocess.run(["unshare", "-pf", "--mount-proc", "test", "-w", "/proc/sys/kernel/ns_last_pid"]).returncode:
         raise Skipped("no namespace of numbers can be made")
-    words = host.words
-    host.words = ["unshare", "-pf", "--mount-proc", "--kill-child", "python3", "-c", AGAIN, *words]
-    host.start({f"s{number}": ({"limit": 1000}, "#!/bin/sh\nexit 1\n") for number in range(60)})
+    file, least = host.home / "services/.generation", 300
+    text = AGAIN.replace("GENERATIONS", repr(str(file))).replace("LEAST", str(least))
+    host.words = ["unshare", "-pf", "--mount-proc", "--kill-child", "python3", "-c", text, *host.words]
+    host.start({f"s{number}": ({"limit": 1000}, "#!/bin/sh\nexit 1\n") for number in range(60)}, options=("--grace", "60000"))
+    until(lambda: host.process.poll() is not None, "it ends", 2 * PATIENCE)
     host.ended(0)
     assert "ended 0 True\n" in host.log(), host.log()[-1000:]
-    generation = int((host.home / "services/.generation").read_text())
-    assert generation > 300, f"only {generation} starts"
+    assert int(file.read_text()) > least, f"only {file.read_text()} starts"
 
 
 # ---- graces ----
@@ -223,7 +226,7 @@ def a_grace_is_of_the_whole_group(host):
     child = "import os, signal, time\ndef save(*_):\n    time.sleep(0.4)\n    open('saved', 'a').write('saved\\n')\n    os._exit(0)\nsignal.signal(signal.SIGTERM, save)\nopen('there', 'w')\nwhile True: time.sleep(1)\n"
     shapes = {"shell": "#!/bin/sh\npython3 ../../child.py\nexit 0\n", "worker": "#!/bin/sh\npython3 ../../child.py &\nexec sleep 1000\n"}
     (host.home / "child.py").write_text(child)
-    host.start({label: ({}, body) for label, body in shapes.items()}, options=("--grace", "8000"))
+    host.start({label: ({}, body) for label, body in shapes.items()}, options=("--grace", "60000"))
     folder = host.home / "services"
     for label in shapes:
         until((folder / label / "there").exists, f"{label} is there")
@@ -232,7 +235,7 @@ def a_grace_is_of_the_whole_group(host):
         host.ask(f"service refresh {label}")
         host.logged(f"began {label}", 2)
         assert (folder / label / "saved").exists(), "the next instance doesn't wait for it"
-        assert time.monotonic() - begun < 4, "the whole grace is waited for"
+        assert time.monotonic() - begun < 30, "the whole grace is waited for"
         until((folder / label / "there").exists, f"{label} is there again")
     host.end()
     equal([(folder / label / "saved").read_text().count("saved") for label in shapes], [2, 2])
@@ -243,10 +246,9 @@ def a_group_that_stays_is_killed_after_its_grace(host):
     """What stays in a group without its first process is killed once the grace has passed."""
     host.start({"a": ({}, "#!/bin/sh\n(trap '' TERM; touch there; while :; do sleep 1; done) &\nexec sleep 1000\n")}, options=("--grace", "700"))
     until((host.home / "services/a/there").exists, "it is there")
-    begun = time.monotonic()
     host.ask("service down a")
     host.logged("gone a")
-    took = time.monotonic() - begun
+    took = host.when("gone a") - host.when("kill a")
     assert 0.6 < took < 5, f"{took:.2f} s"
     host.end()
 
@@ -254,28 +256,28 @@ def a_group_that_stays_is_killed_after_its_grace(host):
 @scene
 def a_service_that_is_stopped_sees_that_it_is_to_end(host):
     """SIGCONT comes with SIGTERM, so a stopped service ends itself within its grace."""
-    host.start({"a": ({}, "signal.signal(signal.SIGTERM, lambda *_: (note('saves'), os._exit(0)))\nnote('there')\nwhile True: time.sleep(1)\n")}, options=("--grace", "10000"))
+    host.start({"a": ({}, "signal.signal(signal.SIGTERM, lambda *_: (note('saves'), os._exit(0)))\nnote('there')\nwhile True: time.sleep(1)\n")}, options=("--grace", "60000"))
     host.noted("there")
     os.kill(host.pid("a"), signal.SIGSTOP)
     begun = time.monotonic()
     host.ask("service down a")
     host.noted("saves")
     host.logged("gone a")
-    assert time.monotonic() - begun < 5, "it waits for the grace"
+    assert time.monotonic() - begun < 30, "it waits for the grace"
     host.end()
 
 
 @scene
 def all_services_have_one_grace(host):
-    """Ten services that ignore SIGTERM, and a log program that stays, end within one grace and a second."""
+    """Ten services that ignore SIGTERM, and a log program that stays, end within one grace and a little more."""
     ignores = "#!/bin/sh\ntrap '' TERM\ntouch there\nwhile :; do sleep 1000; done\n"
     host.service("s0/log", "#!/bin/sh\nwhile :; do sleep 1000; done\n")
-    host.start({f"s{number}": ({}, ignores) for number in range(10)}, options=("--grace", "1500"))
+    host.start({f"s{number}": ({}, ignores) for number in range(10)}, options=("--grace", "6000"))
     until(lambda: all((host.home / f"services/s{number}/there").exists() for number in range(10)), "all are there")
     begun = time.monotonic()
     host.end()
     took = time.monotonic() - begun
-    assert 1.4 < took < 2.8, f"{took:.2f} s"
+    assert 5.9 < took < 11, f"{took:.2f} s"
 
 
 # ---- heartbeats ----
@@ -285,7 +287,7 @@ def all_services_have_one_grace(host):
 def a_start_that_waits_misses_no_heartbeat(host):
     """The next instance waits for the grace of the older one, longer than two periods. It isn't judged before it begins."""
     beats = "signal.signal(signal.SIGTERM, signal.SIG_IGN)\nnote('there')\nwhile True: notify('WATCHDOG=1'), time.sleep(0.05)\n"
-    host.start({"a": ({"period": 30}, beats)}, options=("--grace", "1500"))
+    host.start({"a": ({"period": 400}, beats)}, options=("--grace", "10000"))
     host.noted("a 1/16 there")
     host.ask("service refresh a")
     equal(host.status()["a"][0], "wants")
@@ -334,7 +336,7 @@ def late_stray(host, seconds):
 def a_late_stray_is_killed(host):
     """A process that becomes a child of the supervisor after the end of its instance is killed within a second."""
     pid = late_stray(host, 1)
-    until(lambda: not lives(pid), "it is killed", 5)
+    until(lambda: not lives(pid), "it is killed")
     host.logged(f"stray pid {pid} is killed")
     host.end()
 
@@ -358,8 +360,8 @@ def stops_and_continuations_cost_little(host):
     time.sleep(1)
     before, turns = read_calls(host.process.pid), used(host.process.pid)[1]
     time.sleep(2)
+    until(lambda: used(host.process.pid)[1] - turns > 50, "it is woken")
     count, turns = read_calls(host.process.pid) - before, used(host.process.pid)[1] - turns
-    assert turns > 50, f"it was woken {turns} times only"
     assert count < 3 * turns + 100, f"{count} readings in {turns} turns"
     host.end()
 
@@ -374,7 +376,7 @@ def read_calls(pid):
 @scene
 def descendants_that_print_without_end_hold_up_no_reload(host):
     """A service is left out of the settings, and processes that it started, and that hide whose they are, print without end."""
-    chain = "setsid sh -c 'setsid sh -c \"setsid yes & exec sleep 30\" & exec sleep 30'"
+    chain = "setsid sh -c 'setsid sh -c \"setsid yes & exec sleep 200\" & exec sleep 200'"
     prints = f"#!/bin/sh\nenv -i {chain} &\nexec sleep 1000\n"
     host.start({"keep": ({"limit": 9}, SLEEPS), "leave": ({}, prints)}, options=("--grace", "300"))
     until(lambda: "leave: y\n" in host.log()[-100:], "it prints")
@@ -383,9 +385,9 @@ def descendants_that_print_without_end_hold_up_no_reload(host):
     pid = host.pid("keep")
     host.process.send_signal(signal.SIGHUP)
     in_force = f'text="{host.home}/settings.toml: in force"'
-    until(lambda: tail(host, in_force), "the settings are in force", 5)
+    until(lambda: tail(host, in_force), "the settings are in force")
     os.kill(pid, signal.SIGKILL)
-    until(lambda: host.pid("keep") != pid, "it serves", 5)
+    until(lambda: host.pid("keep") != pid, "it serves")
     host.end()
 
 

@@ -8,7 +8,7 @@ import threading
 import time
 
 from scenes import scene
-from supervisors import equal, until
+from supervisors import PATIENCE, equal, until
 
 LINE = "#" * 40
 
@@ -56,7 +56,7 @@ def no_line_is_lost_in_a_slow_pipe(host):
         for _ in range(20):
             begun = time.monotonic()
             equal(host.ask("retrieve a label"), "found 1/16")
-            assert time.monotonic() - begun < 2
+            assert time.monotonic() - begun < 20
         host.noted("a 1/16 printed"), host.noted("b 2/17 printed")
         until(lambda: b"".join(said).count(f": {count - 1} {LINE}\n".encode()) == 2, "the last lines come")
         host.end()
@@ -81,8 +81,7 @@ def a_reader_that_is_gone_holds_up_nobody(host):
     host.noted("a 1/16 printed")
     equal(host.ask("retrieve a label"), "found 1/16")
     host.process.send_signal(signal.SIGTERM)
-    host.process.wait(20)
-    equal(host.process.returncode, 0)
+    equal(host.process.wait(PATIENCE), 0)
 
 
 @scene
@@ -98,8 +97,8 @@ def a_reader_that_stands_still_holds_up_no_end(host):
         assert turns(host) - before < 5, "it polls"
         begun = time.monotonic()
         host.process.send_signal(signal.SIGTERM)
-        equal(host.process.wait(20), 0)
-        assert time.monotonic() - begun < 4, "it waits for its reader"
+        equal(host.process.wait(PATIENCE), 0)
+        assert time.monotonic() - begun < 30, "it waits for its reader"
 
 
 def turns(host):
@@ -119,7 +118,7 @@ def a_flood_of_lines_delays_others_little(host):
     each = (written(host) - before) // count
     assert each < 20000, f"{each} lines for each answer"
     host.process.send_signal(signal.SIGTERM)
-    equal(host.process.wait(20), 0)
+    equal(host.process.wait(PATIENCE), 0)
 
 
 def written(host):

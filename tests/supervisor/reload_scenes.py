@@ -45,14 +45,14 @@ def unchanged_services_keep_their_process(host):
     """Unchanged services keep endpoint and failures; their order in the file may change. New ones start, unless a file keeps them down."""
     for label in "abcd":
         host.service(label, LIVES)
-    host.start(settings=described("a", 0, "limit = 5") + described("b", 1, "period = 50"))
+    host.start(settings=described("a", 0, "limit = 5") + described("b", 1, "period = 3000"))
     host.logged("began b 2/17")
     os.kill(host.pid("a"), signal.SIGKILL)
     host.logged("began a 3/16")
     equal(host.ask('subscribe 120 ".*" 15 later new').split()[0], "subscribed")
     before = {label: host.pid(label) for label in "ab"}
     (host.home / "services/d/down").touch()
-    reload(host, described("d", 4) + described("c", 3) + described("b", 1, "period = 50") + described("a", 0, "limit = 9"))
+    reload(host, described("d", 4) + described("c", 3) + described("b", 1, "period = 3000") + described("a", 0, "limit = 9"))
     host.logged("began c 4/18")
     in_force(host)
     equal(list(host.status()), ["d", "c", "b", "a"])
@@ -79,9 +79,9 @@ def changed_services_get_another_instance(host):
     for label in "abcd":
         host.noted(f"{label} {'abcd'.index(label) + 1}/{'abcd'.index(label) + 16} usec none sub none")
     pid = host.pid("d")
-    changed = described("a", 0, "period = 100") + described("b", 7) + '[[service]]\nlabel = "c"\nclass = "server"\n'
+    changed = described("a", 0, "period = 3000") + described("b", 7) + '[[service]]\nlabel = "c"\nclass = "server"\n'
     reload(host, changed + described("d", 3, 'publishes = ["d.n"]'))
-    host.noted("a 5/16 usec 2000000 sub none")
+    host.noted("a 5/16 usec 60000000 sub none")
     host.noted("b 6/17 usec none sub none")
     host.noted("c 7/18 usec none sub 0")
     host.noted("d 4/19 published")

@@ -11,7 +11,7 @@ import tempfile
 import time
 
 ROOT = pathlib.Path(__file__).resolve().parent.parent.parent
-PATIENCE = 20  # seconds that anything may take
+PATIENCE = 60  # seconds that anything may take, on a busy machine, too
 PAUSE = 0.01
 SLOW = 10  # milliseconds of a tick
 FAULT = re.compile(r"^.*(ERROR: |runtime error|==\d+== ).*$", re.MULTILINE)  # of a sanitizer, or of valgrind
@@ -234,6 +234,11 @@ class Host:
         """Waits for this many events that begin with the text, and returns the last of them."""
         found = lambda: [it for it in self.events() if it.startswith(text)]  # noqa: E731
         return until(lambda: found()[times - 1 :], lambda: f"{times} times `{text}`: {self.log()[-1000:]}")[-1]
+
+    def when(self, text):
+        """Returns the second of the last event that begins with the text, by the supervisor's clock."""
+        events = [line.split(" ", 1) for line in self.ask("log").splitlines()[:-1]]
+        return float([at for at, event in events if event.startswith(text)][-1])
 
     def has_logged(self, text):
         return any(it.startswith(text) for it in self.events())

@@ -291,7 +291,7 @@ def is_silent_where_one_stream_is_no_terminal(program):
             started.stdin.close()
         else:
             os.write(ours, b"\x04")
-        assert started.wait(timeout=10) == 0
+        assert started.wait(timeout=harness.SECONDS) == 0
         error = started.stderr.read() if started.stderr else b""
         shown = terminal.shown(ours) if not words else b""
         os.close(ours)

@@ -49,7 +49,7 @@ def end(started, given=None):
 
 def next_line(started):
     """Reads one line that the program writes, which must come within ten seconds."""
-    line, late = b"", time.monotonic() + 10
+    line, late = b"", time.monotonic() + harness.SECONDS
     while not line.endswith(b"\n"):
         ready, _, _ = select.select([started.stdout], [], [], max(0, late - time.monotonic()))
         assert ready, f"no answer after ten seconds; so far {line!r}"

@@ -85,7 +85,7 @@ def judges_usage_before_input(program):
     """A usage fault ends the program while its input is still open and empty."""
     started = begin(program, ["settle"])
     try:
-        status = started.wait(timeout=10)
+        status = started.wait(timeout=harness.SECONDS)
     finally:
         started.kill()
         started.communicate()
