@@ -85,6 +85,9 @@ class Assigned(Refused): """The unit has a driver."""
 class TwoIds(Refused, ValueError): """The id isn't above that of every request that was accepted."""
 class NoDevice(Refused, LookupError): """The unit has no driver."""
 class NotPending(Refused, LookupError): """There is no unanswered request of this id."""
+# Those of a desk, which Python has no calls for.
+class IsBusy(Refused): """Another seat has the turn, or a seat of the desk is open."""
+class NoSeat(Refused): """The desk has no seat left."""
 
 
 NUMBERED = dict(enumerate(Refused.__subclasses__(), 1))

@@ -11,6 +11,8 @@ use Rattle.std.specs.contracts.impls.GlobalAllocator.TheImpl.{ghosts}
 use Rattle.c_rs.specs.contracts.session.RsSession as session
 use Rattle.ds_submap.specs.contracts.map.SubMap as map
 use Rattle.c_store.specs.contracts.server_table.ServerTable as table
+use Rattle.c_desk.specs.contracts.board.Board as board
+use Rattle.c_desk.specs.contracts.seat.Seat as seat
 
 -- The token by which the heap knows a block; it doesn't depend on the handle to the heap.
 abbrev pub any_heap : Global
@@ -24,7 +26,7 @@ abbrev pub box_or_null : (R : RattleType) → Ptr → Option R.Denot → Fml
 box_or_null R at None = feq Ptr at null_ptr
 box_or_null R at (Some x) = box_owns chunk R at x
 
--- The ownership of a handle of a store, of one of a map, and of one of a table.
+-- The ownership of a handle of a store, of a map, of a table, of a desk and of a seat.
 abbrev pub holds : Ptr → Option session.the_row.Denot → Fml
 holds = box_or_null session.the_row
 
@@ -33,3 +35,9 @@ holds_map = box_or_null map.the_row
 
 abbrev pub holds_table : Ptr → Option table.the_row.Denot → Fml
 holds_table = box_or_null table.the_row
+
+abbrev pub holds_desk : Ptr → Option board.the_row.Denot → Fml
+holds_desk = box_or_null board.the_row
+
+abbrev pub holds_seat : Ptr → Option seat.the_row.Denot → Fml
+holds_seat = box_or_null seat.the_row

@@ -4,3 +4,5 @@ pub mod Maps
 pub mod Services
 pub mod Tables
 pub mod Renewing
+pub mod Desks
+pub mod Crossing

@@ -1,13 +1,18 @@
-//! The data store for C, which `ds.h` declares: handles of stores with RS beside them, of subscribers' maps, and of servers' driver tables.
+//! The data store for C, which `ds.h` declares: handles of stores with RS beside them, of
+//! subscribers' maps, of servers' driver tables, and of desks that threads share, with their seats.
 #![tactic(auto)]
 
+mod desk_handle;
+mod desks;
 mod handle;
+mod law;
 mod lines;
 mod loose;
 mod map_handle;
 mod maps;
 mod renewing;
 mod runs;
+mod seat_handle;
 mod services;
 mod table_handle;
 mod tables;
@@ -19,13 +24,20 @@ ghost use Rattle.ds_c.specs.Calls.{Opens, Opened, Calls, Fetches, Closes};
 
 use c_rs::RsSession;
 use c_values::{Answer, Given, Request, refusal_number};
+pub use desk_handle::DeskHandle;
+pub use desks::{
+    ds_desk_close, ds_desk_open, ds_seat_call, ds_seat_close, ds_seat_items, ds_seat_open,
+    ds_seat_take,
+};
 use ds_machine::Refusal;
 pub use handle::Handle;
+pub use law::handles_cross;
 pub use lines::{ds_call_line, ds_text};
 pub use map_handle::MapHandle;
 pub use maps::{ds_map_close, ds_map_label, ds_map_new, ds_map_take};
 pub use renewing::ds_rs_renew;
 pub use runs::ds_run;
+pub use seat_handle::SeatHandle;
 pub use services::{
     ds_rs_action, ds_rs_due, ds_rs_event, ds_rs_may_complain, ds_rs_may_connect, ds_rs_may_publish,
     ds_rs_next, ds_rs_open, ds_rs_service,
