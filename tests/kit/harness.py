@@ -22,7 +22,7 @@ BAD_TRACE = re.compile(rb"(?:illegal|badline) (\d+)\n")  # the whole output for 
 TOLD = b"dsctl: "  # the beginning of each sentence on standard error
 WRONG_LINE = rb"dsctl: line %s(?:, byte \d+)?: "  # the beginning of the sentence about a trace; it names a byte if part of the line is bad
 WORD = re.compile(rb"badline (\d+) (\d+)\n")  # the first line of standard error if commands to record can't be read
-SECONDS = 120  # the longest that one run may take, even on a busy machine
+SECONDS = 300  # the longest that one run may take, even on a busy machine
 
 
 @dataclass

@@ -91,7 +91,7 @@ note("old " + ask("connect 1/16"))
 def again():
     dsrs.sendall(f"connect {at.split()[1]}\\n".encode())
     return next_message()[1:]
-while (said := again())[0] == "refused oldendpoint": time.sleep(0.01)  # until the older one's processes are gone
+while not (said := again())[0].startswith("connected "): time.sleep(0.01)  # until the next instance has begun
 last, (it,) = said
 note(f"again {last} {greet(it)}")
 live()
