@@ -2,3 +2,4 @@ pub mod Walking
 pub mod SightLemmas
 pub mod EventLemmas
 pub mod FollowLemmas
+pub mod WakingLemmas

@@ -4,3 +4,4 @@ pub mod Doing
 pub mod Following
 pub mod Order
 pub mod Happening
+pub mod Waking

@@ -20,6 +20,7 @@ mod task;
 mod tasks;
 #[cfg(test)]
 mod tests;
+mod waking;
 
 pub use input::Input;
 pub use keeper::Keeper;

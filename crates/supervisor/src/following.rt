@@ -9,8 +9,8 @@ use ds_names::Endpoint;
 use process_keeper::{Input, Keeper};
 use rs_core::{Rs, State};
 
-// Has each label follow RS.
-pub(crate) fn follow(keeper: &mut Keeper, rs: &Rs, deadline: u64)
+/// Has each label follow RS: an instance that RS starts is pending, and one that RS stops gets the deadline.
+pub fn follow(keeper: &mut Keeper, rs: &Rs, deadline: u64)
     ensures labels { LabelsFollow rs.now deadline keeper.old.labels.items keeper.new.labels.items }
     ensures next { keeper.new.next ≡ keeper.old.next }
     ensures file { keeper.new.file ≡ keeper.old.file }
@@ -30,8 +30,8 @@ fn generation_at(rs: &Rs, place: usize) -> Option<u64>
     }
 }
 
-// Returns the endpoint of the service's instance that RS counts as up.
-pub(crate) fn endpoint_at(rs: &Rs, place: usize) -> Option<Endpoint>
+/// Returns the endpoint of the service's instance that RS counts as up.
+pub fn endpoint_at(rs: &Rs, place: usize) -> Option<Endpoint>
     ensures { result ≡ endpoint_in_force (state_at rs.now place) }
 {
     match rs.state_of(place) {
@@ -49,8 +49,8 @@ fn endpoint_of(state: &State) -> Option<Endpoint>
     }
 }
 
-// Returns whether the input is for a caller to note.
-pub(crate) fn is_note(input: &Input) -> bool
+/// Returns whether the input is for a caller to note. Starts, stops and reports are RS's.
+pub fn is_note(input: &Input) -> bool
     ensures { result ≡ is_note input.now }
 {
     !matches!(

@@ -6,10 +6,14 @@
 
 mod fault;
 mod following;
+mod instances;
 mod laws;
 mod supervisor;
 mod telling;
 
 pub use fault::SupervisorFault;
+pub use following::{endpoint_at, follow, is_note};
+pub use instances::{dead_instance, pending_instance};
 pub use laws::{leaders_stay, supervisors_agree};
 pub use supervisor::Supervisor;
+pub use telling::{count_start, is_held};

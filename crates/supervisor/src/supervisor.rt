@@ -7,11 +7,12 @@ ghost use Rattle.process_keeper.specs.Doing.{IsSettled};
 ghost use Rattle.process_keeper.specs.Order.{IsFirst, IsWritten, MayBeNext, TakesAt, is_rest};
 ghost use Rattle.process_keeper.specs.Sight.{service};
 ghost use Rattle.supervisor.specs.Following.{LabelsFollow, ReportsAndFollows, is_note};
-ghost use Rattle.supervisor.specs.Telling.{IsDeadAt, IsRefusedBy, IsReportRefused, IsVouchRefused, NoneDied, ReportIsTold, Told, VouchesAt};
+ghost use Rattle.supervisor.specs.Telling.{IsRefusedBy, IsReportRefused, IsVouchRefused, ReportIsTold, Told, VouchesAt};
 
 use crate::fault::SupervisorFault;
-use crate::following::{endpoint_at, follow, is_note};
-use ds_names::{Endpoint, NoRoom};
+use crate::following::{follow, is_note};
+use crate::instances::{dead_instance, pending_instance};
+use ds_names::NoRoom;
 use process_keeper::{Input, Keeper, Task};
 use rs_core::{Actions, Event, Rs};
 use std::alloc::Global;
@@ -85,7 +86,7 @@ impl Supervisor {
             IsReportRefused self.old.rs self.old.keeper.labels.items self.old.keeper.next self.old.keeper.file label cause tick fault) }
         ensures unchanged { OnErr result ((self.new.rs ≡ self.old.rs) × (self.new.keeper ≡ self.old.keeper)) }
     {
-        match self.dead_instance(label) {
+        match dead_instance(&self.keeper, &self.rs, label) {
             Some(endpoint) => match self.tell(Event::Death(endpoint, cause), tick) {
                 Ok(actions) => {
                     self.keeper.take(label, Input::Reported(now));
@@ -106,10 +107,7 @@ impl Supervisor {
         ensures unchanged { OnErr result (self.new.rs ≡ self.old.rs) }
         ensures keeper { self.new.keeper ≡ self.old.keeper }
     {
-        if !self.keeper.accepts(label, Input::Failed(0)) {
-            return Ok(false);
-        }
-        match endpoint_at(&self.rs, label) {
+        match pending_instance(&self.keeper, &self.rs, label) {
             Some(endpoint) => match self.rs.event(Event::Beat(endpoint), tick) {
                 Ok(_) => Ok(true),
                 Err(fault) => Err(SupervisorFault::Refused(fault)),
@@ -165,19 +163,5 @@ impl Supervisor {
         ensures { result.now ≡ self.now.rs }
     {
         &self.rs
-    }
-
-    // Returns the endpoint of the label's instance, if RS counts it as up and its leader exited.
-    fn dead_instance(&self, label: usize) -> Option<Endpoint>
-        ensures dead { IfSome result (λ endpoint. IsDeadAt self.now.rs self.now.keeper.labels.items label endpoint) }
-        ensures none { IsNone result → NoneDied self.now.rs self.now.keeper.labels.items label }
-    {
-        if !self.keeper.accepts(label, Input::Reported(0)) {
-            return None;
-        }
-        match endpoint_at(&self.rs, label) {
-            Some(endpoint) => Some(endpoint),
-            None => None,
-        }
     }
 }

@@ -1,8 +1,7 @@
 //! Telling RS an event.
 
-ghost use Rattle.std.specs.Prelude.{◌≡◌, ◌&&◌, nat_lt, not, IfOk, IfErr, OnErr};
-ghost use Rattle.rs_core.specs.Planning.{starts_instance};
-ghost use Rattle.supervisor.specs.Telling.{IsRefusedBy, Told, next_after_start};
+ghost use Rattle.std.specs.Prelude.{◌≡◌, IfOk, IfErr, OnErr};
+ghost use Rattle.supervisor.specs.Telling.{IsRefusedBy, Told, is_held, next_after_start};
 
 use crate::fault::SupervisorFault;
 use crate::supervisor::Supervisor;
@@ -22,13 +21,13 @@ impl Supervisor {
     {
         match self.rs.plan(&event, tick) {
             Ok(plan) => {
-                if self.is_held(&plan) {
+                if is_held(&self.keeper, &plan) {
                     return Err(SupervisorFault::Unwritten);
                 }
                 let before = self.rs.next_generation();
                 match self.rs.carry_out(plan) {
                     Ok(actions) => {
-                        count(&mut self.keeper, before, self.rs.next_generation());
+                        count_start(&mut self.keeper, before, self.rs.next_generation());
                         Ok(actions)
                     }
                     Err(NoRoom) => Err(SupervisorFault::Refused(RsFault::NoRoom)),
@@ -37,18 +36,18 @@ impl Supervisor {
             Err(fault) => Err(SupervisorFault::Refused(fault)),
         }
     }
-
-    // Returns whether the plan waits for the file.
-    fn is_held(&self, plan: &Plan) -> bool
-        ensures { result ≡ (starts_instance plan.now && not (nat_lt self.now.keeper.next self.now.keeper.file)) }
-    {
-        plan.starts() && !self.keeper.may_give()
-    }
 }
 
-// Counts the generation of a start, if there was one.
+/// Returns whether the plan starts an instance, and the file isn't ahead.
+pub fn is_held(keeper: &Keeper, plan: &Plan) -> bool
+    ensures { result ≡ is_held plan.now keeper.now.next keeper.now.file }
+{
+    plan.starts() && !keeper.may_give()
+}
+
+/// Counts the generation of a start, if there was one: RS's next generation before and after says so.
 #[tactic(auto, using(std::proofs::lemmas::Bool::Decides::nat_tests))]
-fn count(keeper: &mut Keeper, before: u32, after: u32)
+pub fn count_start(keeper: &mut Keeper, before: u32, after: u32)
     ensures next { keeper.new.next ≡ next_after_start before after keeper.old.next keeper.old.file }
     ensures file { keeper.new.file ≡ keeper.old.file }
     ensures labels { keeper.new.labels.items ≡ keeper.old.labels.items }
