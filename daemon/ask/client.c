@@ -96,7 +96,7 @@ static void drop(struct buffer *it, size_t length) {
 
 static bool append(struct buffer *it, const void *bytes, size_t length) {
     if (!reserve(it, length + 1)) return false; /* a byte for a zero */
-    memcpy(it->bytes + it->end, bytes, length);
+    if (length) memcpy(it->bytes + it->end, bytes, length);
     it->end += length;
     it->bytes[it->end] = '\0';
     return true;
@@ -397,7 +397,7 @@ struct ds_value ds_value_label(struct ds_endpoint endpoint) { return (struct ds_
 
 static struct ds_value value_of(uint8_t kind, const void *bytes, size_t length) {
     struct ds_value value = {.kind = kind, .length = length};
-    memcpy(value.bytes, bytes, length < sizeof value.bytes ? length : sizeof value.bytes - 1);
+    if (length) memcpy(value.bytes, bytes, length < sizeof value.bytes ? length : sizeof value.bytes - 1);
     return value;
 }
 
