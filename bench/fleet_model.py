@@ -96,7 +96,7 @@ def failover(costs, hosts, draw):
     """Returns how long after a failover all of a server's hosts are in step. Each reads the snapshot, and sends one entry that was lost."""
     streams = max(1, round(hosts / GROUP))
     batches = KEYS // BATCH
-    whole, telling = batches * costs.push_batch, costs.change()
+    whole, adding = batches * costs.push_batch, costs.change()
     server, last = Server(), 0.0
     waiting = [(draw.uniform(*PAUSES), costs.join + whole, at < hosts) for at in range(hosts + streams * READERS)]
     heapq.heapify(waiting)
@@ -104,7 +104,7 @@ def failover(costs, hosts, draw):
         time, cost, is_reading = heapq.heappop(waiting)
         last = server.does(time, cost)
         if is_reading:
-            heapq.heappush(waiting, (last + TRIP + batches * costs.own_merge_batch, telling, False))
+            heapq.heappush(waiting, (last + TRIP + batches * costs.own_merge_batch, adding, False))
     return last
 
 

@@ -41,15 +41,15 @@ static struct ds_fleet *joined(struct ds_handle *store, const char *url) {
     return fleet;
 }
 
-/* A follower steps whenever the bell rings, and reports its position. */
+/* A follower steps whenever its poller is readable, and reports its position. */
 static void follow(struct board *board, int number, const char *url) {
     struct ds_handle store = DS_CLOSED;
     struct ds_fleet *fleet = joined(&store, url);
     struct ds_fleet_state state;
     atomic_fetch_add(&board->ready, 1);
     while (!atomic_load(&board->ended)) {
-        struct pollfd bell = {.fd = ds_fleet_bell(fleet), .events = POLLIN};
-        poll(&bell, 1, 1000);
+        struct pollfd poller = {.fd = ds_fleet_bell(fleet), .events = POLLIN};
+        poll(&poller, 1, 1000);
         ds_fleet_step(fleet, 0);
         ds_fleet_state(fleet, &state);
         atomic_store(&board->position[number], state.position);
@@ -108,10 +108,10 @@ static double spent(void) {
     return (double)(it.ru_utime.tv_sec + it.ru_stime.tv_sec) + (double)(it.ru_utime.tv_usec + it.ru_stime.tv_usec) / 1e6;
 }
 
-struct teller { struct ds_handle store; struct ds_fleet *fleet; unsigned seq; uint64_t items; char text[BATCH * 64]; };
+struct publisher { struct ds_handle store; struct ds_fleet *fleet; unsigned seq; uint64_t items; char text[BATCH * 64]; };
 
 /* Merges `count` items, each a newer version of one of NAMES. */
-static void put(struct teller *it, int count) {
+static void put(struct publisher *it, int count) {
     size_t length = 0;
     for (int i = 0; i < count; i++, it->seq++)
         length += (size_t)snprintf(it->text + length, 64, "host1.n%u u32 drv 1.%u = %u\n", it->seq % NAMES, it->seq + 1, it->seq);
@@ -119,7 +119,7 @@ static void put(struct teller *it, int count) {
     it->items += (uint64_t)count;
 }
 
-static void by_batches(struct teller *it, struct board *board, int others, int batches) {
+static void by_batches(struct publisher *it, struct board *board, int others, int batches) {
     double begun = now(), own = 0, last;
     for (int i = 0; i < batches; i++) {
         double before = now();
@@ -135,7 +135,7 @@ static void by_batches(struct teller *it, struct board *board, int others, int b
            batches * BATCH / own, (now() - last) * 1000);
 }
 
-static void singly(struct teller *it, struct board *board, int others, int port) {
+static void singly(struct publisher *it, struct board *board, int others, int port) {
     double ping = asked(port, "PING"), entry = asked(port, "XADD other * from 0123456789abcdef0123456789abcdef items host1.n1_u32_drv_1.100000_=_100000");
     static double answered[SINGLES], seen[SINGLES];
     double used = 0;
@@ -156,7 +156,7 @@ static void singly(struct teller *it, struct board *board, int others, int port)
 }
 
 /* Makes single changes, each sent before the next, while the others follow as they can. */
-static void in_a_row(struct teller *it, struct board *board, int others) {
+static void in_a_row(struct publisher *it, struct board *board, int others) {
     double begun = now();
     for (int i = 0; i < SINGLES; i++) {
         put(it, 1);
@@ -178,7 +178,7 @@ int main(int count, char **words) {
         if (child < 0) fail("no process");
         if (!child) follow(board, i, words[1]);
     }
-    static struct teller it = {.store = DS_CLOSED};
+    static struct publisher it = {.store = DS_CLOSED};
     it.fleet = joined(&it.store, words[1]);
     while (atomic_load(&board->ready) < others) usleep(1000);
     by_batches(&it, board, others, atoi(words[3]));

@@ -1,6 +1,6 @@
 /* fleet_streams URL STREAMS READERS: streams of one server, each with a store that is changed and READERS that follow it. The stores that are
  * changed are in this process, the others in a second one. Each line of standard input is a phase, and is answered by a line
- * `COUNT SECONDS TELLERS FOLLOWERS MEDIAN`: how many entries were sent, in how long, the processor time of both processes, and the time of one
+ * `COUNT SECONDS PRODUCERS FOLLOWERS MEDIAN`: how many entries were sent, in how long, the processor time of both processes, and the time of one
  * change until it was answered, all in seconds:
  *
  *   rest SECONDS       nothing is changed
@@ -60,7 +60,7 @@ static void join(struct stores *stores, int number, const char *url, int stream)
     *store = (struct store){.handle = DS_CLOSED};
     if (ds_open(&store->handle, 1, 0, 4096) || ds_fleet_open(&store->fleet, &store->handle, &options) != DS_FLEET_INSTEP) fail("no fleet");
     if (ds_fleet_step(store->fleet, PATIENCE * 1000) != DS_FLEET_INSTEP) fail("no server");
-    if (epoll_ctl(stores->epoll, EPOLL_CTL_ADD, ds_fleet_bell(store->fleet), &event)) fail("no bell");
+    if (epoll_ctl(stores->epoll, EPOLL_CTL_ADD, ds_fleet_bell(store->fleet), &event)) fail("no poller");
 }
 
 static struct stores joined(const char *url, int streams, int each) {
@@ -78,7 +78,7 @@ static void step(struct stores *stores, struct store *store) {
     store->position = state.position;
 }
 
-/* Steps each store whose bell rings within `patience` milliseconds. */
+/* Steps each store whose poller is readable within `patience` milliseconds. */
 static void turn(struct stores *stores, int patience) {
     struct epoll_event events[EVENTS];
     int count = epoll_wait(stores->epoll, events, EVENTS, patience);

@@ -20,7 +20,9 @@ def grid(top, unit):
 
 
 def chart(title, sizes, lines, top, unit=""):
-    """Yields the lines of an SVG file. `sizes` are the words along the bottom; `lines` has each line's name, and its values or None by size."""
+    """Yields the lines of an SVG file. `sizes` are the words along the bottom; `lines` has each line's name, and its values or None by
+    size.
+    """
     places = [LEFT + ACROSS * (i + 0.5) / len(sizes) for i in range(len(sizes))]
     yield f'<svg xmlns="http://www.w3.org/2000/svg" viewBox="0 0 {WIDTH} {HEIGHT}" width="{WIDTH}" height="{HEIGHT}" role="img">'
     yield f"<title>{escape(title)}</title>"

@@ -543,7 +543,7 @@ static char *scope_of(struct ds_client *client, const char *pattern, unsigned ki
     return NULL;
 }
 
-/* Subscribes by the first number of a range that may be used. Without one it is refused, as by the daemon. */
+/* Subscribes by the first free number of a range. If none is free, returns DS_NOTALLOWED, as a daemon answers. */
 static uint32_t subscribe_from(struct ds_client *client, const char *scope, const char *when, int first, int count, int *sub) {
     uint32_t fault = judge(client, "refused notallowed\n");
     for (int it = first; fault == DS_NOTALLOWED && it < first + count; it++) {

@@ -127,7 +127,7 @@ static bool check_master(struct master *master, const struct ds_fleet_options *o
 }
 
 bool check_server(const struct ds_fleet_options *options) {
-    struct master master = {.bell = -1};
+    struct master master = {.wakeup = -1};
     enum ds_fleet_word word = master_open(&master, options);
     bool is_good = word == DS_FLEET_INSTEP;
     if (is_good) is_good = check_master(&master, options);

@@ -39,7 +39,7 @@ bool clients_add(struct clients *clients, int socket) {
     client->role = rights_of(&clients->rights, socket);
     bool is_reader = client->role == ROLE_READER;
     client->wire.ended = client->failed = client->role == ROLE_NOBODY || (is_reader && readers_have_half(clients));
-    client->moved = client->heard = clock_now();
+    client->moved = client->active_at = clock_now();
     clients->client[clients->count++] = client;
     return true;
 }
@@ -71,7 +71,7 @@ void clients_read(struct client *client, short events) {
     if (events & (POLLHUP | POLLERR)) hang_up(client);
     if (!(events & (POLLIN | POLLHUP | POLLERR))) return;
     if (!wire_read(&client->wire, client->socket)) client->failed = true;
-    if (client->wire.in.length > before) client->heard = clock_now();
+    if (client->wire.in.length > before) client->active_at = clock_now();
 }
 
 /* ---- slow clients ---- */
@@ -105,7 +105,7 @@ void clients_drop_idle(struct clients *clients) {
     uint64_t now = clock_now(), limit = clients->limits.timeout * SECOND;
     for (size_t i = clients->count; limit && i-- > 0;) {
         const struct client *client = clients->client[i];
-        bool is_idle = now >= client->heard + limit && !backlog(client) && !memcmp(client->wire.listens, nothing, sizeof nothing);
+        bool is_idle = now >= client->active_at + limit && !backlog(client) && !memcmp(client->wire.listens, nothing, sizeof nothing);
         if (is_idle) drop_client(clients, i);
     }
 }

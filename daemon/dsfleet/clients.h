@@ -37,7 +37,7 @@ struct client {
     char endpoint[CLIENT_ENDPOINT]; /* of the client, by `as`; or nothing */
     bool gone;             /* hung up: reads no more answers */
     bool failed;           /* out of memory for this client */
-    uint64_t heard;        /* when the client last sent something, in milliseconds */
+    uint64_t active_at;    /* when the client last sent something, in milliseconds */
     uint64_t moved;        /* when the client last had no answer to read, or read some of one, in milliseconds */
     struct wire wire;      /* the subscriptions of this client: their numbers are free once the client is gone */
     struct text held;      /* answers whose changes aren't in the stream yet */
@@ -52,12 +52,12 @@ struct clients {
     struct clients_limits limits;
     struct rights rights;
     struct client *client[CLIENTS];
-    size_t count, first; /* first: the one whose lines are answered first */
+    size_t count, first; /* first: the client whose lines are answered first */
     size_t waiting;      /* bytes of answers that wait for all of them */
-    bool refused;        /* of this turn: a line wasn't answered yet, */
-    bool crowded;        /* one of them until there is room for the answer; */
-    bool long_one;       /* a line was answered whose answer may be long; */
-    bool hurries;        /* no more of these */
+    bool refused;        /* a line of this turn wasn't answered yet */
+    bool crowded;        /* a line of this turn waits until there is room for its answer */
+    bool long_one;       /* this turn has answered a line whose answer may be long */
+    bool hurries;        /* this turn answers no further line of that kind */
     uint64_t turn_end;   /* when the rest of the clients' lines waits for the next turn */
     bool newest;         /* in this turn the newest client comes first */
 };

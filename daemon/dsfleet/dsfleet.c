@@ -55,12 +55,12 @@ static void admit(struct program *program) {
 
 /* Waits for an event, and reads the clients' lines. */
 static void wait_and_read(struct program *program, bool ready) {
-    enum { SIGNALS, BELL, LISTENER, FIRST_CLIENT };
+    enum { SIGNALS, POLLER, LISTENER, FIRST_CLIENT };
     struct pollfd polled[FIRST_CLIENT + CLIENTS], *clients = polled + FIRST_CLIENT;
     size_t count = program->clients.count;
     bool rests = clock_now() < program->admit_at;
     polled[SIGNALS] = (struct pollfd){.fd = program->signals, .events = POLLIN};
-    polled[BELL] = (struct pollfd){.fd = ds_fleet_bell(program->fleet), .events = POLLIN};
+    polled[POLLER] = (struct pollfd){.fd = ds_fleet_bell(program->fleet), .events = POLLIN};
     polled[LISTENER] = (struct pollfd){.fd = rests ? -1 : program->place.listener, .events = POLLIN};
     for (size_t i = 0; i < count; i++) clients[i] = clients_watched(&program->clients, program->clients.client[i]);
     int patience = rests ? REST : SECOND;

@@ -1,19 +1,19 @@
 /* A bridge: the parts of a fleet, each a struct and an enum of states of its own. The files of the parts begin with a
  * table each, of what becomes of a state by an event. Used within the library.
  *
- * The parts share one connection, the teller's, for one round of questions at a time. ds_fleet.c chooses the next round:
+ * The parts share one connection, the producer's, for one round of questions at a time. ds_fleet.c chooses the next round:
  *
- *   if                                          | the teller's next round
+ *   if                                          | the producer's next round
  *   --------------------------------------------+-------------------------------------------------
  *   the server isn't met                        | the meeting
  *   reading has a gap                           | fetching the snapshot
- *   reading is at its end, a second has passed  | comparing
+ *   reading is at its end, a second has passed  | anti-entropy
  *   reading is at its end, the stream is long   | compacting
- *   reading is at its end, an answer is `known` | a look, the first half of a comparing
- *   something is untold                         | telling
+ *   reading is at its end, an answer is `known` | a look, half of an anti-entropy round
+ *   the outbox has something                    | producing
  *
- * A store is in step if the server is met, reading is at its end, and nothing is untold. The bridge doesn't look for the
- * teller's answer each time that the listener's news wakes it: that takes 6.4 system calls per change in place of 4.9,
+ * A store is in step if the server is met, reading is at its end, and the outbox is empty. The bridge doesn't look for the
+ * producer's answer each time that the consumer's news wakes it: that takes 6.4 system calls per change in place of 4.9,
  * and no answer arrives earlier.
  *
  * crates/fleet_rule defines what a bridge may do, and has its laws. The tables' cells are these events of its definitions:
@@ -22,7 +22,7 @@
  *   -----------------+---------------------------------------+--------------------------------------------------------------
  *   server: CALLED   | met                                   | IsMet, then Meets, or Ignores if the history is the same
  *   CALLED, MET      | connection lost or silent, or demoted | Disconnects
- *   telling: NEWS    | sent, added, replicated               | AsksToAdd, IsAdded, IsReplicated, GetsAcknowledged
+ *   producing: NEWS  | sent, added, replicated               | AsksToAdd, IsAdded, IsReplicated, GetsAcknowledged
  *                    | a part of several wasn't added        | AsksToAdd of the parts before it
  *                    | the outbox is long                    | Folds
  *   reading: BEHIND, | its entries are merged                | AsksToRead, IsRead, Consumes
@@ -31,7 +31,7 @@
  *   any              | everything is to be read once more    | Rereads; after a loss Meets
  *   compacting       | due, and written                      | AsksToCompact, IsCompacted
  *                    | another bridge was faster             | IsOnlyAdded, or Ignores if nothing was added
- *   comparing        | the server lost something             | Loses before it, then IsMet, Meets
+ *   anti-entropy     | the server lost something             | Loses before it, then IsMet, Meets
  *                    | others differ, this bridge is first   | Doubts
  *   the step         | an own change took effect             | Changes
  *                    | all held items are put into the outbox| Refills
@@ -45,14 +45,14 @@
 #include "master.h"
 #include "peers.h"
 
-/* A round of the teller's questions. */
+/* A round of the producer's questions. */
 struct round {
     bool (*is_due)(const struct ds_fleet *fleet);
     enum ds_fleet_word (*ask)(struct ds_fleet *fleet); /* returns INSTEP, or why it can't be asked */
     enum ds_fleet_word (*answered)(struct ds_fleet *fleet);
 };
 
-extern const struct round meeting_round, fetching_round, comparing_round, looking_round, compacting_round, telling_round;
+extern const struct round meeting_round, fetching_round, anti_entropy_round, looking_round, compacting_round, producing_round;
 
 /* ---- server ---- */
 
@@ -64,16 +64,16 @@ enum server_state {
 
 struct server {
     enum server_state state;
-    const struct round *round;                     /* the teller's; NULL: none, as in AWAY */
+    const struct round *round;                     /* the producer's; NULL: none, as in AWAY */
     struct master master;
-    struct link teller, listener;                  /* open in CALLED and MET */
+    struct link producer, consumer;                /* open in CALLED and MET */
     enum ds_fleet_word parted;                     /* in AWAY: AWAY, or why there is no connection by choice */
-    bool is_one;                                   /* in MET: the listener has shown that it is at the teller's server, too */
+    bool is_one;                                   /* in MET: the consumer has shown that it is at the producer's server, too */
     bool logs_meeting;                             /* the next meeting is logged: the log's last word on the server is that it went */
-    char run[DS_FLEET_ID], history[DS_FLEET_ID];   /* of the server that was met last, or nothing */
+    char run[DS_FLEET_ID], history[DS_FLEET_ID];   /* the run and history of the server that was met last, or nothing */
     uint64_t pause;                                /* milliseconds of the last pause; 0: the server was of use since */
     uint64_t call_at, ask_at;                      /* in AWAY, when a server is called; when what was denied is tried again */
-    char name[DS_FLEET_ID];                        /* of both connections */
+    char name[DS_FLEET_ID];                        /* the name of both connections */
 };
 
 enum ds_fleet_word server_open(struct ds_fleet *fleet, const struct ds_fleet_options *options);
@@ -87,15 +87,15 @@ enum ds_fleet_word server_call(struct ds_fleet *fleet);
 /* Makes both connections anew, to the same address, which may lead to another server by now: what was read and judged may be
  * another one's, and a reading may wait for what comes after an entry of it. Returns LATE, or AWAY. */
 enum ds_fleet_word server_call_again(struct ds_fleet *fleet);
-/* The listener's first round, which shows at which server it is. */
-void server_ask_listener(struct server *server);
-enum ds_fleet_word server_hear_listener(struct ds_fleet *fleet);
+/* The consumer's first round, which shows at which server it is. */
+void server_ask_consumer(struct server *server);
+enum ds_fleet_word server_hear_consumer(struct ds_fleet *fleet);
 
 /* Both connections end. What got no answer is sent to the next server. */
 enum ds_fleet_word server_hang_up(struct ds_fleet *fleet, enum ds_fleet_word word, const char *why);
 enum ds_fleet_word server_went(struct ds_fleet *fleet, const char *why);
 /* The server answered by something that is of no use, or by an error. */
-enum ds_fleet_word server_puzzles(struct ds_fleet *fleet, const char *why);
+enum ds_fleet_word server_protocol_error(struct ds_fleet *fleet, const char *why);
 enum ds_fleet_word server_denied(struct ds_fleet *fleet, const redisReply *error);
 
 /* Notes the history that the server names now. Returns whether it is another one than before. */
@@ -104,34 +104,34 @@ bool server_changed_history(struct server *server, const redisReply *replication
 bool server_has_other_scope(const struct ds_fleet *fleet, const redisReply *scope);
 enum ds_fleet_word server_refuse_scope(struct ds_fleet *fleet, const redisReply *scope);
 
-/* ---- telling ---- */
+/* ---- producing ---- */
 
-enum telling_state { TELLING_NEWS, TELLING_ADDED };
+enum producing_state { PRODUCING_NEWS, PRODUCING_ADDED };
 
-struct telling {
-    enum telling_state state;
-    bool owes_all;      /* everything held is put to what is untold, once the stream is read to its end */
-    size_t sent;        /* in a round of telling, and in ADDED: bytes of the untold that the round adds, or added */
-    unsigned marks;     /* marks without news before them: they count as told once a later write has its replicas, */
-    unsigned sent_marks; /* and those of them that a round is about, or was about */
-    unsigned parts;     /* in a round of telling, or of writing a snapshot: the entries that it adds */
-    int replicas;       /* that have to have each entry; 0: none */
-    int within;         /* milliseconds in which they are to have it, */
-    uint64_t wait_end;  /* and when these are over */
-    uint64_t told;      /* bytes that count as told */
+struct producing {
+    enum producing_state state;
+    bool owes_all;      /* everything held is put into the outbox, once the stream is read to its end */
+    size_t sent;         /* in a round, and in ADDED: bytes of the outbox that the round adds, or added */
+    unsigned marks;      /* marks without news before them, acknowledged once a later write has its replicas */
+    unsigned sent_marks; /* the marks that a round is about, or was about */
+    unsigned parts;     /* in a round, or of writing a snapshot: the entries that it adds */
+    int replicas;       /* how many replicas have to have each entry; 0: none */
+    int within;         /* milliseconds in which the replicas are to have an entry */
+    uint64_t wait_end;  /* when the time of the replicas is over */
+    uint64_t acknowledged; /* bytes */
     struct trail trail; /* the entries told */
 };
 
-void telling_cut(struct telling *telling);
-/* For a compaction, whose snapshot has everything held: whether one question can add all that is untold; puts that to the
+void producing_cut(struct producing *producing);
+/* For a compaction, whose snapshot has everything held: whether one question can add the whole outbox; puts that to the
  * question, an argument for each entry; and notes that these ids are the entries'. */
-bool telling_may_add_all(const struct ds_fleet *fleet);
-void telling_put_all(struct ds_fleet *fleet, struct question *question);
-void telling_added_all(struct ds_fleet *fleet, const struct redisReply *ids);
-bool telling_has_news(const struct ds_fleet *fleet);
-/* Notes a mark past everything gathered. What others told, or an earlier run did, may lack replicas: then the mark counts as told
+bool producing_may_add_all(const struct ds_fleet *fleet);
+void producing_put_all(struct ds_fleet *fleet, struct question *question);
+void producing_added_all(struct ds_fleet *fleet, const struct redisReply *ids);
+bool producing_has_news(const struct ds_fleet *fleet);
+/* Notes a mark past everything gathered. What others told, or an earlier run did, may lack replicas: then the mark is acknowledged
  * once a later write has them. */
-void telling_mark(struct ds_fleet *fleet);
+void producing_mark(struct ds_fleet *fleet);
 
 /* ---- reading ---- */
 
@@ -151,7 +151,7 @@ struct reading {
     struct trail trail;         /* the entries read */
 };
 
-/* The listener's round. */
+/* The consumer's round. */
 void reading_ask(struct ds_fleet *fleet);
 enum ds_fleet_word reading_answered(struct ds_fleet *fleet);
 void reading_cut(struct reading *reading);
@@ -162,9 +162,9 @@ enum compacting_state { COMPACTING_RESTS, COMPACTING_WATCHES, COMPACTING_WRITES 
 
 struct compacting {
     enum compacting_state state; /* RESTS, but in a round of compacting */
-    long keep, length;           /* a stream of more entries than keep is compacted; length: of the stream, as last heard */
+    long keep, length;           /* a stream of more entries than keep is compacted; length: of the stream, as last read */
     struct entry_id at;          /* in WRITES: the entry up to which the snapshot goes that is being written */
-    struct entry_id written;     /* and of the one that was written last; 0-0: none was */
+    struct entry_id written;     /* the entry up to which the last written snapshot goes; 0-0: none was written */
     uint64_t due_at;             /* no sooner than this */
 };
 
@@ -173,7 +173,7 @@ struct compacting {
 /* Marks that wait for a look at the stream, since they are of changes that the store held already. Looks are counted from 1. */
 struct looking {
     uint64_t asked;    /* the last look that was asked, */
-    uint64_t gathered; /* and bytes that had been gathered then */
+    uint64_t gathered; /* bytes that had been gathered when the last look was asked */
     uint64_t wanted;   /* the last look for which a mark waits */
     uint64_t good;     /* a look that found no loss, 0: none; it counts once the server acknowledged, */
     uint64_t good_at;  /* this many of all bytes gathered */
@@ -185,54 +185,54 @@ uint64_t looking_mark(struct looking *looking);
 /* Whether this look, or a later one, found no loss, and the server acknowledged what was gathered before it. */
 bool looking_has_seen(const struct looking *looking, uint64_t look, uint64_t told);
 
-/* ---- comparing ---- */
+/* ---- anti-entropy ---- */
 
-enum { WITNESSES = 4 /* entries that have to be there: a stream that took the place of another one lacks one of them */ };
+enum { PROBES = 4 /* entries that have to be there: a stream that took the place of another one lacks one of them */ };
 
-struct comparing {
+struct anti_entropy {
     uint64_t due_at;
     struct stock stock;
-    struct entry_id asked;                /* the last entry read at the look before, */
-    struct entry_id compared;             /* and at the comparing before, */
-    struct entry_id newest;               /* at which the stream had this one */
-    struct entry_id witnesses[WITNESSES]; /* in a round of comparing: those that are looked for */
+    struct entry_id asked;                /* the last entry read at the last look */
+    struct entry_id compared;             /* the last entry read at the last round of digests */
+    struct entry_id newest;               /* the newest entry of the stream at the last look */
+    struct entry_id probes[PROBES];       /* the entries that a round looks for */
     uint64_t digested;                    /* the store's position at the last digest of others' entries, or at rest; not_digested: there is none */
-    struct digest marked;                 /* of what is held up to the entry that this bridge marked last; at: 0-0 until it is read; mark: 0, there is none */
-    uint64_t merges;                      /* of the store when it was taken */
+    struct digest marked;                 /* the digest up to the entry that this bridge marked last; mark: 0, there is none */
+    uint64_t merges;                      /* the merges of the store when `marked` was taken */
     uint64_t marked_at;                   /* when an entry was last marked here, or a digest taken at another one's mark */
-    unsigned long long beat;              /* of the digests that are published */
-    unsigned rest, wait;                  /* comparings until it tells all again to those that differ, and how many these last were */
+    unsigned long long beat;              /* the beat of the digests that are published */
+    unsigned rest, wait;                  /* rounds until it sends all again to those that differ, and how many these last were */
     struct peers peers;
 };
 
 /* The entries for which the next look will look; 0-0 where there are fewer. */
-void comparing_witnesses(const struct ds_fleet *fleet, struct entry_id ids[WITNESSES]);
+void anti_entropy_probes(const struct ds_fleet *fleet, struct entry_id ids[PROBES]);
 /* While entries come, one in a second is marked, and all bridges take a digest there. An entry is about to be added that
- * tells the last of what is untold: takes the digest of what is held now, and returns the entry's mark; 0: it has none. */
-unsigned long long comparing_mark(struct ds_fleet *fleet);
+ * sends the last of the outbox: takes the digest of what is held now, and returns the entry's mark; 0: it has none. */
+unsigned long long anti_entropy_watermark(struct ds_fleet *fleet);
 /* A marked entry was read, of this bridge or of another one. */
-void comparing_read(struct ds_fleet *fleet, unsigned long long mark, bool is_own);
+void anti_entropy_read(struct ds_fleet *fleet, unsigned long long mark, bool is_own);
 /* Forgets the mark: the entries of its question may not all be there. */
-void comparing_unmark(struct ds_fleet *fleet);
+void anti_entropy_unmark(struct ds_fleet *fleet);
 /* The server, or its stream, is another one, which has this. */
-void comparing_begin_anew(struct comparing *comparing, const struct stock *stock);
+void anti_entropy_begin_anew(struct anti_entropy *anti_entropy, const struct stock *stock);
 
 /* ---- all of it ---- */
 
-enum { PERIOD = 1000 /* milliseconds from one comparing to the next */ };
+enum { PERIOD = 1000 /* milliseconds from one round of anti-entropy to the next */ };
 
 struct ds_fleet {
     struct items items;
     struct server server;
-    struct telling telling;
+    struct producing producing;
     struct reading reading;
     struct compacting compacting;
     struct looking looking;
-    struct comparing comparing;
+    struct anti_entropy anti_entropy;
     char *stream, *scope;        /* scope: as the stream's field has it */
     char me[PEER_ID];            /* the name of this run */
-    int bell, timer;
-    uint64_t wound;              /* for when the timer is set, or 0 */
+    int poller, timer;
+    uint64_t armed;              /* for when the timer is set, or 0 */
     struct ds_fleet_state state; /* what is reported */
 };
 

@@ -8,14 +8,14 @@
  *   WATCHES         | not all is read, or it can't be kept   | WRITES: ends the watch alone
  *   WATCHES         | another scope                          | RESTS: badscope
  *   WATCHES         | an error, or out of memory             | WRITES: ends the watch alone; denied, or noroom
- *   WRITES          | it is written                          | RESTS: the untold counts as told
+ *   WRITES          | it is written                          | RESTS: the outbox is acknowledged
  *   WRITES          | the watch is ended                     | RESTS: nothing was written
  *   WRITES          | another bridge wrote meanwhile         | RESTS: nothing was written
  *   WRITES          | the stream isn't the one that was read | RESTS: nothing was written
  *   WRITES          | an error                               | RESTS: denied
  *   WATCHES, WRITES | the connection ends                    | RESTS
  *
- * A snapshot has everything held. So the transaction adds what is untold to the stream, too: bridges that have read past
+ * A snapshot has everything held. So the transaction adds the outbox to the stream, too: bridges that have read past
  * the snapshot's entry never fetch it. It also trims what the server may have no second time, so it does nothing unless
  * the server and its stream are those of the last look, and the last entry read is still there. */
 #include "bridge.h"
@@ -34,36 +34,36 @@ enum {
 static bool is_compacting_due(const struct ds_fleet *fleet) {
     const struct compacting *compacting = &fleet->compacting;
     bool is_long = compacting->length > compacting->keep && !fleet->items.lost && clock_now() >= compacting->due_at;
-    return is_long && bridge_is_at_end(fleet) && telling_may_add_all(fleet);
+    return is_long && bridge_is_at_end(fleet) && producing_may_add_all(fleet);
 }
 
 static enum ds_fleet_word ask_to_watch(struct ds_fleet *fleet) {
-    struct link *teller = &fleet->server.teller;
+    struct link *producer = &fleet->server.producer;
     fleet->compacting.state = COMPACTING_WATCHES;
     fleet->compacting.due_at = clock_now() + REST;
-    link_ask(teller, "WATCH %s:snapshot", fleet->stream);
-    link_ask(teller, "HMGET %s:snapshot at scope trimmed", fleet->stream);
+    link_ask(producer, "WATCH %s:snapshot", fleet->stream);
+    link_ask(producer, "HMGET %s:snapshot at scope trimmed", fleet->stream);
     return DS_FLEET_INSTEP;
 }
 
 /* ---- the transaction ---- */
 
-/* Looks once more, as the last look did, and for the last entry read. Then adds the untold, writes the snapshot, and
+/* Looks once more, as the last look did, and for the last entry read. Then adds the outbox, writes the snapshot, and
  * trims the stream. Returns the ids of the added entries, or a word for the first difference. */
 static const char compaction[] =
     "local stream, snapshot, has, ids = KEYS[1], KEYS[2], {}, {} "
-    "local run, history, added, gone, last, said, past, at_scope, held, anew, me, witnesses = unpack(ARGV, 1, 12) "
+    "local run, history, added, gone, last, said, past, at_scope, held, anew, me, probes = unpack(ARGV, 1, 12) "
     "local info = redis.call('INFO', 'server') .. redis.call('INFO', 'replication') "
     "local function has_name(word, name) return name == '' or string.find(info, word .. name, 1, true) end "
     "if not has_name('run_id:', run) or not has_name('master_replid:', history) then return 'server' end "
     "local entry = redis.call('XRANGE', stream, last, last)[1] "
     "if not entry or table.concat(entry[2], '\\n') ~= said then return 'entry' end "
-    "for i = 13, 12 + witnesses do if #redis.call('XRANGE', stream, ARGV[i], ARGV[i]) == 0 then return 'witness' end end "
+    "for i = 13, 12 + probes do if #redis.call('XRANGE', stream, ARGV[i], ARGV[i]) == 0 then return 'probe' end end "
     "local fields = redis.call('XINFO', 'STREAM', stream) "
     "for i = 1, #fields, 2 do has[fields[i]] = fields[i + 1] end "
     "local ever = has['entries-added'] "
     "if ever < tonumber(added) or ever - has['length'] > tonumber(gone) then return 'count' end "
-    "for i = 13 + witnesses, #ARGV do ids[#ids + 1] = redis.call('XADD', stream, '*', 'from', me, 'items', ARGV[i]) end "
+    "for i = 13 + probes, #ARGV do ids[#ids + 1] = redis.call('XADD', stream, '*', 'from', me, 'items', ARGV[i]) end "
     "redis.call('HSET', snapshot, 'at', last, 'scope', at_scope, 'items', held) "
     "if anew == '1' then redis.call('HSET', snapshot, 'trimmed', 0) end "
     "redis.call('HINCRBY', snapshot, 'trimmed', redis.call('XTRIM', stream, 'MINID', past)) "
@@ -77,12 +77,12 @@ struct watched {
 };
 
 /* Puts how many of the entries for which the last look looked aren't in the snapshot, and then these. */
-static void put_witnesses(const struct ds_fleet *fleet, struct entry_id at, struct question *question, char count[COUNT_TEXT],
-                          char text[WITNESSES][DS_FLEET_ID]) {
-    struct entry_id ids[WITNESSES];
+static void put_probes(const struct ds_fleet *fleet, struct entry_id at, struct question *question, char count[COUNT_TEXT],
+                          char text[PROBES][DS_FLEET_ID]) {
+    struct entry_id ids[PROBES];
     int found = 0;
-    comparing_witnesses(fleet, ids);
-    for (int i = 0; i < WITNESSES; i++) {
+    anti_entropy_probes(fleet, ids);
+    for (int i = 0; i < PROBES; i++) {
         if (is_above(ids[i], at)) write_entry_id(text[found++], ids[i]);
     }
     snprintf(count, COUNT_TEXT, "%d", found);
@@ -91,12 +91,12 @@ static void put_witnesses(const struct ds_fleet *fleet, struct entry_id at, stru
 }
 
 static void ask_to_write(struct ds_fleet *fleet, const struct text *held, const struct watched *watched) {
-    struct link *teller = &fleet->server.teller;
-    const struct stock *stock = &fleet->comparing.stock;
+    struct link *producer = &fleet->server.producer;
+    const struct stock *stock = &fleet->anti_entropy.stock;
     struct entry_id last = fleet->reading.last;
     struct entry_id next = last.second + 1 ? (struct entry_id){last.first, last.second + 1} : (struct entry_id){last.first + 1, 0};
     char stream[DS_FLEET_SAID], snapshot[DS_FLEET_SAID], added[COUNT_TEXT], gone[COUNT_TEXT], at[DS_FLEET_ID], past[DS_FLEET_ID];
-    char count[COUNT_TEXT], witnesses[WITNESSES][DS_FLEET_ID];
+    char count[COUNT_TEXT], probes[PROBES][DS_FLEET_ID];
     struct question question = {.count = 0};
     snprintf(stream, sizeof stream, "%s:items", fleet->stream);
     snprintf(snapshot, sizeof snapshot, "%s:snapshot", fleet->stream);
@@ -112,12 +112,12 @@ static void ask_to_write(struct ds_fleet *fleet, const struct text *held, const 
     question_put(&question, held->bytes, held->length);
     question_put_text(&question, watched->counts_anew ? "1" : "0");
     question_put_text(&question, fleet->me);
-    put_witnesses(fleet, watched->at, &question, count, witnesses);
-    telling_put_all(fleet, &question);
+    put_probes(fleet, watched->at, &question, count, probes);
+    producing_put_all(fleet, &question);
     fleet->compacting.at = last;
-    link_ask(teller, "MULTI");
-    link_ask_question(teller, &question);
-    link_ask(teller, "EXEC");
+    link_ask(producer, "MULTI");
+    link_ask_question(producer, &question);
+    link_ask(producer, "EXEC");
 }
 
 /* ---- a watching ---- */
@@ -127,7 +127,7 @@ static void ask_to_write(struct ds_fleet *fleet, const struct text *held, const 
 static bool is_known(const struct ds_fleet *fleet, struct entry_id at) {
     const struct reading *reading = &fleet->reading;
     bool is_merged = is_same_entry(at, reading->merged) && !is_same_entry(at, NO_ENTRY);
-    bool is_there = is_same_entry(at, fleet->comparing.stock.snapshot) || is_same_entry(at, fleet->compacting.written);
+    bool is_there = is_same_entry(at, fleet->anti_entropy.stock.snapshot) || is_same_entry(at, fleet->compacting.written);
     return is_merged || (is_there && is_above(reading->last, at));
 }
 
@@ -135,15 +135,15 @@ static bool is_known(const struct ds_fleet *fleet, struct entry_id at) {
  * compaction became due, the bridge may have read changes that no store here can hold. */
 static bool may_write(const struct ds_fleet *fleet, struct entry_id at) {
     bool has_all = bridge_is_at_end(fleet) && fleet->reading.said.length && !fleet->items.lost;
-    return has_all && telling_may_add_all(fleet) && is_known(fleet, at);
+    return has_all && producing_may_add_all(fleet) && is_known(fleet, at);
 }
 
 /* Puts the text of the snapshot into `held`, or nothing if none is to be written. */
 static enum ds_fleet_word prepare_snapshot(struct ds_fleet *fleet, struct text *held, struct watched *watched) {
-    struct redisReply **answers = fleet->server.teller.answers, *snapshot = answers[WATCHING_SNAPSHOT];
+    struct redisReply **answers = fleet->server.producer.answers, *snapshot = answers[WATCHING_SNAPSHOT];
     const redisReply *error = error_of(answers, WATCHING_SNAPSHOT + 1);
     if (error) return server_denied(fleet, error);
-    if (!is_list_of(snapshot, WATCHED_FIELDS)) return server_puzzles(fleet, "no snapshot");
+    if (!is_list_of(snapshot, WATCHED_FIELDS)) return server_protocol_error(fleet, "no snapshot");
     const redisReply *scope = snapshot->element[WATCHED_SCOPE], *count = snapshot->element[WATCHED_TRIMMED];
     if (server_has_other_scope(fleet, scope)) return server_refuse_scope(fleet, scope);
     watched->counts_anew = !read_count(count, &watched->trimmed) && count->type != REDIS_REPLY_NIL;
@@ -160,12 +160,12 @@ static enum ds_fleet_word snapshot_watched(struct ds_fleet *fleet) {
     struct watched watched = {.trimmed = 0};
     enum ds_fleet_word word = prepare_snapshot(fleet, &held, &watched);
     if (server_is_connected(&fleet->server)) {
-        link_done(&fleet->server.teller);
+        link_done(&fleet->server.producer);
         fleet->compacting.state = COMPACTING_WRITES;
         if (word == DS_FLEET_INSTEP && held.length) {
             ask_to_write(fleet, &held, &watched);
         } else {
-            link_ask(&fleet->server.teller, "UNWATCH");
+            link_ask(&fleet->server.producer, "UNWATCH");
         }
     }
     text_free(&held);
@@ -180,19 +180,19 @@ static enum ds_fleet_word note_written(struct ds_fleet *fleet, const redisReply 
     fleet->compacting.written = fleet->compacting.at;
     fleet->state.compactions++;
     items_say(&fleet->items, "compacted: up to entry %s", at);
-    telling_added_all(fleet, ids);
+    producing_added_all(fleet, ids);
     return DS_FLEET_INSTEP;
 }
 
 static enum ds_fleet_word snapshot_written(struct ds_fleet *fleet) {
-    const struct link *teller = &fleet->server.teller;
-    const redisReply *error = error_of((redisReply **)teller->answers, teller->came);
+    const struct link *producer = &fleet->server.producer;
+    const redisReply *error = error_of((redisReply **)producer->answers, producer->came);
     fleet->compacting.state = COMPACTING_RESTS;
     fleet->compacting.length = 0;
-    if (teller->came < WRITING_QUESTIONS) return error ? server_denied(fleet, error) : DS_FLEET_INSTEP;
-    const redisReply *done = teller->answers[WRITING_EXEC], *ids = is_list_of(done, 1) ? done->element[0] : NULL;
-    if (is_list_of(ids, fleet->telling.parts)) return note_written(fleet, ids);
-    telling_cut(&fleet->telling); /* a round of telling adds the untold */
+    if (producer->came < WRITING_QUESTIONS) return error ? server_denied(fleet, error) : DS_FLEET_INSTEP;
+    const redisReply *done = producer->answers[WRITING_EXEC], *ids = is_list_of(done, 1) ? done->element[0] : NULL;
+    if (is_list_of(ids, fleet->producing.parts)) return note_written(fleet, ids);
+    producing_cut(&fleet->producing); /* a round of producing adds the outbox */
     if (is_error(ids)) error = ids;
     return error ? server_denied(fleet, error) : DS_FLEET_INSTEP;
 }

@@ -1,7 +1,7 @@
 /* A store in step with others over a redis stream: the step, and the calls. See ds_fleet.h; bridge.h has the parts, and
  * docs/reference/fleet.md the protocol.
  *
- * Two connections: the teller asks one round of questions at a time; the listener waits for entries. A step continues
+ * Two connections: the producer asks one round of questions at a time; the consumer waits for entries. A step continues
  * both as far as it can without waiting, and only then waits. */
 #include "bridge.h"
 #include "clock.h"
@@ -17,7 +17,7 @@
 enum {
     STREAM_NAME = 128, /* bytes of a name at most */
     RUN_BYTES = 16,    /* of the name of this run, which has two digits for each */
-    RINGERS = 5,       /* of the bell: the timer, look-ups, two connections, and a Sentinel's */
+    EVENTS = 5,        /* of the poller: the timer, look-ups, two connections, and a Sentinel's */
     SOON = 100,        /* milliseconds to the next step if something is due that can't be done now */
     NANOSECONDS = 1000000 /* of one millisecond */
 };
@@ -25,7 +25,7 @@ enum {
 /* The marks that wait for a look have this bit, and its number. */
 static const uint64_t of_look = 1ULL << 63;
 
-/* ---- the teller and the listener ---- */
+/* ---- the producer and the consumer ---- */
 
 bool bridge_is_at_end(const struct ds_fleet *fleet) { return fleet->reading.state == READING_END; }
 
@@ -33,14 +33,14 @@ void bridge_read_from_start(struct ds_fleet *fleet) {
     fleet->reading.last = fleet->reading.passed = fleet->reading.merged = NO_ENTRY;
     fleet->reading.state = READING_BEHIND;
     text_drop(&fleet->reading.said, fleet->reading.said.length);
-    items_begin_anew(&fleet->items, fleet->telling.owes_all);
+    items_begin_anew(&fleet->items, fleet->producing.owes_all);
 }
 
 enum ds_fleet_word bridge_look(struct ds_fleet *fleet, struct redisReply **looked, struct stock *stock) {
     const redisReply *error = error_of(looked, LOOK_QUESTIONS);
     if (is_no_stream(error)) error = error_of(looked + 1, LOOK_QUESTIONS - 1);
     if (error) return server_denied(fleet, error);
-    if (!is_list_of(looked[LOOK_SNAPSHOT], LOOK_FIELDS)) return server_puzzles(fleet, "no snapshot");
+    if (!is_list_of(looked[LOOK_SNAPSHOT], LOOK_FIELDS)) return server_protocol_error(fleet, "no snapshot");
     fleet->compacting.length = (long)count_of(field_of(looked[LOOK_STREAM], "length"));
     *stock = look_answered(looked);
     return DS_FLEET_INSTEP;
@@ -49,47 +49,47 @@ enum ds_fleet_word bridge_look(struct ds_fleet *fleet, struct redisReply **looke
 void bridge_begin_anew(struct ds_fleet *fleet, const struct stock *stock) {
     bridge_read_from_start(fleet);
     fleet->reading.read_up_to = fleet->compacting.written = NO_ENTRY;
-    fleet->telling.trail = fleet->reading.trail = (struct trail){.sure = NO_ENTRY};
-    comparing_begin_anew(&fleet->comparing, stock);
+    fleet->producing.trail = fleet->reading.trail = (struct trail){.sure = NO_ENTRY};
+    anti_entropy_begin_anew(&fleet->anti_entropy, stock);
     fleet->looking.good = 0;
 }
 
-/* Ends the teller's round. Compacting may have asked the next one already, and a connection that went has none. */
+/* Ends the producer's round. Compacting may have asked the next one already, and a connection that went has none. */
 static enum ds_fleet_word end_round(struct ds_fleet *fleet) {
     enum ds_fleet_word word = fleet->server.round->answered(fleet);
-    if (fleet->compacting.state == COMPACTING_WRITES || !link_is_open(&fleet->server.teller)) return word;
-    link_done(&fleet->server.teller);
+    if (fleet->compacting.state == COMPACTING_WRITES || !link_is_open(&fleet->server.producer)) return word;
+    link_done(&fleet->server.producer);
     fleet->server.round = NULL;
     return word;
 }
 
-/* Puts everything held to what is untold, if that is owed and the stream is read to its end. */
+/* Puts everything held into the outbox, if that is owed and the stream is read to its end. */
 static enum ds_fleet_word gather_owed(struct ds_fleet *fleet) {
-    if (!fleet->telling.owes_all || !bridge_is_at_end(fleet)) return DS_FLEET_INSTEP;
+    if (!fleet->producing.owes_all || !bridge_is_at_end(fleet)) return DS_FLEET_INSTEP;
     enum ds_fleet_word word = items_gather_owed(&fleet->items);
-    if (word == DS_FLEET_INSTEP) fleet->telling.owes_all = false;
+    if (word == DS_FLEET_INSTEP) fleet->producing.owes_all = false;
     return word;
 }
 
-/* Keeps what is untold from growing without end, if no round is telling it. What was added without enough replicas is sent again. */
-static enum ds_fleet_word limit_untold(struct ds_fleet *fleet) {
-    bool is_asked = fleet->server.round == &telling_round || fleet->compacting.state == COMPACTING_WRITES;
+/* Keeps the outbox from growing without end, if no round is sending it. What was added without enough replicas is sent again. */
+static enum ds_fleet_word limit_outbox(struct ds_fleet *fleet) {
+    bool is_asked = fleet->server.round == &producing_round || fleet->compacting.state == COMPACTING_WRITES;
     if (is_asked || !items_should_fold(&fleet->items)) return DS_FLEET_INSTEP;
-    telling_cut(&fleet->telling);
+    producing_cut(&fleet->producing);
     return items_fold(&fleet->items);
 }
 
 static enum ds_fleet_word gather(struct ds_fleet *fleet) {
     enum ds_fleet_word word = items_gather(&fleet->items);
-    return word == DS_FLEET_INSTEP ? limit_untold(fleet) : word;
+    return word == DS_FLEET_INSTEP ? limit_outbox(fleet) : word;
 }
 
-/* Asks the first of the teller's rounds that is due. LATE: there is one. */
+/* Asks the first of the producer's rounds that is due. LATE: there is one. */
 static enum ds_fleet_word ask_next(struct ds_fleet *fleet) {
-    static const struct round *const rounds[] = {&meeting_round,    &fetching_round, &comparing_round,
-                                                 &compacting_round, &looking_round,  &telling_round};
+    static const struct round *const rounds[] = {&meeting_round,    &fetching_round, &anti_entropy_round,
+                                                 &compacting_round, &looking_round,  &producing_round};
     if (clock_now() < fleet->server.ask_at) return DS_FLEET_DENIED;
-    enum ds_fleet_word word = limit_untold(fleet);
+    enum ds_fleet_word word = limit_outbox(fleet);
     if (word == DS_FLEET_INSTEP) word = gather_owed(fleet);
     for (size_t i = 0; i < sizeof rounds / sizeof *rounds; i++) {
         if (!rounds[i]->is_due(fleet)) continue;
@@ -101,11 +101,11 @@ static enum ds_fleet_word ask_next(struct ds_fleet *fleet) {
     return word;
 }
 
-/* Continues the teller: LATE if more may come of it at once, else INSTEP or why not. */
-static enum ds_fleet_word turn_teller(struct ds_fleet *fleet) {
+/* Continues the producer: LATE if more may come of it at once, else INSTEP or why not. */
+static enum ds_fleet_word turn_producer(struct ds_fleet *fleet) {
     enum ds_fleet_word word = DS_FLEET_INSTEP;
-    switch (link_turn(&fleet->server.teller, clock_now())) {
-    case LINK_LOST: return server_went(fleet, fleet->server.teller.said);
+    switch (link_turn(&fleet->server.producer, clock_now())) {
+    case LINK_LOST: return server_went(fleet, fleet->server.producer.said);
     case LINK_IDLE: return ask_next(fleet);
     case LINK_WAITS: return DS_FLEET_INSTEP;
     case LINK_ANSWERED: word = end_round(fleet);
@@ -113,65 +113,65 @@ static enum ds_fleet_word turn_teller(struct ds_fleet *fleet) {
     return word == DS_FLEET_INSTEP ? DS_FLEET_LATE : word;
 }
 
-static enum ds_fleet_word turn_listener(struct ds_fleet *fleet) {
+static enum ds_fleet_word turn_consumer(struct ds_fleet *fleet) {
     enum ds_fleet_word word = DS_FLEET_INSTEP;
     bool may_read = fleet->server.state == SERVER_MET && (!fleet->server.is_one || fleet->reading.state != READING_GAP);
-    switch (link_turn(&fleet->server.listener, clock_now())) {
-    case LINK_LOST: return server_went(fleet, fleet->server.listener.said);
+    switch (link_turn(&fleet->server.consumer, clock_now())) {
+    case LINK_LOST: return server_went(fleet, fleet->server.consumer.said);
     case LINK_WAITS: return DS_FLEET_INSTEP;
     case LINK_IDLE:
         if (!may_read || clock_now() < fleet->server.ask_at) return DS_FLEET_INSTEP;
         if (fleet->server.is_one) reading_ask(fleet);
-        else server_ask_listener(&fleet->server);
+        else server_ask_consumer(&fleet->server);
         return DS_FLEET_LATE;
     case LINK_ANSWERED:
-        word = fleet->server.is_one ? reading_answered(fleet) : server_hear_listener(fleet);
-        link_done(&fleet->server.listener);
+        word = fleet->server.is_one ? reading_answered(fleet) : server_hear_consumer(fleet);
+        link_done(&fleet->server.consumer);
     }
     return word == DS_FLEET_INSTEP ? DS_FLEET_LATE : word;
 }
 
 static bool is_in_step(const struct ds_fleet *fleet) {
-    return fleet->server.state == SERVER_MET && bridge_is_at_end(fleet) && !telling_has_news(fleet);
+    return fleet->server.state == SERVER_MET && bridge_is_at_end(fleet) && !producing_has_news(fleet);
 }
 
 /* Goes as far as it can without waiting. If one of the two is denied, the other continues. A step that waits ends once
- * the server has all news: what the listener hasn't read yet, such as the same news, is left to the next step, for
- * which the bell rings, and which may tell other news first. A caller that doesn't wait would come back for it at once,
+ * the server has all news: what the consumer hasn't read yet, such as the same news, is left to the next step, for
+ * which the poller is readable, and which may send other news first. A caller that doesn't wait would come back for it at once,
  * at the cost of another turn. */
 static enum ds_fleet_word turn_both(struct ds_fleet *fleet, bool waits) {
-    enum ds_fleet_word told = DS_FLEET_LATE, heard = DS_FLEET_LATE;
-    while (told == DS_FLEET_LATE || heard == DS_FLEET_LATE) {
-        uint64_t before = fleet->telling.told;
+    enum ds_fleet_word produced = DS_FLEET_LATE, consumed = DS_FLEET_LATE;
+    while (produced == DS_FLEET_LATE || consumed == DS_FLEET_LATE) {
+        uint64_t before = fleet->producing.acknowledged;
         enum ds_fleet_word word = server_call(fleet);
         if (word != DS_FLEET_INSTEP) return word;
-        told = turn_teller(fleet);
-        if (!server_is_connected(&fleet->server)) return told;
-        bool has_told = fleet->telling.told > before && is_in_step(fleet);
-        if (waits && has_told && link_is_asked(&fleet->server.listener)) return DS_FLEET_INSTEP;
-        heard = turn_listener(fleet);
-        if (!server_is_connected(&fleet->server)) return heard;
+        produced = turn_producer(fleet);
+        if (!server_is_connected(&fleet->server)) return produced;
+        bool has_told = fleet->producing.acknowledged > before && is_in_step(fleet);
+        if (waits && has_told && link_is_asked(&fleet->server.consumer)) return DS_FLEET_INSTEP;
+        consumed = turn_consumer(fleet);
+        if (!server_is_connected(&fleet->server)) return consumed;
     }
-    if (told != DS_FLEET_INSTEP) return told;
-    if (heard != DS_FLEET_INSTEP) return heard;
+    if (produced != DS_FLEET_INSTEP) return produced;
+    if (consumed != DS_FLEET_INSTEP) return consumed;
     return is_in_step(fleet) ? DS_FLEET_INSTEP : DS_FLEET_LATE;
 }
 
-/* ---- the bell ---- */
+/* ---- the poller ---- */
 
-/* Lets the bell watch a connection, for writing if something couldn't be written yet. */
+/* Lets the poller watch a connection, for writing if something couldn't be written yet. */
 static void watch_link(struct ds_fleet *fleet, struct link *link) {
     uint32_t wanted = EPOLLIN | (link_waits_to_write(link) ? (uint32_t)EPOLLOUT : 0);
     struct epoll_event event = {.events = wanted, .data = {.ptr = link}};
     if (!link_is_open(link) || link->watched == wanted) return;
-    epoll_ctl(fleet->bell, link->watched ? EPOLL_CTL_MOD : EPOLL_CTL_ADD, link->socket, &event);
+    epoll_ctl(fleet->poller, link->watched ? EPOLL_CTL_MOD : EPOLL_CTL_ADD, link->socket, &event);
     link->watched = wanted;
 }
 
-/* Lets the bell ring at the next time at which there is something to do by itself. */
-static void set_bell(struct ds_fleet *fleet, enum ds_fleet_word word) {
+/* Arms the timer for the next time at which there is something to do by itself. */
+static void arm_timer(struct ds_fleet *fleet, enum ds_fleet_word word) {
     struct server *server = &fleet->server;
-    uint64_t at = fleet->comparing.due_at, soonest = SOON, time = clock_now();
+    uint64_t at = fleet->anti_entropy.due_at, soonest = SOON, time = clock_now();
     if (!server_is_connected(server)) {
         at = server->call_at;
         soonest = 1;
@@ -182,36 +182,36 @@ static void set_bell(struct ds_fleet *fleet, enum ds_fleet_word word) {
     if (at > time + PERIOD) at = time + PERIOD;
     if (at <= time) at = time + soonest;
     struct itimerspec set = {.it_value = {.tv_sec = (time_t)(at / SECOND), .tv_nsec = (long)(at % SECOND) * NANOSECONDS}};
-    if (at != fleet->wound) timerfd_settime(fleet->timer, TFD_TIMER_ABSTIME, &set, NULL);
-    fleet->wound = at;
-    watch_link(fleet, &server->teller);
-    watch_link(fleet, &server->listener);
+    if (at != fleet->armed) timerfd_settime(fleet->timer, TFD_TIMER_ABSTIME, &set, NULL);
+    fleet->armed = at;
+    watch_link(fleet, &server->producer);
+    watch_link(fleet, &server->consumer);
     watch_link(fleet, &server->master.sentinel);
 }
 
-/* Something is heard of where the master is: it may be called at once. */
+/* Something is known of where the master is: it may be called at once. */
 static void hear_of_master(struct server *server) {
     if (!server_is_connected(server)) server->call_at = clock_now();
 }
 
-/* Waits for the bell, and notes who rang it. */
-static void hear_bell(struct ds_fleet *fleet, int patience) {
+/* Waits for the poller, and notes which descriptor is ready. */
+static void poll_once(struct ds_fleet *fleet, int patience) {
     struct server *server = &fleet->server;
-    struct epoll_event events[RINGERS];
+    struct epoll_event events[EVENTS];
     uint64_t expired;
-    int count = epoll_wait(fleet->bell, events, RINGERS, patience);
+    int count = epoll_wait(fleet->poller, events, EVENTS, patience);
     for (int i = 0; i < count; i++) {
-        void *ringer = events[i].data.ptr;
-        if (ringer == &server->teller || ringer == &server->listener) {
-            ((struct link *)ringer)->quiet = false;
-        } else if (ringer == &server->master.sentinel) {
+        void *source = events[i].data.ptr;
+        if (source == &server->producer || source == &server->consumer) {
+            ((struct link *)source)->quiet = false;
+        } else if (source == &server->master.sentinel) {
             server->master.sentinel.quiet = false;
             hear_of_master(server);
-        } else if (ringer == &server->master) {
+        } else if (source == &server->master) {
             master_hear(&server->master);
             hear_of_master(server);
         } else if (read(fleet->timer, &expired, sizeof expired) > 0) {
-            fleet->wound = 0;
+            fleet->armed = 0;
         }
     }
 }
@@ -225,44 +225,44 @@ static bool ends_step(enum ds_fleet_word word) {
 
 /* Whether there is news that can be sent at once. */
 static bool has_unsent_news(const struct ds_fleet *fleet) {
-    return fleet->items.untold.length && fleet->server.state == SERVER_MET && !fleet->server.round;
+    return fleet->items.outbox.length && fleet->server.state == SERVER_MET && !fleet->server.round;
 }
 
-/* The bell is heard at least once, unless news is on its way: then one wait is for its answer, too, be it that of the
+/* The poller is read at least once, unless news is on its way: then one wait is for its answer, too, be it that of the
  * next step. */
 enum ds_fleet_word ds_fleet_step(struct ds_fleet *fleet, unsigned patience) {
     uint64_t end = clock_now() + patience;
     enum ds_fleet_word gathered = gather(fleet);
-    bool has_heard = !has_unsent_news(fleet);
-    if (has_heard) hear_bell(fleet, 0);
+    bool has_polled = !has_unsent_news(fleet);
+    if (has_polled) poll_once(fleet, 0);
     for (;;) {
         if (gathered != DS_FLEET_INSTEP) gathered = gather(fleet);
         enum ds_fleet_word word = gathered == DS_FLEET_INSTEP ? turn_both(fleet, patience) : gathered;
-        set_bell(fleet, word);
+        arm_timer(fleet, word);
         fleet->state.word = word;
         if (word == DS_FLEET_INSTEP) fleet->state.caught_up = true;
         uint64_t time = clock_now(), left = time < end ? end - time : 0;
-        if (ends_step(word) || (!left && (has_heard || fleet->server.round))) return word;
-        hear_bell(fleet, left < PERIOD ? (int)left : PERIOD);
-        has_heard = true;
+        if (ends_step(word) || (!left && (has_polled || fleet->server.round))) return word;
+        poll_once(fleet, left < PERIOD ? (int)left : PERIOD);
+        has_polled = true;
     }
 }
 
 /* ---- the other calls ---- */
 
-int ds_fleet_bell(const struct ds_fleet *fleet) { return fleet->bell; }
+int ds_fleet_bell(const struct ds_fleet *fleet) { return fleet->poller; }
 
 uint64_t ds_fleet_mark(struct ds_fleet *fleet) {
     if (items_gather(&fleet->items) != DS_FLEET_INSTEP) return 0;
-    telling_mark(fleet);
+    producing_mark(fleet);
     return fleet->items.gathered + 1;
 }
 
 uint64_t ds_fleet_mark_held(struct ds_fleet *fleet) { return ds_fleet_mark(fleet) ? of_look | looking_mark(&fleet->looking) : 0; }
 
 bool ds_fleet_is_told(const struct ds_fleet *fleet, uint64_t mark) {
-    if (mark & of_look) return looking_has_seen(&fleet->looking, mark & ~of_look, fleet->telling.told);
-    return mark && fleet->telling.told + 1 >= mark;
+    if (mark & of_look) return looking_has_seen(&fleet->looking, mark & ~of_look, fleet->producing.acknowledged);
+    return mark && fleet->producing.acknowledged + 1 >= mark;
 }
 
 void ds_fleet_owed(struct ds_fleet *fleet, uint8_t owed[16]) {
@@ -275,7 +275,7 @@ void ds_fleet_state(const struct ds_fleet *fleet, struct ds_fleet_state *state) 
     for (char *byte = state->said; *byte; byte++)
         if (*byte < ' ' || *byte > '~') *byte = '?'; /* a server's newline isn't the end of a line of `state` */
     state->position = fleet->items.position;
-    state->untold = fleet->items.untold.length;
+    state->untold = fleet->items.outbox.length;
     state->unread = fleet->items.unread;
     write_entry_id(state->last, fleet->reading.last);
     memcpy(state->server, fleet->server.run, sizeof state->server);
@@ -310,14 +310,14 @@ static enum ds_fleet_word read_options(struct ds_fleet *fleet, const struct ds_f
     if (!good_name(stream)) return DS_FLEET_BADNAME;
     fleet->stream = strdup(stream);
     fleet->compacting.keep = options->keep > 0 ? options->keep : DS_FLEET_KEEP;
-    fleet->telling.replicas = options->replicas;
-    fleet->telling.within = options->within > 0 ? options->within : DS_FLEET_WITHIN;
+    fleet->producing.replicas = options->replicas;
+    fleet->producing.within = options->within > 0 ? options->within : DS_FLEET_WITHIN;
     return fleet->stream ? read_scope(fleet, options->pattern, options->kinds) : DS_FLEET_NOROOM;
 }
 
-static bool is_watched(struct ds_fleet *fleet, int descriptor, void *ringer) {
-    struct epoll_event event = {.events = EPOLLIN, .data = {.ptr = ringer}};
-    return !epoll_ctl(fleet->bell, EPOLL_CTL_ADD, descriptor, &event);
+static bool is_watched(struct ds_fleet *fleet, int descriptor, void *source) {
+    struct epoll_event event = {.events = EPOLLIN, .data = {.ptr = source}};
+    return !epoll_ctl(fleet->poller, EPOLL_CTL_ADD, descriptor, &event);
 }
 
 /* Names this run, by which it knows its own entries. */
@@ -329,13 +329,13 @@ static bool name_run(struct ds_fleet *fleet) {
     return true;
 }
 
-static enum ds_fleet_word make_bell(struct ds_fleet *fleet) {
+static enum ds_fleet_word make_poller(struct ds_fleet *fleet) {
     struct master *master = &fleet->server.master;
-    fleet->bell = epoll_create1(EPOLL_CLOEXEC);
+    fleet->poller = epoll_create1(EPOLL_CLOEXEC);
     fleet->timer = timerfd_create(CLOCK_MONOTONIC, TFD_NONBLOCK | TFD_CLOEXEC);
-    if (fleet->bell < 0 || fleet->timer < 0 || !is_watched(fleet, fleet->timer, &fleet->timer)) return DS_FLEET_SYSTEM;
-    if (!is_watched(fleet, master->bell, master)) return DS_FLEET_SYSTEM;
-    set_bell(fleet, DS_FLEET_LATE);
+    if (fleet->poller < 0 || fleet->timer < 0 || !is_watched(fleet, fleet->timer, &fleet->timer)) return DS_FLEET_SYSTEM;
+    if (!is_watched(fleet, master->wakeup, master)) return DS_FLEET_SYSTEM;
+    arm_timer(fleet, DS_FLEET_LATE);
     return DS_FLEET_INSTEP;
 }
 
@@ -344,12 +344,12 @@ enum ds_fleet_word ds_fleet_open(struct ds_fleet **fleet, struct ds_handle *stor
     *fleet = NULL;
     if (!made) return DS_FLEET_NOROOM;
     made->items.store = store;
-    made->bell = made->timer = made->server.master.bell = -1;
+    made->poller = made->timer = made->server.master.wakeup = -1;
     made->state.word = DS_FLEET_LATE;
-    comparing_begin_anew(&made->comparing, &(struct stock){.bytes = 0});
+    anti_entropy_begin_anew(&made->anti_entropy, &(struct stock){.bytes = 0});
     enum ds_fleet_word word = name_run(made) ? read_options(made, options) : DS_FLEET_SYSTEM;
     if (word == DS_FLEET_INSTEP) word = items_gather_all(&made->items);
-    if (word == DS_FLEET_INSTEP) word = make_bell(made);
+    if (word == DS_FLEET_INSTEP) word = make_poller(made);
     if (word == DS_FLEET_INSTEP) {
         *fleet = made;
         return word;
@@ -363,7 +363,7 @@ enum ds_fleet_word ds_fleet_open(struct ds_fleet **fleet, struct ds_handle *stor
 void ds_fleet_close(struct ds_fleet *fleet) {
     if (!fleet) return;
     server_close(&fleet->server);
-    if (fleet->bell >= 0) close(fleet->bell);
+    if (fleet->poller >= 0) close(fleet->poller);
     if (fleet->timer >= 0) close(fleet->timer);
     items_close(&fleet->items);
     text_free(&fleet->reading.said);

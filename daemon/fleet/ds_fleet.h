@@ -5,7 +5,7 @@
  * The store behind the handle is proved; this carrier is tested. If no two changes contradict each other, stores that
  * got the same items agree, in whatever order and however often the items arrived.
  *
- * A fleet owns three descriptors (the bell, and two that it watches), two connections, a third one while it asks a
+ * A fleet owns three descriptors (the poller, and two that it watches), two connections, a third one while it asks a
  * Sentinel, the text that the server hasn't acknowledged yet, and a second store, for what this one refuses. While it
  * looks up the host of its URL it has a thread, which takes no signal and only calls getaddrinfo; no call waits for
  * that thread, and it doesn't use the handle. ds_fleet_open copies its arguments, except the handle: the caller keeps
@@ -76,9 +76,9 @@ enum ds_fleet_word ds_fleet_open(struct ds_fleet **fleet, struct ds_handle *stor
 
 /* Tells what is new, and merges what others told. It waits until the store is in step, for at most `patience`
  * milliseconds; with 0 it doesn't wait. A step that waits, and has just told all news, leaves what arrived meanwhile to
- * the next one, for which the bell rings. The first DS_FLEET_INSTEP means that the store has caught up. Serve no client
+ * the next one, which the poller reports. The first DS_FLEET_INSTEP means that the store has caught up. Serve no client
  * before that: a publisher that doesn't see its own earlier versions would use their numbers again. DS_FLEET_BADSCOPE,
- * DS_FLEET_BADNAME and DS_FLEET_CLOSED end the step at once, so pause before the next one. Call it when the bell rings,
+ * DS_FLEET_BADNAME and DS_FLEET_CLOSED end the step at once, so pause before the next one. Call it when the poller is readable,
  * and after each change of the store. */
 enum ds_fleet_word ds_fleet_step(struct ds_fleet *fleet, unsigned patience);
 
@@ -105,8 +105,8 @@ struct ds_fleet_state {
     bool caught_up;                       /* some step has answered DS_FLEET_INSTEP */
     uint64_t position;                    /* the position up to which the store's journal was read */
     char last[DS_FLEET_ID];               /* the last entry of the stream that was read, or 0-0 */
-    uint64_t behind;                      /* how many milliseconds that trails the stream's last entry: looked at each second, while there
-                                             is a server and no older entries are being read */
+    uint64_t behind;                      /* milliseconds by which `last` trails the stream's last entry, measured each second while a server
+                                             is met and no older entries are being read */
     uint64_t untold;                      /* bytes of lines that no server has acknowledged */
     uint64_t entries_told, entries_read;  /* entries of the stream: appended by this fleet; of others, and read by it */
     uint64_t connections, compactions;
@@ -119,7 +119,7 @@ struct ds_fleet_state {
 
 void ds_fleet_state(const struct ds_fleet *fleet, struct ds_fleet_state *state);
 
-/* Ends the connections and frees all memory; the store is unchanged, and open. What is untold isn't told any more: step
+/* Ends the connections and frees all memory; the store is unchanged, and open. The outbox isn't sent any more: step
  * until DS_FLEET_INSTEP first. NULL is allowed. */
 void ds_fleet_close(struct ds_fleet *fleet);
 

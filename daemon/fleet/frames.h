@@ -10,8 +10,8 @@ enum { FRAMES_HEAD = 24 /* bytes of a line that are kept: a type, a length */ };
 
 /* The place in an answer at which the received bytes end. Begins with zeros. */
 struct frames {
-    char head[FRAMES_HEAD]; /* of the line that is being read, */
-    size_t length;          /* and the bytes so far */
+    char head[FRAMES_HEAD]; /* the head of the line that is being read */
+    size_t length;          /* bytes of that line so far */
     size_t left;            /* bytes of a text that are missing */
 };
 

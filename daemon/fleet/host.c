@@ -21,13 +21,13 @@ struct lookup {
     int error;               /* of getaddrinfo */
     unsigned count;
     char address[HOST_ADDRESSES][HOST_TEXT];
-    int bell;                /* the thread's own descriptor of the host's bell */
+    int wakeup;                /* the thread's own descriptor of `wakeup` */
     char name[];
 };
 
 static void release_lookup(struct lookup *lookup) {
     if (atomic_fetch_sub(&lookup->holders, 1) > 1) return;
-    close(lookup->bell);
+    close(lookup->wakeup);
     free(lookup);
 }
 
@@ -51,12 +51,12 @@ static void *look_up(void *given) {
         freeaddrinfo(found);
     }
     atomic_store(&lookup->is_answered, true);
-    eventfd_write(lookup->bell, 1);
+    eventfd_write(lookup->wakeup, 1);
     release_lookup(lookup);
     return NULL;
 }
 
-/* ---- beside the loop ---- */
+/* ---- the look-up's thread ---- */
 
 /* Starts a thread that takes no signals: they are the program's. */
 static bool start_thread(struct lookup *lookup) {
@@ -78,10 +78,10 @@ static bool begin_lookup(struct host *host, uint64_t now) {
     struct lookup *lookup = calloc(1, sizeof *lookup + size);
     if (!lookup) return false;
     memcpy(lookup->name, host->name, size);
-    lookup->bell = fcntl(host->bell, F_DUPFD_CLOEXEC, 0);
+    lookup->wakeup = fcntl(host->wakeup, F_DUPFD_CLOEXEC, 0);
     atomic_store(&lookup->holders, HOLDERS);
-    if (lookup->bell < 0 || !start_thread(lookup)) {
-        if (lookup->bell >= 0) close(lookup->bell);
+    if (lookup->wakeup < 0 || !start_thread(lookup)) {
+        if (lookup->wakeup >= 0) close(lookup->wakeup);
         free(lookup);
         return false;
     }
@@ -128,8 +128,8 @@ static bool is_in_digits(const char *name) {
     return strlen(name) < HOST_TEXT;
 }
 
-void host_open(struct host *host, const char *name, int bell) {
-    *host = (struct host){.bell = bell, .said = ""};
+void host_open(struct host *host, const char *name, int wakeup) {
+    *host = (struct host){.wakeup = wakeup, .said = ""};
     snprintf(host->name, sizeof host->name, "%s", name);
     host->is_address = is_in_digits(host->name);
 }

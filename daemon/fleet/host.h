@@ -19,7 +19,7 @@ struct lookup;
 struct host {
     char name[HOST_NAME];
     bool is_address;         /* the name is an address in digits, and nothing is looked up */
-    int bell;                /* an eventfd of the caller's, which rings when a look-up has ended */
+    int wakeup;              /* an eventfd of the caller's, readable when a look-up has ended */
     struct lookup *lookup;   /* the one that runs, or NULL; there is one at a time */
     uint64_t asked_at;       /* when the look-up began, in milliseconds */
     unsigned turn;           /* which of several addresses is called: the next one after each failure */
@@ -30,12 +30,12 @@ struct host {
 
 enum host_found {
     HOST_FOUND,  /* `address` is to be called */
-    HOST_SOUGHT, /* the name is being looked up: ask again when the bell rings, or after HOST_PATIENCE */
+    HOST_SOUGHT, /* the name is being looked up: ask again when it is readable, or after HOST_PATIENCE */
     HOST_UNKNOWN /* no address is known; `said` says why */
 };
 
 /* Names the host. A longer name than fits is cut. */
-void host_open(struct host *host, const char *name, int bell);
+void host_open(struct host *host, const char *name, int wakeup);
 /* Finds an address to call. A name is looked up for each call. If no name server answers, the address that worked last
  * is called. */
 enum host_found host_find(struct host *host, uint64_t now);

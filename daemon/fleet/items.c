@@ -7,7 +7,7 @@
 
 enum {
     PIECES = 1 << 16, /* bytes of items that are fetched at a time */
-    FOLD_ABOVE = 1 << 23, /* bytes of the untold, or twice all that is held if that is more */
+    FOLD_ABOVE = 1 << 23, /* bytes of the outbox, or twice all that is held if that is more */
     SHOWN = 400,      /* bytes of a line that are logged */
     LOGGED = 512,     /* bytes of a line of the log, with the terminating zero */
     HIGH_HALF = 32    /* bits of a hash */
@@ -98,30 +98,30 @@ void items_forget_noted(struct items *items) {
     text_free(&items->noted);
 }
 
-/* Drops from the untold, from this byte on, the lines that the server has. */
+/* Drops from the outbox, from this byte on, the lines that the server has. */
 static void drop_noted(struct items *items, size_t from) {
-    struct text *untold = &items->untold, *noted = &items->noted;
+    struct text *outbox = &items->outbox, *noted = &items->noted;
     size_t kept = from, count = noted->length / sizeof(uint64_t);
     if (!count) return;
     qsort(noted->bytes, count, sizeof(uint64_t), compare_hashes);
-    for (size_t at = from, line; at < untold->length; at += line) {
-        line = first_lines(untold->bytes + at, untold->length - at, 1);
-        uint64_t hash = hashed(items->seed, untold->bytes + at, line - 1);
+    for (size_t at = from, line; at < outbox->length; at += line) {
+        line = first_lines(outbox->bytes + at, outbox->length - at, 1);
+        uint64_t hash = hashed(items->seed, outbox->bytes + at, line - 1);
         if (bsearch(&hash, noted->bytes, count, sizeof hash, compare_hashes)) continue;
-        memmove(untold->bytes + kept, untold->bytes + at, line);
+        memmove(outbox->bytes + kept, outbox->bytes + at, line);
         kept += line;
     }
-    untold->length = kept;
+    outbox->length = kept;
 }
 
 /* ---- own news ---- */
 
-static enum ds_fleet_word keep_untold(struct items *items, const struct ds_answer *answer) {
-    size_t before = items->untold.length;
-    enum ds_fleet_word word = fetch_items(items->store, answer, &items->untold);
+static enum ds_fleet_word keep_outbox(struct items *items, const struct ds_answer *answer) {
+    size_t before = items->outbox.length;
+    enum ds_fleet_word word = fetch_items(items->store, answer, &items->outbox);
     if (word != DS_FLEET_INSTEP) return word;
     if (answer->word == DS_SNAPPED) drop_noted(items, before);
-    items->gathered += items->untold.length - before;
+    items->gathered += items->outbox.length - before;
     items->incarnation = answer->before;
     items->position = answer->after;
     return DS_FLEET_INSTEP;
@@ -131,7 +131,7 @@ enum ds_fleet_word items_gather_all(struct items *items) {
     struct ds_answer answer;
     enum ds_fleet_word word = ask_store(items, items->store, DS_SNAPSHOT, &answer);
     if (word != DS_FLEET_INSTEP) return word;
-    return answer.word == DS_SNAPPED ? keep_untold(items, &answer) : DS_FLEET_BADSCOPE;
+    return answer.word == DS_SNAPPED ? keep_outbox(items, &answer) : DS_FLEET_BADSCOPE;
 }
 
 enum ds_fleet_word items_gather(struct items *items) {
@@ -141,32 +141,32 @@ enum ds_fleet_word items_gather(struct items *items) {
         if (word != DS_FLEET_INSTEP) return word;
         /* Otherwise the position is older than the ring, or another store's. */
         if (answer.word != DS_JOURNALED) return items_gather_all(items);
-        if ((word = keep_untold(items, &answer)) != DS_FLEET_INSTEP || answer.pieces < ITEMS_MOST) return word;
+        if ((word = keep_outbox(items, &answer)) != DS_FLEET_INSTEP || answer.pieces < ITEMS_MOST) return word;
     }
 }
 
 bool items_should_fold(const struct items *items) {
-    return items->untold.length > (items->fold_above > FOLD_ABOVE ? items->fold_above : FOLD_ABOVE);
+    return items->outbox.length > (items->fold_above > FOLD_ABOVE ? items->fold_above : FOLD_ABOVE);
 }
 
-/* If the server is known to have all that is held, nothing is gained, and the untold stays. */
+/* If the server is known to have all that is held, nothing is gained, and the outbox stays. */
 enum ds_fleet_word items_fold(struct items *items) {
-    struct text before = items->untold;
-    items->untold = (struct text){0};
+    struct text before = items->outbox;
+    items->outbox = (struct text){0};
     enum ds_fleet_word word = items_gather_all(items);
-    bool is_folded = word == DS_FLEET_INSTEP && items->untold.length;
+    bool is_folded = word == DS_FLEET_INSTEP && items->outbox.length;
     if (is_folded) {
         items->folded += before.length;
-        items->folded_by = items->untold.length;
+        items->folded_by = items->outbox.length;
     }
-    text_free(is_folded ? &before : &items->untold);
-    if (!is_folded) items->untold = before;
-    items->fold_above = 2 * items->untold.length;
+    text_free(is_folded ? &before : &items->outbox);
+    if (!is_folded) items->outbox = before;
+    items->fold_above = 2 * items->outbox.length;
     return word;
 }
 
-uint64_t items_drop_told(struct items *items, size_t length, unsigned marks) {
-    text_drop(&items->untold, length);
+uint64_t items_drop_acknowledged(struct items *items, size_t length, unsigned marks) {
+    text_drop(&items->outbox, length);
     items->folded += length + marks;
     if (length < items->folded_by) {
         items->folded_by -= length;
@@ -228,13 +228,13 @@ void items_begin_anew(struct items *items, bool notes) {
 }
 
 /* Keeps a refused line in the second store, where a newer one of the same key replaces the line. */
-static enum ds_fleet_word set_aside(struct items *items, const char *entry, const char *line, size_t length, uint32_t refusal) {
+static enum ds_fleet_word keep_dead_letter(struct items *items, const char *entry, const char *line, size_t length, uint32_t refusal) {
     struct ds_request request = {.command = DS_MERGE, .text_length = length};
     struct ds_answer answer;
     /* Nobody reads the journal of the second store, so the journal is the shortest. */
-    if (!items->has_aside && ds_open(&items->aside[items->here], 1, 0, 1)) return DS_FLEET_NOROOM;
-    items->has_aside = true;
-    if (ds_call(&items->aside[items->here], &request, line, length, &answer)) return DS_FLEET_CLOSED;
+    if (!items->has_dead_letters && ds_open(&items->dead_letters[items->here], 1, 0, 1)) return DS_FLEET_NOROOM;
+    items->has_dead_letters = true;
+    if (ds_call(&items->dead_letters[items->here], &request, line, length, &answer)) return DS_FLEET_CLOSED;
     if (answer.refusal == DS_NOROOM) return DS_FLEET_NOROOM;
     log_refusal(items, entry, line, length, refusal);
     /* Whatever the refusal, as of a third owner of a key, no store here has the line. */
@@ -255,24 +255,24 @@ static void forget_refused(struct items *items) {
 /* Merges the refused lines again. A new second store takes those that are refused again. */
 static enum ds_fleet_word offered_again(struct items *items, const struct text *lines) {
     items->here = !items->here;
-    items->has_aside = false;
+    items->has_dead_letters = false;
     forget_refused(items);
     enum ds_fleet_word word = items_take(items, NULL, lines->bytes, lines->length);
     if (word != DS_FLEET_INSTEP) {
         items->here = !items->here;
-        items->has_aside = items->news = true;
+        items->has_dead_letters = items->news = true;
     }
-    ds_close(&items->aside[!items->here]);
+    ds_close(&items->dead_letters[!items->here]);
     return word;
 }
 
 enum ds_fleet_word items_retry(struct items *items) {
     struct text lines = {0};
     struct ds_answer answer;
-    if (!items->has_aside || (!items->news && items->tried == items->position)) return DS_FLEET_INSTEP;
-    struct ds_handle *aside = &items->aside[items->here];
-    enum ds_fleet_word word = ask_store(items, aside, DS_SNAPSHOT, &answer);
-    if (word == DS_FLEET_INSTEP) word = fetch_items(aside, &answer, &lines);
+    if (!items->has_dead_letters || (!items->news && items->tried == items->position)) return DS_FLEET_INSTEP;
+    struct ds_handle *dead_letters = &items->dead_letters[items->here];
+    enum ds_fleet_word word = ask_store(items, dead_letters, DS_SNAPSHOT, &answer);
+    if (word == DS_FLEET_INSTEP) word = fetch_items(dead_letters, &answer, &lines);
     if (word == DS_FLEET_INSTEP) word = offered_again(items, &lines);
     if (word == DS_FLEET_INSTEP) {
         items->news = false;
@@ -310,7 +310,7 @@ static enum ds_fleet_word merge_lines(struct items *items, const char *entry, co
     if (answer.word == DS_MERGED) return DS_FLEET_INSTEP;
     if (answer.refusal == DS_NOROOM) return DS_FLEET_NOROOM;
     size_t refused = first_lines(lines + *done, length - *done, 1);
-    enum ds_fleet_word word = set_aside(items, entry, lines + *done, refused, answer.refusal);
+    enum ds_fleet_word word = keep_dead_letter(items, entry, lines + *done, refused, answer.refusal);
     *done += word == DS_FLEET_INSTEP ? refused : 0;
     return word;
 }
@@ -351,23 +351,23 @@ static enum ds_fleet_word put_all(struct items *items, struct ds_handle *store, 
     return word == DS_FLEET_INSTEP ? fetch_items(store, &answer, to) : word;
 }
 
-static enum ds_fleet_word put_aside(struct items *items, struct text *to) {
-    return items->has_aside ? put_all(items, &items->aside[items->here], to) : DS_FLEET_INSTEP;
+static enum ds_fleet_word put_dead_letters(struct items *items, struct text *to) {
+    return items->has_dead_letters ? put_all(items, &items->dead_letters[items->here], to) : DS_FLEET_INSTEP;
 }
 
 enum ds_fleet_word items_all(struct items *items, struct text *to) {
     enum ds_fleet_word word = put_all(items, items->store, to);
-    return word == DS_FLEET_INSTEP ? put_aside(items, to) : word;
+    return word == DS_FLEET_INSTEP ? put_dead_letters(items, to) : word;
 }
 
 /* If the second store's can't be put, the next call puts all of it again. */
 enum ds_fleet_word items_gather_owed(struct items *items) {
     enum ds_fleet_word word = items_gather_all(items);
-    size_t before = items->untold.length;
-    if (word == DS_FLEET_INSTEP) word = put_aside(items, &items->untold);
+    size_t before = items->outbox.length;
+    if (word == DS_FLEET_INSTEP) word = put_dead_letters(items, &items->outbox);
     if (word != DS_FLEET_INSTEP) return word;
     drop_noted(items, before);
-    items->gathered += items->untold.length - before;
+    items->gathered += items->outbox.length - before;
     items_forget_noted(items);
     return word;
 }
@@ -389,8 +389,8 @@ enum ds_fleet_word items_digest(struct items *items, const char *entry, unsigned
 }
 
 void items_close(struct items *items) {
-    if (items->has_aside) ds_close(&items->aside[items->here]);
+    if (items->has_dead_letters) ds_close(&items->dead_letters[items->here]);
     text_free(&items->scope);
-    text_free(&items->untold);
+    text_free(&items->outbox);
     text_free(&items->noted);
 }

@@ -14,21 +14,21 @@ enum {
 
 struct items {
     struct ds_handle *store;
-    struct ds_handle aside[2];      /* aside[here] is a second store: the newest items that this one refuses */
+    struct ds_handle dead_letters[2];      /* dead_letters[here] is a second store: the newest items that this one refuses */
     unsigned here;
-    bool has_aside;                 /* the store is open */
+    bool has_dead_letters;          /* the store is open */
     struct text scope;              /* the pattern */
     uint8_t kinds;                  /* 0: everything */
     uint64_t incarnation, position; /* how far the journal was read */
-    uint64_t merges;                /* of others' items, or of items that were refused */
-    struct text untold;             /* the lines of changes that took effect, until a server has acknowledged them */
-    uint64_t gathered;              /* bytes that untold ever got, and marks that wait for a write */
-    size_t fold_above;              /* bytes of untold above which items_fold is worth the work, if these are more than FOLD_ABOVE of items.c */
-    uint64_t folded;                /* bytes that left untold, and count as told only once a server has the first */
+    uint64_t merges;                /* how many items of others were merged or refused */
+    struct text outbox;             /* the lines of changes that took effect, until a server has acknowledged them */
+    uint64_t gathered;              /* bytes that the outbox ever got, and marks that wait for a write */
+    size_t fold_above;              /* bytes of the outbox above which items_fold is worth the work, if these are more than FOLD_ABOVE of items.c */
+    uint64_t folded;                /* bytes that left the outbox, acknowledged only once a server has the first */
     size_t folded_by;               /* bytes that are left */
     bool notes;                     /* while all is read, the server's lines are noted, so that only lines that the server lacks go there again: */
-    struct text noted;              /* hashes of lines, */
-    uint64_t seed;                  /* with a seed of this run, so that a publisher can't choose two lines of one hash */
+    struct text noted;              /* hashes of the noted lines */
+    uint64_t seed;                  /* the seed of the hashes, drawn at each run: a publisher can't choose two lines of one hash */
     bool news;                      /* something is refused since items_retry */
     uint64_t tried;                 /* the store's position then */
     uint64_t unread;
@@ -45,20 +45,20 @@ struct items {
 /* These return INSTEP when done, else CLOSED, NOROOM, or items_gather_all BADSCOPE, and then may be called
  * again. */
 
-/* Appends the changes that took effect since the last call to the untold. */
+/* Appends the changes that took effect since the last call to the outbox. */
 enum ds_fleet_word items_gather(struct items *items);
-/* Appends all that is held to the untold, but for noted lines, and continues from the store's end. */
+/* Appends all that is held to the outbox, but for noted lines, and continues from the store's end. */
 enum ds_fleet_word items_gather_all(struct items *items);
-/* Appends all held and all refused lines to the untold, but for noted lines. The notes are forgotten then: the
+/* Appends all held and all refused lines to the outbox, but for noted lines. The notes are forgotten then: the
  * server may lack any of these lines. */
 enum ds_fleet_word items_gather_owed(struct items *items);
-/* Whether the untold is so long that a fold is worth the work, as after hours without a server. */
+/* Whether the outbox is so long that a fold is worth the work, as after hours without a server. */
 bool items_should_fold(const struct items *items);
-/* Puts all that is held in place of the untold: of the changes of one key, only the last is left. */
+/* Puts all that is held in place of the outbox: of the changes of one key, only the last is left. */
 enum ds_fleet_word items_fold(struct items *items);
-/* Drops bytes from the front of the untold, since a server has them. Returns how many of the gathered bytes count as told by that. Marks
+/* Drops bytes from the front of the outbox, since a server has them. Returns how many of the gathered bytes are acknowledged by that. Marks
  * of the same round are counted as bytes. */
-uint64_t items_drop_told(struct items *items, size_t length, unsigned marks);
+uint64_t items_drop_acknowledged(struct items *items, size_t length, unsigned marks);
 /* Merges lines of an entry, whose id is for the log of refused lines. Own news is gathered first: later changes in the journal
  * are then merged ones, and aren't sent again. A refused line ends nothing. */
 enum ds_fleet_word items_take(struct items *items, const char *entry, const char *lines, size_t length);

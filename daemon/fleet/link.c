@@ -97,7 +97,7 @@ bool link_open(struct link *link, const struct link_call *call, uint64_t now) {
         link_close(link);
         return false;
     }
-    link->heard = now;
+    link->active_at = now;
     link->watched = 0;
     link->frames = (struct frames){.length = 0};
     greet(link, call);
@@ -210,7 +210,7 @@ static bool write_some(struct link *link, uint64_t now) {
         size_t done;
         word = send_bytes(link, &done);
         text_drop(&link->out, done);
-        if (done) link->heard = now;
+        if (done) link->active_at = now;
     }
     link->writes = word != IO_DONE;
     link->reads_first = word == IO_READS_FIRST;
@@ -228,7 +228,7 @@ static bool read_bytes(struct link *link, uint64_t now) {
         link->writes |= word == IO_WRITES_FIRST;
         if (word == IO_WRITES_FIRST) return true;
         if (!done) continue;
-        link->heard = now;
+        link->active_at = now;
         link->received += done;
         if (!frames_take(&link->frames, bytes, done)) return link_failed(link, "the server answers more than was asked for");
         if (redisReaderFeed(link->reader, bytes, done) != REDIS_OK) return link_failed(link, link->reader->errstr);
@@ -250,7 +250,7 @@ static bool read_some(struct link *link, uint64_t now) {
 static bool is_silent(struct link *link, uint64_t now) {
     uint64_t limit = link->blocks + LINK_SILENCE;
     bool is_late = link->begun && now > link->begun + limit + link->received / LINK_SLOWEST;
-    if (now <= link->heard + limit && !is_late) return false;
+    if (now <= link->active_at + limit && !is_late) return false;
     link_failed(link, is_late && link->received ? "the server answers too slowly" : "the server answers nothing");
     return true;
 }
@@ -262,7 +262,7 @@ enum link_state link_turn(struct link *link, uint64_t now) {
         return LINK_LOST;
     }
     if (!link->asked) {
-        link->heard = now;
+        link->active_at = now;
         return LINK_IDLE;
     }
     if (!link->begun && !link->writes) link->begun = now;

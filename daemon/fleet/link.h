@@ -23,8 +23,8 @@ enum {
 /* How a server is called. */
 struct link_call {
     const char *path;                   /* the path of a socket; NULL: */
-    const char *host;                   /* the address in digits, */
-    int port;                           /* and the port */
+    const char *host;                   /* the address in digits */
+    int port;                           /* the port of the address */
     const struct tls_files *tls;        /* NULL: without TLS */
     const char *server;                 /* with TLS: the name in the server's certificate */
     const char *user, *password, *name; /* NULL: there is none. name: of the connection, in CLIENT LIST */
@@ -35,19 +35,19 @@ struct link_call {
 struct link {
     struct redisReader *reader;            /* NULL: there is no connection */
     int socket;
-    struct ssl_st *session;                /* of TLS, or NULL */
+    struct ssl_st *session;                /* the session of TLS, or NULL */
     struct text out;                       /* questions that aren't sent yet */
     struct redisReply *answers[LINK_MOST]; /* those of this round that came */
     unsigned asked, came, greetings;       /* greetings: how many answers come before this round's */
     bool names;                            /* the last greeting is the connection's name */
     bool writes;                           /* not all that was asked could be sent yet */
     bool reads_first;                      /* while TLS begins: nothing can be sent before more arrives */
-    bool quiet;                            /* everything received is read; the bell clears this flag when more arrives */
-    struct frames frames;                  /* of the received bytes */
+    bool quiet;                            /* everything received is read; the poller clears this flag when more arrives */
+    struct frames frames;                  /* the lengths that the received bytes announce */
     uint64_t begun;                        /* when all of this round had been sent, in milliseconds; 0: not yet */
     size_t received;                       /* bytes of this round */
-    uint64_t heard;                        /* when bytes were last sent or received, or nothing was asked, in milliseconds */
-    uint32_t watched;                      /* the events that the bell watches the socket for; 0: none yet */
+    uint64_t active_at;                    /* when bytes were last sent or received, or nothing was asked, in milliseconds */
+    uint32_t watched;                      /* the events that the poller watches the socket for; 0: none yet */
     unsigned blocks;                       /* milliseconds for which the server may hold this round back before the answer */
     char said[LINK_WORDS];                 /* why the connection went, or the error of a greeting */
 };

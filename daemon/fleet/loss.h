@@ -15,7 +15,7 @@ struct stock {
     struct entry_id snapshot;  /* the entry up to which the snapshot goes; 0-0: there is none, or none of such an entry */
     struct entry_id generated; /* the last id that the stream gave to an entry */
     struct entry_id newest;    /* the last entry in the stream */
-    long long bytes;           /* of the snapshot */
+    long long bytes;           /* the size of the snapshot */
     long long added, gone;     /* entries that were ever added; those that went otherwise than into the snapshot */
 };
 

@@ -95,7 +95,7 @@ static bool read_address(struct master *master, char *text, int port) {
         *colon = '\0';
     }
     struct address *address = &master->listed[master->count++];
-    host_open(&address->host, text, master->bell);
+    host_open(&address->host, text, master->wakeup);
     address->port = port;
     return *text && port > 0;
 }
@@ -171,8 +171,8 @@ static enum ds_fleet_word read_url(struct master *master, const struct ds_fleet_
 enum ds_fleet_word master_open(struct master *master, const struct ds_fleet_options *options) {
     const char *password = options->password;
     if (!options->url || (password && strlen(password) > MOST_PASSWORD)) return DS_FLEET_BADURL;
-    master->bell = eventfd(0, EFD_NONBLOCK | EFD_CLOEXEC);
-    if (master->bell < 0) return DS_FLEET_SYSTEM;
+    master->wakeup = eventfd(0, EFD_NONBLOCK | EFD_CLOEXEC);
+    if (master->wakeup < 0) return DS_FLEET_SYSTEM;
     enum ds_fleet_word word = read_url(master, options);
     if (word != DS_FLEET_INSTEP) return word;
     if (!copy_text(&master->password, password)) return DS_FLEET_NOROOM;
@@ -202,7 +202,7 @@ static void name_master(struct master *master, const char *host, int port) {
     struct address *named = &master->named;
     if (strncmp(named->host.name, host, HOST_NAME - 1)) { /* the same host keeps its last address */
         host_close(&named->host);
-        host_open(&named->host, host, master->bell);
+        host_open(&named->host, host, master->wakeup);
     }
     named->port = port;
     master->state = MASTER_NAMED;
@@ -243,7 +243,7 @@ enum host_found master_find(struct master *master, uint64_t now) {
 
 void master_hear(struct master *master) {
     eventfd_t rung;
-    eventfd_read(master->bell, &rung);
+    eventfd_read(master->wakeup, &rung);
 }
 
 static struct host *host_in_use(struct master *master) {
@@ -277,7 +277,7 @@ void master_close(struct master *master) {
     for (size_t i = 0; i < master->count; i++) host_close(&master->listed[i].host);
     host_close(&master->named.host);
     link_close(&master->sentinel);
-    if (master->bell >= 0) close(master->bell);
+    if (master->wakeup >= 0) close(master->wakeup);
     free(master->url);
     free(master->password);
     free(master->ca);

@@ -13,14 +13,14 @@ enum master_state { MASTER_LISTED, MASTER_ASKED, MASTER_NAMED };
 
 struct address { struct host host; int port; };
 
-/* Begins with zeros, but for the bell. */
+/* Begins with zeros, but for `wakeup`. */
 struct master {
     enum master_state state;
     struct address listed[MASTER_ADDRESSES]; /* servers to be tried in order, or Sentinels; */
     size_t count, turn;                      /* how many, and which of them is due */
-    struct address named;                    /* in NAMED */
-    struct link sentinel;                    /* in ASKED */
-    int bell;                                /* an eventfd, which rings when a look-up has ended; -1: there is none */
+    struct address named;                    /* the address that a Sentinel named; in NAMED */
+    struct link sentinel;                    /* the connection to a Sentinel; in ASKED */
+    int wakeup;                              /* an eventfd, readable when a look-up has ended; -1: there is none */
     struct link_call call;                   /* once found: the address and port */
     char *url, *password;                    /* copies, into which `call` and `known_as` point */
     char *ca, *certificate, *key;            /* and of the files' names, into which `files` points */
@@ -36,10 +36,10 @@ struct master {
  * files of the options, too. Returns INSTEP, BADURL, NOTLS, BADTLS and then `said` says why, NOROOM, or SYSTEM, and
  * then errno says why. In each case it is ended by master_close. */
 enum ds_fleet_word master_open(struct master *master, const struct ds_fleet_options *options);
-/* Finds where to call, without waiting. HOST_SOUGHT: call again when the bell or the Sentinel's connection rings, or
+/* Finds where to call, without waiting. HOST_SOUGHT: call again when `wakeup` or the Sentinel's connection is readable, or
  * after HOST_PATIENCE. */
 enum host_found master_find(struct master *master, uint64_t now);
-/* Silences the bell. */
+/* Empties `wakeup`. */
 void master_hear(struct master *master);
 /* A master was met there, or wasn't. */
 void master_worked(struct master *master);

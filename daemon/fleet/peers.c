@@ -7,8 +7,8 @@
 #include <string.h>
 
 enum {
-    DIFFERS = 2,    /* comparings in which two differ before it counts: one may just have taken what it refused before */
-    DEAD = 2,       /* comparings without news of a peer before it no longer counts, */
+    DIFFERS = 2,    /* rounds in which two differ before it counts: one may just have taken what it refused before */
+    DEAD = 2,       /* rounds without news of a peer before it no longer counts, */
     BURIED = 60,    /* and before its digest is deleted */
     HEX_DIGITS = 16 /* of a digest */
 };

@@ -18,18 +18,18 @@ enum {
 
 struct digest {
     struct entry_id at;
-    unsigned long long mark; /* of the entry; 0: it was taken by the entry's id */
+    unsigned long long mark; /* the watermark of the entry; 0: the digest was taken by the entry's id */
     unsigned long long value;
 };
 
 /* Another bridge. */
 struct peer {
     char id[PEER_ID];
-    unsigned long long beat; /* which rises with each comparing of its own */
-    unsigned still;          /* comparings since it last rose */
+    unsigned long long beat; /* a number that rises with each round of the peer's own */
+    unsigned still;          /* rounds since the peer's beat last rose */
     unsigned differs;        /* digests at the same entry that differed, without one between that didn't */
-    bool there;              /* it is in the answer that is being read, */
-    struct digest newest;    /* and has this digest */
+    bool there;              /* whether the answer that is being read has the peer */
+    struct digest newest;    /* the peer's digest in that answer */
 };
 
 struct peers {

@@ -28,16 +28,16 @@ enum { STREAM_NAME, STREAM_ENTRIES, STREAM_PARTS };
 
 /* The snapshot is fetched after the entries, so that no entry that the snapshot replaced meanwhile is missed. */
 void reading_ask(struct ds_fleet *fleet) {
-    struct link *listener = &fleet->server.listener;
+    struct link *consumer = &fleet->server.consumer;
     char last[DS_FLEET_ID];
     write_entry_id(last, fleet->reading.last);
-    listener->blocks = fleet->reading.state == READING_END ? BLOCKS : 0;
-    if (listener->blocks) {
-        link_ask(listener, "XREAD COUNT %d BLOCK %d STREAMS %s:items %s", ENTRIES, BLOCKS, fleet->stream, last);
+    consumer->blocks = fleet->reading.state == READING_END ? BLOCKS : 0;
+    if (consumer->blocks) {
+        link_ask(consumer, "XREAD COUNT %d BLOCK %d STREAMS %s:items %s", ENTRIES, BLOCKS, fleet->stream, last);
     } else {
-        link_ask(listener, "XREAD COUNT %d STREAMS %s:items %s", ENTRIES, fleet->stream, last);
+        link_ask(consumer, "XREAD COUNT %d STREAMS %s:items %s", ENTRIES, fleet->stream, last);
     }
-    link_ask(listener, "HGET %s:snapshot at", fleet->stream);
+    link_ask(consumer, "HGET %s:snapshot at", fleet->stream);
 }
 
 /* The mark that an answer is, or 0. */
@@ -50,7 +50,7 @@ static enum ds_fleet_word take_entry(struct ds_fleet *fleet, const redisReply *e
     struct reading *reading = &fleet->reading;
     const redisReply *name = is_list_of(entry, ENTRY_PARTS) ? entry->element[ENTRY_ID] : NULL;
     struct entry_id id;
-    if (!is_text(name) || !read_entry_id(name->str, &id)) return server_puzzles(fleet, "no entry of a stream");
+    if (!is_text(name) || !read_entry_id(name->str, &id)) return server_protocol_error(fleet, "no entry of a stream");
     const redisReply *fields = entry->element[ENTRY_FIELDS], *from = field_of(fields, "from"), *lines = field_of(fields, "items");
     enum ds_fleet_word word = DS_FLEET_INSTEP;
     bool is_own = is_text(from) && !strcmp(from->str, fleet->me);
@@ -58,7 +58,7 @@ static enum ds_fleet_word take_entry(struct ds_fleet *fleet, const redisReply *e
         items_unread_entry(&fleet->items, name->str);
     } else if (is_own) {
         items_note(&fleet->items, lines->str, lines->len);
-        if (fleet->server.round) fleet->server.teller.quiet = false; /* the server answers the teller right after this */
+        if (fleet->server.round) fleet->server.producer.quiet = false; /* the server answers the producer right after this */
     } else {
         word = items_take(&fleet->items, name->str, lines->str, lines->len);
         fleet->state.entries_read++;
@@ -68,7 +68,7 @@ static enum ds_fleet_word take_entry(struct ds_fleet *fleet, const redisReply *e
     text_drop(&reading->said, reading->said.length);
     trail_add(&reading->trail, id);
     unsigned long long mark = mark_of(field_of(fields, "mark"));
-    if (mark) comparing_read(fleet, mark, is_own);
+    if (mark) anti_entropy_read(fleet, mark, is_own);
     return word;
 }
 
@@ -86,7 +86,7 @@ static void keep_said(struct reading *reading, const redisReply *entry) {
 
 enum ds_fleet_word reading_answered(struct ds_fleet *fleet) {
     struct reading *reading = &fleet->reading;
-    struct redisReply **answers = fleet->server.listener.answers;
+    struct redisReply **answers = fleet->server.consumer.answers;
     const redisReply *streams = answers[READING_STREAMS], *at = answers[READING_AT];
     const redisReply *error = error_of(answers, READING_QUESTIONS);
     reading->state = READING_BEHIND;
@@ -109,8 +109,8 @@ enum ds_fleet_word reading_answered(struct ds_fleet *fleet) {
 static bool is_fetching_due(const struct ds_fleet *fleet) { return fleet->reading.state == READING_GAP; }
 
 static enum ds_fleet_word ask_for_snapshot(struct ds_fleet *fleet) {
-    link_ask(&fleet->server.teller, "XINFO STREAM %s:items", fleet->stream);
-    link_ask(&fleet->server.teller, "HMGET %s:snapshot at items", fleet->stream);
+    link_ask(&fleet->server.producer, "XINFO STREAM %s:items", fleet->stream);
+    link_ask(&fleet->server.producer, "HMGET %s:snapshot at items", fleet->stream);
     return DS_FLEET_INSTEP;
 }
 
@@ -118,8 +118,8 @@ static enum ds_fleet_word ask_for_snapshot(struct ds_fleet *fleet) {
  * then. */
 static enum ds_fleet_word snapshot_fetched(struct ds_fleet *fleet) {
     struct reading *reading = &fleet->reading;
-    struct entry_id generated = id_of(field_of(fleet->server.teller.answers[FETCHING_STREAM], "last-generated-id"));
-    const redisReply *snapshot = fleet->server.teller.answers[FETCHING_SNAPSHOT];
+    struct entry_id generated = id_of(field_of(fleet->server.producer.answers[FETCHING_STREAM], "last-generated-id"));
+    const redisReply *snapshot = fleet->server.producer.answers[FETCHING_SNAPSHOT];
     if (is_error(snapshot)) return server_denied(fleet, snapshot);
     bool is_snapshot = is_list_of(snapshot, FETCHED_FIELDS);
     const redisReply *at = is_snapshot ? snapshot->element[FETCHED_AT] : NULL;

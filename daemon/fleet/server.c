@@ -9,7 +9,7 @@
  *   CALLED      | .. with another scope              | AWAY: badscope
  *   CALLED      | .. by a cluster, keys on many nodes| AWAY: badname
  *   CALLED      | .. by a replica, others are listed | AWAY: denied
- *   MET         | the listener is at another server  | AWAY
+ *   MET         | the consumer is at another server  | AWAY
  *   MET         | a loss, or all is read once more   | CALLED: both connections are made anew
  *   CALLED, MET | an error                           | unchanged: denied, asked again after PATIENCE
  *   CALLED, MET | an error of a demoted server       | AWAY: denied
@@ -29,7 +29,7 @@ enum {
 
 static const char unnamed[] = "unknown"; /* the run of a server that names none */
 
-bool server_is_connected(const struct server *server) { return link_is_open(&server->teller) && link_is_open(&server->listener); }
+bool server_is_connected(const struct server *server) { return link_is_open(&server->producer) && link_is_open(&server->consumer); }
 
 const char *server_run(const struct server *server) { return strcmp(server->run, unnamed) ? server->run : ""; }
 
@@ -51,8 +51,8 @@ static void lengthen_pause(struct server *server) {
 /* Questions without an answer are sent again to the next server. */
 static void cut_rounds(struct ds_fleet *fleet) {
     fleet->server.round = NULL;
-    telling_cut(&fleet->telling);
-    comparing_unmark(fleet);
+    producing_cut(&fleet->producing);
+    anti_entropy_unmark(fleet);
     reading_cut(&fleet->reading);
     fleet->compacting.state = COMPACTING_RESTS;
 }
@@ -65,8 +65,8 @@ enum ds_fleet_word server_hang_up(struct ds_fleet *fleet, enum ds_fleet_word wor
         server->logs_meeting = true;
     }
     keep_said(fleet, why);
-    link_close(&server->teller);
-    link_close(&server->listener);
+    link_close(&server->producer);
+    link_close(&server->consumer);
     master_failed(&server->master);
     server->state = SERVER_AWAY;
     server->parted = word;
@@ -77,7 +77,7 @@ enum ds_fleet_word server_hang_up(struct ds_fleet *fleet, enum ds_fleet_word wor
 
 enum ds_fleet_word server_went(struct ds_fleet *fleet, const char *why) { return server_hang_up(fleet, DS_FLEET_AWAY, why); }
 
-enum ds_fleet_word server_puzzles(struct ds_fleet *fleet, const char *why) {
+enum ds_fleet_word server_protocol_error(struct ds_fleet *fleet, const char *why) {
     if (strcmp(fleet->state.said, why)) items_say(&fleet->items, "denied: %s", why);
     keep_said(fleet, why);
     fleet->server.ask_at = clock_now() + PATIENCE;
@@ -108,7 +108,7 @@ enum ds_fleet_word server_denied(struct ds_fleet *fleet, const redisReply *error
     char why[DS_FLEET_SAID];
     if (is_error_of(error, "MOVED ")) return follow_move(fleet, error->str);
     snprintf(why, sizeof why, "%.160s", error->str);
-    return is_demoted(error) ? server_hang_up(fleet, DS_FLEET_DENIED, why) : server_puzzles(fleet, why);
+    return is_demoted(error) ? server_hang_up(fleet, DS_FLEET_DENIED, why) : server_protocol_error(fleet, why);
 }
 
 /* ---- a server is called ---- */
@@ -117,16 +117,16 @@ enum ds_fleet_word server_call(struct ds_fleet *fleet) {
     struct server *server = &fleet->server;
     uint64_t time = clock_now();
     if (server_is_connected(server)) return DS_FLEET_INSTEP;
-    const struct link *lost = link_is_open(&server->teller) ? &server->listener : &server->teller;
+    const struct link *lost = link_is_open(&server->producer) ? &server->consumer : &server->producer;
     if (server->state != SERVER_AWAY) return server_went(fleet, lost->said);
     if (time < server->call_at) return server->parted;
     switch (master_find(&server->master, time)) {
     case HOST_FOUND: break;
     case HOST_UNKNOWN: return server_went(fleet, server->master.said);
-    case HOST_SOUGHT: server->call_at = time + HOST_PATIENCE; return server->parted; /* or when a bell rings */
+    case HOST_SOUGHT: server->call_at = time + HOST_PATIENCE; return server->parted; /* or when `wakeup` is readable */
     }
-    if (!link_open(&server->teller, &server->master.call, time)) return server_went(fleet, server->teller.said);
-    if (!link_open(&server->listener, &server->master.call, time)) return server_went(fleet, server->listener.said);
+    if (!link_open(&server->producer, &server->master.call, time)) return server_went(fleet, server->producer.said);
+    if (!link_open(&server->consumer, &server->master.call, time)) return server_went(fleet, server->consumer.said);
     server->state = SERVER_CALLED;
     return DS_FLEET_INSTEP;
 }
@@ -136,16 +136,16 @@ enum ds_fleet_word server_call_again(struct ds_fleet *fleet) {
     uint64_t time = clock_now();
     server->state = SERVER_CALLED;
     cut_rounds(fleet);
-    bool is_open = link_open(&server->teller, &server->master.call, time) && link_open(&server->listener, &server->master.call, time);
-    const struct link *lost = link_is_open(&server->teller) ? &server->listener : &server->teller;
+    bool is_open = link_open(&server->producer, &server->master.call, time) && link_open(&server->consumer, &server->master.call, time);
+    const struct link *lost = link_is_open(&server->producer) ? &server->consumer : &server->producer;
     return is_open ? DS_FLEET_LATE : server_went(fleet, lost->said);
 }
 
-void server_ask_listener(struct server *server) { link_ask(&server->listener, "INFO"); }
+void server_ask_consumer(struct server *server) { link_ask(&server->consumer, "INFO"); }
 
-enum ds_fleet_word server_hear_listener(struct ds_fleet *fleet) {
+enum ds_fleet_word server_hear_consumer(struct ds_fleet *fleet) {
     struct server *server = &fleet->server;
-    const redisReply *info = server->listener.answers[0];
+    const redisReply *info = server->consumer.answers[0];
     char run[DS_FLEET_ID], history[DS_FLEET_ID];
     if (is_error(info)) return server_denied(fleet, info);
     copy_hex_of(info, "run_id:", run);
@@ -166,12 +166,12 @@ enum {
 static bool is_meeting_due(const struct ds_fleet *fleet) { return fleet->server.state != SERVER_MET; }
 
 static enum ds_fleet_word ask_to_meet(struct ds_fleet *fleet) {
-    struct link *teller = &fleet->server.teller;
-    link_ask(teller, "INFO");
-    link_ask(teller, "HSETNX %s:snapshot scope %s", fleet->stream, fleet->scope);
-    link_ask(teller, "MULTI");
-    look_ask(teller, fleet->stream);
-    link_ask(teller, "EXEC");
+    struct link *producer = &fleet->server.producer;
+    link_ask(producer, "INFO");
+    link_ask(producer, "HSETNX %s:snapshot scope %s", fleet->stream, fleet->scope);
+    link_ask(producer, "MULTI");
+    look_ask(producer, fleet->stream);
+    link_ask(producer, "EXEC");
     return DS_FLEET_INSTEP;
 }
 
@@ -192,7 +192,7 @@ static bool note_server(struct ds_fleet *fleet, const redisReply *info) {
     bool is_another = server_changed_history(server, info) || !*run || strcmp(run, server->run);
     if (!is_another) return false;
     server->logs_meeting = true;
-    fleet->telling.owes_all |= *server->run != '\0'; /* the first one gets only the untold */
+    fleet->producing.owes_all |= *server->run != '\0'; /* the first one gets only the outbox */
     snprintf(server->run, sizeof server->run, "%s", *run ? run : unnamed);
     return true;
 }
@@ -222,7 +222,7 @@ static void log_meeting(struct ds_fleet *fleet, bool may_evict) {
  * bridge follows the stream. */
 static enum ds_fleet_word meeting_answered(struct ds_fleet *fleet) {
     struct server *server = &fleet->server;
-    struct redisReply **answers = server->teller.answers, *info = answers[MEETING_INFO], *looked = answers[MEETING_EXEC];
+    struct redisReply **answers = server->producer.answers, *info = answers[MEETING_INFO], *looked = answers[MEETING_EXEC];
     if (is_error(info)) return server_denied(fleet, info);
     bool may_evict = info_may_evict(info);
     if (info_splits(info, fleet->stream)) {
@@ -232,7 +232,7 @@ static enum ds_fleet_word meeting_answered(struct ds_fleet *fleet) {
     if (is_replica && master_has_others(&server->master)) return server_hang_up(fleet, DS_FLEET_DENIED, "it is a replica");
     const redisReply *error = error_of(answers + MEETING_MULTI, MEETING_QUESTIONS - MEETING_MULTI);
     if (error) return server_denied(fleet, error);
-    if (!is_list_of(looked, LOOK_QUESTIONS)) return server_puzzles(fleet, "no transaction");
+    if (!is_list_of(looked, LOOK_QUESTIONS)) return server_protocol_error(fleet, "no transaction");
     struct stock stock = {.bytes = 0};
     enum ds_fleet_word word = bridge_look(fleet, looked->element, &stock);
     if (word != DS_FLEET_INSTEP) return word;
@@ -265,7 +265,7 @@ enum ds_fleet_word server_open(struct ds_fleet *fleet, const struct ds_fleet_opt
 }
 
 void server_close(struct server *server) {
-    link_close(&server->teller);
-    link_close(&server->listener);
+    link_close(&server->producer);
+    link_close(&server->consumer);
     master_close(&server->master);
 }

@@ -1,6 +1,7 @@
 /* dsrs: a supervisor of processes. RS of the library decides, and dsrs carries the decisions out. docs/guide/supervise.md. */
 #include "clock.h"
-#include "heard.h"
+#include "groups.h"
+#include "notify_socket.h"
 #include "leftovers.h"
 #include "notify.h"
 #include "outputs.h"
@@ -8,7 +9,7 @@
 #include "reload.h"
 #include "rs.h"
 #include "signals.h"
-#include "strays.h"
+#include "tasks.h"
 #include "usage.h"
 #include <dirent.h>
 #include <errno.h>
@@ -31,7 +32,7 @@ enum {
     TICK = 10, TICK_MOST = 60000,   /* milliseconds */
     GRACE = 2000, GRACE_MOST = 3600000,
     SLOT = 16, SLOT_MOST = 1023,
-    EACH_SERVICE = 5 + PARCELS,     /* descriptors besides that of its peer */
+    EACH_SERVICE = 5 + ANCILLARY,   /* descriptors besides that of its peer */
     DESCRIPTORS = 32,               /* of dsrs itself */
     SOON = 10,                      /* milliseconds until an event is reported again for which memory ran out */
     REST = 100,                     /* milliseconds before a client is taken in again, where none could be */
@@ -77,7 +78,7 @@ struct host {
     struct log log;
     struct place place;
     char folder[FOLDER];
-    struct watch listener, signals, timer, heard;
+    struct watch listener, signals, timer, notify_socket;
     const char *cgroup;
     int epoll;
     uint64_t timer_at, admit_at; /* by clock_now: for when the timer is set; when clients are taken in again */
@@ -189,9 +190,9 @@ static int open_all(struct host *host) {
     if (prctl(PR_SET_CHILD_SUBREAPER, 1)) return failed(host, "subreaper"); /* dsrs reaps the children of a dead instance */
     if (!rs_open(rs)) return FAILED; /* settings with a fault end nobody */
     if (!cgroups_open(&rs->instances.cgroups, host->cgroup, &rs->events)) return FAILED;
-    leftovers_end(host->folder, &rs->events);
+    rs->instances.is_clear = leftovers_end(host->folder, &rs->events);
     empty_folder(host->folder);
-    if (!heard_open(&host->heard, host->epoll, host->folder)) return failed(host, "notify");
+    if (!notify_socket_open(&host->notify_socket, host->epoll, host->folder)) return failed(host, "notify");
     if (!place_serve(&host->place)) return FAILED;
     return watch_open(&host->listener, host->epoll, host->place.listener, EPOLLIN) ? GO_ON : failed(host, "epoll");
 }
@@ -200,7 +201,7 @@ static void close_all(struct host *host) {
     peers_close(&host->rs.peers);
     rs_close(&host->rs);
     cgroups_close(&host->rs.instances.cgroups);
-    if (host->heard.file >= 0) empty_folder(host->folder);
+    if (host->notify_socket.file >= 0) empty_folder(host->folder);
     if (*host->folder) rmdir(host->folder); /* unless the folder has an earlier run's sockets */
     place_leave(&host->place);
     log_close(&host->log);
@@ -221,8 +222,7 @@ static void begin_end(struct host *host) {
 static void end_graces(struct rs *rs) {
     rs->instances.grace = 0;
     rs->ends_at = clock_now();
-    for (struct instance *it = rs->instances.first; it; it = it->next)
-        if (it->kill_at) it->kill_at = clock_now();
+    tasks_hurry(rs);
     for (struct service *it = rs->kept; it < rs->kept + KEPT; it++)
         if (it->logger.ends && it->logger.due) it->logger.due = clock_now();
 }
@@ -268,15 +268,15 @@ static void admit(struct host *host) {
 static void reap(struct rs *rs) {
     for (struct instance *it = rs->instances.first; it; it = it->next) {
         if (!it->pidfd.ready) continue;
-        if (it->state == INSTANCE_RUNS) peers_finish(rs, it);
-        instances_note_end(&rs->instances, it);
+        if (it->is_up) peers_finish(rs, it);
+        if (instances_note_end(&rs->instances, it)) tasks_note_end(rs, it);
     }
 }
 
 /* Instances that were started get their voice. */
 static void take_in(struct rs *rs) {
     for (struct instance *it = rs->instances.first; it; it = it->next) {
-        if (it->socket < 0 || it->state == INSTANCE_ENDS) continue;
+        if (it->socket < 0 || !it->is_up) continue;
         peers_add(&rs->peers, it->socket, it, 0);
         it->socket = -1;
     }
@@ -315,21 +315,20 @@ static bool turn(struct host *host, bool *more) {
     if (host->timer.ready) read_timer(host);
     if (host->signals.ready) read_signals(host);
     if (host->listener.ready) admit(host);
-    if (host->heard.ready) heard_read(&host->heard, rs);
+    if (host->notify_socket.ready) notify_socket_read(&host->notify_socket, rs);
     bool has_lines = outputs_pass(rs);
     peers_turn(rs);
     reap(rs);
-    rs_bury(rs);
+    tasks_turn(rs); /* deaths before heartbeats are missed */
     rs_tick(rs);
-    instances_turn(&rs->instances);
-    rs_bury(rs); /* starts that failed */
     *more = rs->ending ? rs_go_down(rs) : reload_turn(rs);
+    tasks_turn(rs);
     take_in(rs);
     rs_keep_step(rs);
     *more |= peers_send(&rs->peers) | has_lines;
     bool is_down = rs->ending && !rs->left && !rs->instances.first;
     if (is_down) outputs_end_logs(rs);
-    uint64_t due = instances_due(&rs->instances);
+    uint64_t due = tasks_due(rs);
     if (rs->repeats) due = clock_now() + SOON;
     rs->repeats = false;
     bool logs = outputs_turn_logs(rs, &due);
@@ -340,14 +339,14 @@ static bool turn(struct host *host, bool *more) {
 }
 
 /* Processes of the last instances end before dsrs does, unless they can't be killed. */
-static void end_strays(const struct instances *all) {
-    for (int times = 0; times < STRAYS_LOOKS && strays_kill(all); times++) poll(NULL, 0, STRAYS_PAUSE);
+static void end_strays(struct instances *all) {
+    for (int times = 0; times < STRAYS_LOOKS && groups_kill_strays(all); times++) poll(NULL, 0, STRAYS_PAUSE);
 }
 
 /* Serves until a signal arrives. */
 static void run(struct host *host) {
     bool more = true;
-    rs_begin(&host->rs);
+    reload_turn(&host->rs);
     notify("READY=1");
     while (turn(host, &more)) {}
     end_strays(&host->rs.instances);
@@ -355,7 +354,7 @@ static void run(struct host *host) {
 
 static void prepare(struct host *host, const struct options *options) {
     struct rs *rs = &host->rs;
-    host->listener.file = host->signals.file = host->timer.file = host->heard.file = -1;
+    host->listener.file = host->signals.file = host->timer.file = host->notify_socket.file = -1;
     /* Any process may read; each other right is judged by the line. */
     host->place = (struct place){.path = options->socket, .access = {.mode = 0666, .group = NO_GROUP}, .log = &host->log, .lock = -1, .listener = -1};
     host->cgroup = options->cgroup;
@@ -365,7 +364,7 @@ static void prepare(struct host *host, const struct options *options) {
     rs->outlet.room.file = host->log.descriptor;
     rs->events.begun = clock_now();
     rs->generations = (struct generations){.path = options->generations, .file = -1};
-    rs->stream = (struct stream){.url = options->stream, .name = options->stream_name, .bell.file = -1};
+    rs->stream = (struct stream){.url = options->stream, .name = options->stream_name, .poller.file = -1};
     rs->instances.cgroups.folder = -1;
     rs->instances.services = options->services;
     rs->instances.endpoints = host->folder;

@@ -9,7 +9,7 @@
 enum { BACKLOG = 64, PATH = sizeof((struct sockaddr_un *)0)->sun_path };
 
 static void name_endpoint(const struct instances *all, const struct instance *it, char path[PATH]) {
-    snprintf(path, PATH, "%s/%u.%u", all->endpoints, it->generation, it->slot);
+    snprintf(path, PATH, "%s/%s", all->endpoints, it->name);
 }
 
 static bool open_listener(const struct instances *all, struct instance *it) {

@@ -8,7 +8,7 @@
 #include <sys/stat.h>
 #include <unistd.h>
 
-enum { BLOCK = 64, LINE = 11, MOST = 2097152 /* the generation that no instance gets any more */ };
+enum { LINE = 11, MOST = 2097152 /* the generation that no instance gets any more */ };
 
 /* The line always has the same length, and is written in place. */
 static bool write_number(struct generations *generations, uint32_t next) {
@@ -56,19 +56,16 @@ static bool is_there(struct generations *generations) {
 
 uint32_t generations_open(struct generations *generations, const char *path) {
     *generations = (struct generations){.path = path, .file = open_alone(path)};
-    if (generations->file < 0) return 0;
-    uint32_t next = read_number(generations->file);
-    return next && generations_keep(generations, next) ? next : 0;
+    return generations->file < 0 ? 0 : read_number(generations->file);
 }
 
-bool generations_keep(struct generations *generations, uint32_t next) {
-    if (next < generations->kept || generations->kept == MOST) return true;
-    return is_there(generations) && write_number(generations, next < MOST - BLOCK ? next + BLOCK : MOST);
+bool generations_write(struct generations *generations, uint64_t next) {
+    return is_there(generations) && write_number(generations, next < MOST ? (uint32_t)next : MOST);
 }
 
 void generations_close(struct generations *generations, uint32_t next) {
     if (generations->file < 0) return;
-    if (next && next < generations->kept && is_there(generations)) write_number(generations, next);
+    if (next && next < generations->kept) generations_write(generations, next);
     close(generations->file);
     generations->file = -1;
 }

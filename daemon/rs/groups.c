@@ -1,4 +1,4 @@
-/* The groups of instances whose first process has ended. See groups.h. */
+/* Processes besides the first ones. See groups.h. */
 #include "groups.h"
 #include "clock.h"
 #include "proc.h"
@@ -6,7 +6,10 @@
 #include <sys/wait.h>
 #include <unistd.h>
 
-enum { DYING = 2 * SECOND /* that a killed process may take to die */ };
+enum {
+    AGAIN = 10,        /* milliseconds until the next look, if nobody reports an end */
+    DYING = 2 * SECOND /* that a killed process may take to die */
+};
 
 /* Notes that every first process that has ended is alone, or that none is. Returns whether one has ended. */
 static bool note_alone(struct instances *all, bool is_alone) {
@@ -31,23 +34,6 @@ static bool reap(pid_t child) {
     return !waitid(P_PID, (id_t)child, &how, WEXITED | WNOHANG) && how.si_pid;
 }
 
-/* Returns the instance whose first process a child was, if nothing else is in the group; or NULL. */
-static struct instance *left_alone(const struct instances *all, pid_t child) {
-    uint32_t generation;
-    uint16_t slot;
-    bool is_found = proc_endpoint(child, all->endpoints, &generation, &slot);
-    for (struct instance *it = all->first; is_found && it; it = it->next)
-        if (it->generation == generation && it->slot == slot) return it->is_alone ? it : NULL;
-    return NULL;
-}
-
-/* Whether a child is the first process of an instance. */
-static bool is_first(const struct instances *all, pid_t child) {
-    for (const struct instance *it = all->first; it; it = it->next)
-        if (it->pid == child) return true;
-    return false;
-}
-
 /* A dying child has no environment any more, also when dsrs killed the child a moment ago. Returns whether a child may be dying. */
 static bool note_dying(struct instances *all) {
     bool found = false;
@@ -59,25 +45,52 @@ static bool note_dying(struct instances *all) {
     return found;
 }
 
-/* Kills the processes that left the groups that are empty now. Returns whether some of them may be dying. */
-static bool kill_left(struct instances *all, const struct text *numbers) {
-    struct proc_seen seen;
-    size_t at = 0;
-    bool is_dying = false;
-    for (pid_t child; proc_next(numbers, &at, &child);) {
-        if (is_first(all, child) || !proc_look(child, &seen) || seen.state == 'Z') continue;
-        struct instance *it = seen.has_memory ? left_alone(all, child) : NULL;
-        if (!seen.has_memory) is_dying |= note_dying(all);
-        if (!it || kill(child, SIGKILL)) continue;
-        events_tell(all->events, LOG_WARN, "stray: pid %d is killed", child);
-        it->is_alone = false;
-        it->stray_at = clock_now();
-    }
-    return is_dying;
+/* Whether a process is of an instance whose group isn't empty, or a log program, or lives in the session or the group of one. */
+static bool is_known(const struct instances *all, pid_t pid, const struct proc_seen *seen) {
+    for (const struct logger *it = all->loggers; it; it = it->next)
+        if (it->pid == pid || (it->pid == seen->group && seen->state != 'Z')) return true;
+    for (const struct instance *it = all->first; it; it = it->next)
+        if (it->pid == pid || (it->pid == seen->session && seen->state != 'Z' && !it->is_alone)) return true;
+    return false;
 }
 
-/* Children of a process that is reaped here become children of dsrs at its end, maybe after the listing: then the groups are looked at again. */
-bool groups_look(struct instances *all) {
+/* Whether a process is known to be of an instance that was killed, or has an empty group, or is gone; and of which one. */
+static bool is_stray(const struct instances *all, pid_t pid, struct instance **of) {
+    uint32_t generation;
+    uint16_t slot;
+    if (!proc_endpoint(pid, all->endpoints, &generation, &slot)) return false;
+    for (*of = all->first; *of && ((*of)->generation != generation || (*of)->slot != slot);) *of = (*of)->next;
+    return !*of || (*of)->is_killed || (*of)->is_alone;
+}
+
+/* Kills a stray. Returns false if the process isn't a stray, or can't be killed. */
+static bool kill_stray(struct instances *all, pid_t pid) {
+    struct instance *it;
+    if (!is_stray(all, pid, &it) || kill(pid, SIGKILL)) return false;
+    events_tell(all->events, LOG_WARN, "stray: pid %d is killed", pid);
+    if (it) it->is_alone = false, it->stray_at = clock_now();
+    return true;
+}
+
+/* Children that can't be listed now are listed later. */
+bool groups_kill_strays(struct instances *all) {
+    struct text numbers = {0};
+    struct proc_seen seen;
+    bool found = !proc_children(&numbers);
+    size_t at = 0;
+    for (pid_t pid; proc_next(&numbers, &at, &pid);) {
+        if (!proc_look(pid, &seen) || is_known(all, pid, &seen)) continue;
+        bool lives = seen.state != 'Z';
+        if (lives && !seen.has_memory) found |= note_dying(all);
+        else if (!lives || kill_stray(all, pid)) found |= reap(pid) || lives;
+    }
+    text_free(&numbers);
+    return found;
+}
+
+/* Children of a process that is reaped here become children of dsrs at its end, maybe after the listing: then the groups are looked at
+ * again. Returns false if they are to be looked at again soon. */
+static bool look(struct instances *all) {
     bool is_done = true, again = note_alone(all, true);
     while (again) {
         struct text numbers = {0};
@@ -91,8 +104,27 @@ bool groups_look(struct instances *all) {
             it->is_alone = false;
             again |= is_done && reap(child);
         }
-        if (!again && kill_left(all, &numbers)) is_done = false;
+        if (!again && groups_kill_strays(all)) is_done = false;
         text_free(&numbers);
     }
     return is_done;
+}
+
+/* Whether nothing is in the cgroup of an instance, which is removed then. Processes that left the group have no grace period of their own.
+ * Nobody reports their end, so the cgroup is looked at again. */
+static bool is_cgroup_gone(struct instances *all, const struct instance *it) {
+    if (it->cgroup < 0 || cgroups_remove(&all->cgroups, it->name)) return true;
+    cgroups_kill(it->cgroup);
+    instances_look_again(all, AGAIN);
+    return false;
+}
+
+/* One look is for all instances, until something happens. A group that was empty stays empty. */
+enum ds_keeper_scan groups_scan(struct instances *all, struct instance *it) {
+    if (!it->is_alone && !all->is_fresh) {
+        all->is_fresh = true;
+        if (!look(all)) instances_look_again(all, AGAIN);
+    }
+    if (it->is_alone && is_cgroup_gone(all, it)) return DS_KEEPER_NOTHING;
+    return it->is_killed ? DS_KEEPER_DYING : DS_KEEPER_LIVING;
 }

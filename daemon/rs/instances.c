@@ -5,11 +5,9 @@
 #include "endpoints.h"
 #include "groups.h"
 #include "process.h"
-#include "strays.h"
 #include <errno.h>
 #include <signal.h>
 #include <stdio.h>
-#include <stdlib.h>
 #include <string.h>
 #include <sys/epoll.h>
 #include <sys/syscall.h>
@@ -17,21 +15,15 @@
 #include <unistd.h>
 
 enum {
-    DESCRIPTORS = 5,                    /* that a start may take */
-    SWEEP_EACH = 500, AGAIN = 10,       /* milliseconds */
-    PAUSE_FIRST = 100, PAUSE_MOST = 800 /* milliseconds until a start for which something was short is tried again */
+    DESCRIPTORS = 5, /* that a start may take */
+    SWEEP_EACH = 500 /* milliseconds */
 };
 
 /* ---- start ---- */
 
-static void name_cgroup(const struct instance *it, char name[ENDPOINT]) { snprintf(name, ENDPOINT, "%u.%u", it->generation, it->slot); }
-
-/* The cgroup has the name of the endpoint's socket. */
 static bool open_cgroup(const struct instances *all, struct instance *it) {
     if (all->cgroups.folder < 0) return true;
-    char name[ENDPOINT];
-    name_cgroup(it, name);
-    it->cgroup = cgroups_make(&all->cgroups, name);
+    it->cgroup = cgroups_make(&all->cgroups, it->name);
     return it->cgroup >= 0;
 }
 
@@ -57,12 +49,6 @@ static bool begin_process(struct instances *all, struct instance *it) {
     return true;
 }
 
-void instances_fail(struct instances *all, struct instance *it, const char *why) {
-    events_tell(all->events, LOG_WARN, "nostart: %s %s %s", it->service->label, it->endpoint, why);
-    it->died = true;
-    it->cause = CAUSE_EXIT;
-}
-
 /* Whether a resource is exhausted for a while by others, so that the service isn't to blame. */
 static bool is_shortage(int error) {
     static const int shortages[] = {EAGAIN, ENOMEM, EMFILE, ENFILE, ENOSPC, EDQUOT, ENOBUFS, EROFS};
@@ -71,28 +57,58 @@ static bool is_shortage(int error) {
     return false;
 }
 
-static void wait_for_more(struct instances *all, struct instance *it, const char *why) {
-    if (!it->pause) events_tell(all->events, LOG_WARN, "short: %s %s %s", it->service->label, it->endpoint, why);
-    it->pause = !it->pause ? PAUSE_FIRST : it->pause < PAUSE_MOST ? 2 * it->pause : PAUSE_MOST;
-    it->again_at = clock_now() + it->pause;
-}
-
-static void begin(struct instances *all, struct instance *it) {
-    bool has_begun = begin_process(all, it);
+/* A shortage is often over at once, so there are two tries before the pause that the keepers make. */
+enum start instances_begin(struct instances *all, struct instance *it) {
+    bool has_begun = !it->refused && (begin_process(all, it) || (is_shortage(errno) && begin_process(all, it)));
     int error = errno;
-    if (!has_begun && is_shortage(error)) {
-        wait_for_more(all, it, strerror(error));
-        return;
+    const char *label = it->service->label, *why = it->refused ? it->refused : strerror(error);
+    if (has_begun) {
+        events_tell(all->events, LOG_INFO, "began: %s %s pid %d", label, it->endpoint, it->pid);
+        return START_BEGUN;
     }
-    it->state = INSTANCE_RUNS;
-    if (!has_begun) instances_fail(all, it, strerror(error));
-    else events_tell(all->events, LOG_INFO, "began: %s %s pid %d", it->service->label, it->endpoint, it->pid);
+    if (!it->refused && is_shortage(error)) {
+        if (!it->is_short) events_tell(all->events, LOG_WARN, "short: %s %s %s", label, it->endpoint, why);
+        it->is_short = true;
+        return START_SHORT;
+    }
+    events_tell(all->events, LOG_WARN, "nostart: %s %s %s", label, it->endpoint, why);
+    return START_FAILED;
 }
 
-static bool is_something_left(const struct instances *all, const struct service *service) {
-    for (const struct instance *it = all->first; it; it = it->next)
-        if (it->service == service && it->state == INSTANCE_ENDS) return true;
-    return false;
+/* There is always one that is unused. */
+struct instance *instances_add(struct instances *all, struct service *service, uint32_t generation, uint16_t slot) {
+    struct instance *it = all->all;
+    while (it->service) it++;
+    *it = (struct instance){.pidfd.file = -1, .next = all->first, .service = service, .generation = generation, .slot = slot, .is_up = true,
+                            .socket = -1, .theirs = -1, .listener = -1, .cgroup = -1};
+    snprintf(it->endpoint, ENDPOINT, "%u/%u", generation, slot);
+    snprintf(it->name, ENDPOINT, "%u.%u", generation, slot);
+    all->first = it;
+    service->since = clock_now();
+    *service->status = '\0';
+    return it;
+}
+
+/* ---- end ---- */
+
+/* Signals the group. The number is the group's own, since its first process isn't reaped. A child that hasn't called setsid yet has no
+ * group, so the child is signalled alone. */
+static void signal_group(const struct instance *it, int number) {
+    if (!it->pid) return;
+    if (kill(-it->pid, number)) syscall(SYS_pidfd_send_signal, it->pidfd.file, number, NULL, 0);
+}
+
+void instances_terminate(const struct instance *it) {
+    signal_group(it, SIGTERM);
+    signal_group(it, SIGCONT); /* a stopped process sees no other signal */
+}
+
+/* The cgroup also has the processes that left the group. */
+void instances_kill(struct instances *all, struct instance *it) {
+    signal_group(it, SIGKILL);
+    cgroups_kill(it->cgroup);
+    it->is_killed = true;
+    all->is_fresh = false;
 }
 
 /* Strays are looked for soon, but no more often than each SWEEP_EACH. */
@@ -101,84 +117,44 @@ static void ask_for_sweep(struct instances *all) {
     if (!all->sweep_at) all->sweep_at = all->swept_at && now < soonest ? soonest : now;
 }
 
-/* Frees an instance whose only process is the first one, which has ended. */
 static void drop(struct instances *all, struct instance *gone) {
     struct instance **link = &all->first;
     while (*link != gone) link = &(*link)->next;
     *link = gone->next;
-    if (gone->pid) waitid(P_PIDFD, (id_t)gone->pidfd.file, &(siginfo_t){0}, WEXITED);
     watch_close(&gone->pidfd, all->epoll);
     events_tell(all->events, LOG_INFO, "gone: %s %s", gone->service->label, gone->endpoint);
     const int files[] = {gone->socket, gone->theirs, gone->cgroup};
     for (size_t i = 0; i < sizeof files / sizeof *files; i++)
         if (files[i] >= 0) close(files[i]);
     ask_for_sweep(all);
+    all->sweeps_again = true;
     *gone = (struct instance){0};
 }
 
-/* There is always one: of each service at most one has processes, at most another one waits, and the rest has none left. */
-static struct instance *unused(struct instances *all) {
-    struct instance *it = all->all;
-    while (it < all->all + INSTANCES && it->service) it++;
-    if (it < all->all + INSTANCES) return it;
-    for (it = all->first; it->state != INSTANCE_ENDS || it->pid; it = it->next) {}
+void instances_reap(struct instances *all, struct instance *it) {
+    waitid(P_PIDFD, (id_t)it->pidfd.file, &(siginfo_t){0}, WEXITED);
     drop(all, it);
-    return it;
 }
 
-struct instance *instances_start(struct instances *all, struct service *service, uint32_t generation, uint16_t slot) {
-    struct instance *it = unused(all);
-    *it = (struct instance){.pidfd.file = -1, .next = all->first, .service = service, .generation = generation, .slot = slot,
-                            .socket = -1, .theirs = -1, .listener = -1, .cgroup = -1};
-    snprintf(it->endpoint, sizeof it->endpoint, "%u/%u", generation, slot);
-    all->first = it;
-    service->since = clock_now();
-    *service->status = '\0';
-    if (!is_something_left(all, service)) begin(all, it);
-    return it;
-}
-
-/* ---- end ---- */
-
-/* Signals the group. The number is the group's own, since its first process isn't reaped. A child that hasn't called setsid yet has no group,
- * so the child is signalled alone. */
-static void signal_group(const struct instance *it, int number) {
-    if (!it->pid) return;
-    if (kill(-it->pid, number)) syscall(SYS_pidfd_send_signal, it->pidfd.file, number, NULL, 0);
-}
-
-/* The cgroup also has the processes that left the group. */
-static void kill_all(const struct instance *it) {
-    signal_group(it, SIGKILL);
-    cgroups_kill(it->cgroup);
-}
-
-void instances_kill(struct instances *all, struct instance *it, bool gently) {
+void instances_end(struct instances *all, struct instance *it) {
     endpoints_close(all, it);
-    if (gently) signal_group(it, SIGTERM), signal_group(it, SIGCONT); /* one that is stopped sees no other signal */
-    else kill_all(it);
-    it->kill_at = gently ? clock_now() + all->grace : 0;
-    it->state = INSTANCE_ENDS;
-    it->died = false;
+    it->is_up = false;
     it->service->since = clock_now();
+    if (it->pid) return;
+    if (it->cgroup >= 0) cgroups_remove(&all->cgroups, it->name);
+    drop(all, it);
 }
 
 struct instance *instances_at(const struct instances *all, uint32_t generation, uint16_t slot) {
     for (struct instance *it = all->first; it; it = it->next)
-        if (it->generation == generation && it->slot == slot && it->state != INSTANCE_ENDS) return it;
+        if (it->generation == generation && it->slot == slot && it->is_up) return it;
     return NULL;
 }
 
 struct instance *instances_by_pid(const struct instances *all, pid_t pid) {
     for (struct instance *it = all->first; it; it = it->next)
-        if (it->pid == pid && it->state == INSTANCE_RUNS) return it;
+        if (it->pid == pid) return it;
     return NULL;
-}
-
-bool instances_has(const struct instances *all, const struct service *service) {
-    for (const struct instance *it = all->first; it; it = it->next)
-        if (it->service == service) return true;
-    return false;
 }
 
 static enum cause cause_of(const siginfo_t *how) {
@@ -196,69 +172,35 @@ void instances_stir(struct instances *all) {
         if (it->pid && !it->is_over && !it->pidfd.wanted) it->pidfd.ready = EPOLLIN; /* the epoll had no memory for the descriptor */
 }
 
-void instances_note_end(struct instances *all, struct instance *it) {
+bool instances_note_end(struct instances *all, struct instance *it) {
     siginfo_t how = {0};
     it->pidfd.ready = 0;
-    if (waitid(P_PIDFD, (id_t)it->pidfd.file, &how, WEXITED | WNOHANG | WNOWAIT) || !how.si_pid) return;
+    if (waitid(P_PIDFD, (id_t)it->pidfd.file, &how, WEXITED | WNOHANG | WNOWAIT) || !how.si_pid) return false;
     it->is_over = true;
+    it->cause = cause_of(&how);
     watch_for(&it->pidfd, all->epoll, 0);
     instances_stir(all);
-    if (it->state != INSTANCE_RUNS) return; /* RS killed the instance, or the rest of the group has a grace period */
-    kill_all(it);
-    it->died = true;
-    it->cause = cause_of(&how);
     const char *what = how.si_code == CLD_EXITED ? "status" : "signal";
+    if (!it->is_up) return true;
     events_tell(all->events, LOG_WARN, "died: %s %s cause %d %s %d", it->service->label, it->endpoint, it->cause, what, how.si_status);
-    endpoints_close(all, it);
+    return true;
 }
 
-/* Whether the first process alone is left, and has ended. Processes that left the group have no grace period of their own. Nobody reports
- * their end, so the cgroup is looked at again. */
-static bool is_gone(const struct instances *all, struct instance *it) {
-    char name[ENDPOINT];
-    if (it->pid && !it->is_alone) return false;
-    name_cgroup(it, name);
-    if (it->cgroup < 0 || cgroups_remove(&all->cgroups, name)) return true;
-    cgroups_kill(it->cgroup);
-    it->kill_at = clock_now() + AGAIN;
-    return false;
+void instances_look_again(struct instances *all, uint64_t milliseconds) {
+    uint64_t at = clock_now() + milliseconds;
+    if (!all->look_at || at < all->look_at) all->look_at = at;
 }
 
-/* A process that left the group of a dead instance becomes a child of dsrs when its parent ends, which may be a little later. */
-static void sweep(struct instances *all) {
+/* A process that left the group of a dead instance becomes a child of dsrs when its parent ends, which may be a little later. One that just
+ * executes a program has no environment meanwhile. */
+void instances_sweep(struct instances *all) {
     if (!all->sweep_at || clock_now() < all->sweep_at) return;
     all->swept_at = clock_now();
-    all->sweep_at = strays_kill(all) ? all->swept_at + SWEEP_EACH : 0;
-}
-
-/* Whether a waiting start may begin, or may check again. */
-static bool may_begin(const struct instances *all, const struct instance *it) {
-    return it->state == INSTANCE_WAITS && clock_now() >= it->again_at && !is_something_left(all, it->service);
-}
-
-void instances_turn(struct instances *all) {
-    for (struct instance *it = all->first; it; it = it->next)
-        if (it->kill_at && clock_now() >= it->kill_at) kill_all(it), it->kill_at = 0;
-    if (all->look_at && clock_now() >= all->look_at) all->look_at = groups_look(all) ? 0 : clock_now() + AGAIN;
-    for (struct instance *it = all->first, *next; it; it = next) {
-        next = it->next;
-        if (it->state == INSTANCE_ENDS && is_gone(all, it)) drop(all, it);
-    }
-    for (struct instance *it = all->first; it; it = it->next)
-        if (may_begin(all, it)) begin(all, it);
-    sweep(all);
-}
-
-static void bring_forward(uint64_t *due, uint64_t at) {
-    if (at && (!*due || at < *due)) *due = at;
+    all->sweep_at = groups_kill_strays(all) || all->sweeps_again ? all->swept_at + SWEEP_EACH : 0;
+    all->sweeps_again = false;
 }
 
 uint64_t instances_due(const struct instances *all) {
-    uint64_t due = all->sweep_at;
-    bring_forward(&due, all->look_at);
-    for (const struct instance *it = all->first; it; it = it->next) {
-        bring_forward(&due, it->kill_at);
-        if (it->state == INSTANCE_WAITS) bring_forward(&due, it->again_at);
-    }
-    return due;
+    bool is_sweep_first = all->sweep_at && (!all->look_at || all->sweep_at < all->look_at);
+    return is_sweep_first ? all->sweep_at : all->look_at;
 }

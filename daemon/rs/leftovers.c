@@ -46,8 +46,7 @@ static bool kill_left(pid_t pid, const char *endpoints) {
     return is_left;
 }
 
-/* Returns how many processes were killed. */
-static int kill_all_left(const char *endpoints) {
+int leftovers_kill(const char *endpoints) {
     DIR *folder = opendir("/proc");
     int count = 0;
     for (struct dirent *entry; folder && (entry = readdir(folder));) {
@@ -79,16 +78,17 @@ static bool is_one_held(const char *endpoints) {
     return held;
 }
 
-void leftovers_end(const char *endpoints, struct events *events) {
+bool leftovers_end(const char *endpoints, struct events *events) {
     uint64_t until = clock_now() + PATIENCE;
     int killed = 0, pause = PAUSE_FIRST;
-    for (int count; (count = kill_all_left(endpoints)) || is_one_held(endpoints); pause = pause < PAUSE_MOST ? 2 * pause : PAUSE_MOST) {
+    for (int count; (count = leftovers_kill(endpoints)) || is_one_held(endpoints); pause = pause < PAUSE_MOST ? 2 * pause : PAUSE_MOST) {
         if (!killed && count) events_tell(events, LOG_WARN, "left: %d processes of an earlier run are killed", count);
         killed += count;
         if (clock_now() > until) {
             events_tell(events, LOG_WARN, "left: an earlier run has processes that don't end");
-            return;
+            return false;
         }
         poll(NULL, 0, pause);
     }
+    return true;
 }

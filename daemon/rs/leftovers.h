@@ -4,9 +4,12 @@
 #define DSRS_LEFTOVERS_H
 
 #include "events.h"
+#include <stdbool.h>
 
-/* Kills every process that has this folder of sockets in its environment, and waits for their end, for some seconds at most. A dying process
- * has no environment; then a socket of the folder, kept as long as the process' locks, still accepts connections. */
-void leftovers_end(const char *endpoints, struct events *events);
+/* Kills every process with this folder of sockets in the environment. Returns how many there were. */
+int leftovers_kill(const char *endpoints);
+/* Kills them, and waits for their end, for some seconds at most. A dying process has no environment; then a socket of the folder, kept as
+ * long as the process' locks, still accepts connections. Returns whether all have ended. */
+bool leftovers_end(const char *endpoints, struct events *events);
 
 #endif

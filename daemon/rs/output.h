@@ -14,7 +14,7 @@ enum {
 
 struct output {
     struct watch from;      /* the end that is read; or -1 */
-    bool is_read;           /* by dsrs, and not by a log program */
+    bool is_read;           /* whether dsrs reads the output, and not a log program */
     int to;                 /* the end that instances write to, or -1 */
     size_t length;          /* bytes of the line that isn't whole yet */
     char line[OUTPUT_LINE];
@@ -27,7 +27,7 @@ struct outlet {
     bool is_full;
     uint64_t patience;      /* milliseconds that outputs may wait for room when they are closed */
     bool is_last;           /* nothing waits any more: while standard error is full, lines are left out */
-    struct output *output;  /* whose bytes these are, */
+    struct output *output;  /* the output whose bytes these are */
     const char *label;
     size_t at, count;       /* from which one on they aren't passed on, and how many there are */
     char bytes[OUTPUT_PIECE];

@@ -49,7 +49,7 @@ void outputs_look(struct rs *rs, struct service *it) {
 
 /* ---- lines ---- */
 
-/* Each service has its turn, in a circle. So a flood of one delays the others by a piece, and everything else by OUTPUT_TURN. */
+/* Reads a piece of each service's output, in a circle. A flood of one service delays the others by a piece, and the loop by OUTPUT_TURN. */
 bool outputs_pass(struct rs *rs) {
     uint64_t until = clock_now() + OUTPUT_TURN;
     if (rs->outlet.room.ready) rs->outlet.is_full = false;

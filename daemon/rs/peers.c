@@ -32,7 +32,7 @@ static void drop(struct peers *peers, size_t at) {
     struct peer *peer = peers->peer[at];
     watch_close(&peer->socket, peers->epoll);
     wire_free(&peer->wire);
-    parcels_drop(&peer->parcels);
+    ancillary_drop(&peer->ancillary);
     peers->of_public -= !peer->is_instance;
     free(peer);
     peers->peer[at] = peers->peer[--peers->count];
@@ -61,7 +61,7 @@ static void read_in(struct peer *peer) {
 
 static bool has_room(const struct peer *peer) { return !peer->gone && peer->wire.out.length < WIRE_WAITS; }
 
-static bool may_answer(const struct peer *peer) { return has_room(peer) && peer->parcels.count < PARCELS; }
+static bool may_answer(const struct peer *peer) { return has_room(peer) && peer->ancillary.count < ANCILLARY; }
 
 /* Whether the peer has a line that may be answered. */
 static bool is_ready(const struct peer *peer) {
@@ -139,7 +139,7 @@ void peers_tell(struct peers *peers, const struct instance *instance, const char
 const char *peers_connect(struct peers *peers, struct peer *from, const struct instance *to) {
     struct peer *other = peer_of(peers, to);
     int pair[2];
-    while (other && other->parcels.count == PARCELS && parcels_send(&other->parcels, &other->wire.out, other->socket.file)) {}
+    while (other && other->ancillary.count == ANCILLARY && ancillary_send(&other->ancillary, &other->wire.out, other->socket.file)) {}
     if (!other || !may_answer(other)) return "full";
     size_t at = other->wire.out.length;
     if (socketpair(AF_UNIX, SOCK_SEQPACKET | SOCK_CLOEXEC, 0, pair)) return "noroom";
@@ -148,8 +148,8 @@ const char *peers_connect(struct peers *peers, struct peer *from, const struct i
         close(pair[1]);
         return "noroom";
     }
-    parcels_take(&other->parcels, at, pair[1]);
-    parcels_take(&from->parcels, from->wire.out.length, pair[0]);
+    ancillary_take(&other->ancillary, at, pair[1]);
+    ancillary_take(&from->ancillary, from->wire.out.length, pair[0]);
     return NULL;
 }
 
@@ -163,12 +163,12 @@ static void hang_up(struct peer *peer) {
     peer->wire.ended = true;
     peer->gone |= !peer->is_instance && !peers_may_order(peer->user);
     text_free(&peer->wire.out);
-    parcels_drop(&peer->parcels);
+    ancillary_drop(&peer->ancillary);
 }
 
 static void write_out(struct peer *peer) {
     if (!peer->wire.out.length) return;
-    if (!parcels_send(&peer->parcels, &peer->wire.out, peer->socket.file) && errno != EAGAIN && errno != EINTR) hang_up(peer);
+    if (!ancillary_send(&peer->ancillary, &peer->wire.out, peer->socket.file) && errno != EAGAIN && errno != EINTR) hang_up(peer);
 }
 
 /* A peer that has ended and isn't written to isn't watched, since the hang-up would be reported again and again. */

@@ -4,7 +4,7 @@
 #define DSRS_PEERS_H
 
 #include "instances.h"
-#include "parcels.h"
+#include "ancillary.h"
 #include "watch.h"
 #include "wire.h"
 #include <stdbool.h>
@@ -23,11 +23,11 @@ enum {
 struct peer {
     struct watch socket;
     bool is_instance;
-    struct instance *instance; /* until the instance ends */
-    uid_t user;                /* of one of the public */
+    struct instance *instance; /* the instance, until it ends */
+    uid_t user;                /* the user of a client; an instance has none */
     bool gone;                 /* freed at the end of the turn */
     struct wire wire;          /* of the public's subscriptions, those that this peer has leased */
-    struct parcels parcels;    /* descriptors that go with bytes to be sent */
+    struct ancillary ancillary; /* descriptors that go with bytes to be sent */
 };
 
 struct peers {

@@ -11,10 +11,10 @@ struct process {
     const char *services, *folder; /* SERVICES/FOLDER/run is executed, in its folder */
     const char *label;
     int input, output;     /* becomes standard input, or -1: /dev/null; standard output and error, or -1: those of dsrs */
-    const char *endpoint;  /* of an instance; NULL, for a log program, and then the rest isn't used */
+    const char *endpoint;  /* the endpoint of an instance; NULL for a log program, which doesn't use the rest */
     const char *endpoints; /* the folder of sockets */
     int socket, listener;
-    int cgroup;            /* of the process, or -1 */
+    int cgroup;            /* the folder of the process's cgroup, or -1 */
     int first_sub;         /* the first of the instance's subscriptions, or -1 */
     uint64_t silence;      /* for how many microseconds the process may be silent; 0: for ever */
 };

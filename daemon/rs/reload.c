@@ -19,6 +19,7 @@ static void finish(struct rs *rs) {
         it->leaves = it->was_up = false;
     }
     text_free(&rs->other);
+    rs->is_busy = false;
     notify("READY=1");
 }
 
@@ -42,6 +43,7 @@ void reload_begin(struct rs *rs) {
     if (is_read && !is_same && judge(rs, &settings)) {
         text_free(&rs->other);
         rs->other = settings;
+        rs->is_busy = false;
         notify("RELOADING=1");
     } else {
         text_free(&settings);
@@ -58,10 +60,10 @@ static bool is_one_up(struct rs *rs) {
     return false;
 }
 
-/* Whether something runs of a service that is left out, by this reload or by the last one. */
-static bool is_something_left(const struct rs *rs) {
+/* Whether a log program still reads what a service printed that the last reload left out. */
+static bool is_something_read(const struct rs *rs) {
     for (const struct service *it = rs->kept; it < rs->kept + KEPT; it++)
-        if (*it->label && (it->is_left_out || (it->leaves && instances_has(&rs->instances, it)))) return true;
+        if (*it->label && it->is_left_out) return true;
     return false;
 }
 
@@ -81,18 +83,20 @@ static const char *meaning(uint32_t refusal) {
     return refusal == DS_NOSLOT ? ", fewer slots than in use; 64 without `slots`" : "";
 }
 
-/* RS judges the settings before the services that are still up, so refused settings stop no service. */
+/* RS judges the settings before the services that are still up, so refused settings stop no service. The keepers refuse while those
+ * have processes. The next try is after something was reaped. */
 static bool renew(struct rs *rs) {
     struct ds_settings_fault fault = {.service = UINT32_MAX};
-    if (!is_one_up(rs) && is_something_left(rs)) return false;
+    if (rs->is_busy || (!is_one_up(rs) && is_something_read(rs))) return false;
     uint32_t refusal = ds_rs_renew(&rs->store, rs->other.bytes, rs->other.length, &fault);
     if (refusal == DS_ALREADYUP) {
         struct service *it = rs->service[fault.service];
         it->was_up |= rs_tell(rs, DS_RS_DOWN, it->label);
         return it->was_up;
     }
+    rs->is_busy = refusal == DS_ISBUSY;
     rs->repeats |= refusal == DS_NOROOM;
-    if (refusal == DS_NOROOM) return false;
+    if (refusal == DS_NOROOM || refusal == DS_ISBUSY) return false;
     if (!refusal) take(rs);
     else events_tell(&rs->events, LOG_ERROR, "settings: %s: %s%s", rs->path, ds_refusal_text(refusal), meaning(refusal));
     finish(rs);

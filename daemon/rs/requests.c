@@ -128,6 +128,7 @@ static bool answer_service(struct rs *rs, struct peer *peer, const struct reques
     if (rs->ending) return refuse(peer, "notup");
     for (size_t i = 0; i < sizeof verbs / sizeof *verbs; i++) {
         if (strlen(verbs[i].verb) != length || memcmp(verbs[i].verb, verb, length)) continue;
+        if (verbs[i].kind != DS_RS_DOWN && !rs_may_start(rs)) return refuse(peer, "noroom");
         struct ds_rs_event event = rs_of_label(verbs[i].kind, rest.rest, rest.left);
         return rs_event(rs, &event, &peer->wire.out);
     }

@@ -1,8 +1,10 @@
 /* RS. See rs.h. */
 #include "rs.h"
+#include "clock.h"
 #include "lines.h"
 #include "outputs.h"
 #include "settings.h"
+#include "tasks.h"
 #include <errno.h>
 #include <limits.h>
 #include <stdio.h>
@@ -36,7 +38,8 @@ static int number_server(struct rs *rs) {
     return -1;
 }
 
-bool rs_keeps_down(const struct rs *rs, const struct service *service) {
+/* Whether the service's folder has a file `down`. */
+static bool keeps_down(const struct rs *rs, const struct service *service) {
     char path[PATH_MAX];
     int length = snprintf(path, sizeof path, "%s/%s/down", rs->instances.services, service->label);
     return length >= (int)sizeof path || !access(path, F_OK);
@@ -48,7 +51,7 @@ static struct service *add_service(struct rs *rs, const struct ds_rs_service *se
     *it = (struct service){.server = -1};
     memcpy(it->label, settings->label, settings->label_length);
     outputs_open(rs, it);
-    it->wish = rs_keeps_down(rs, it) ? WISH_NOTHING : WISH_START;
+    it->wish = keeps_down(rs, it) ? WISH_NOTHING : WISH_START;
     return it;
 }
 
@@ -76,6 +79,7 @@ void rs_learn(struct rs *rs) {
     for (struct service *it = rs->kept; it < rs->kept + KEPT; it++) it->leaves = it->is_left_out = *it->label != '\0';
     for (rs->services = 0; rs->services < SERVICES && !ds_rs_service(&rs->store, rs->services, &settings); rs->services++) {
         rs->service[rs->services] = learn(rs, &settings);
+        rs->service[rs->services]->number = rs->services;
         if (settings.period && settings.period < shortest) shortest = settings.period;
     }
     outputs_list_logs(rs);
@@ -83,6 +87,22 @@ void rs_learn(struct rs *rs) {
 }
 
 /* ---- opening and closing ---- */
+
+/* A fault is reported once. */
+bool rs_may_start(struct rs *rs) {
+    uint64_t generation;
+    if (ds_keeper_to_write(&rs->store, &generation)) return true;
+    bool is_written = generations_write(&rs->generations, generation);
+    if (!is_written && !rs->unwritten) events_tell(&rs->events, LOG_ERROR, "generations: %s: %s", rs->generations.path, strerror(errno));
+    rs->unwritten = !is_written;
+    return is_written && !ds_keeper_written(&rs->store, rs->generations.kept);
+}
+
+static bool open_keepers(struct rs *rs) {
+    bool is_open = !ds_keeper_open(&rs->store);
+    if (!is_open) events_tell(&rs->events, LOG_ERROR, "noroom: no memory for the keepers of processes");
+    return is_open && rs_may_start(rs);
+}
 
 bool rs_open(struct rs *rs) {
     struct ds_handle judged = DS_CLOSED;
@@ -95,7 +115,7 @@ bool rs_open(struct rs *rs) {
         const char *why = errno == EINVAL ? "it holds no generation" : strerror(errno);
         events_tell(&rs->events, LOG_ERROR, "generations: %s: %s", rs->generations.path, why);
     }
-    if (!next || !settings_open(&rs->store, rs->path, &rs->settings, next, rs->slot, &rs->events)) return false;
+    if (!next || !settings_open(&rs->store, rs->path, &rs->settings, next, rs->slot, &rs->events) || !open_keepers(rs)) return false;
     if (!stream_open(&rs->stream, &rs->store, rs->instances.epoll, rs->events.log)) return false;
     ticks_open(&rs->ticks, rs->ticks.length);
     rs_learn(rs);
@@ -133,41 +153,44 @@ static struct service *service_of(struct rs *rs, const struct ds_rs_action *acti
     return NULL;
 }
 
-static void kill_instance(struct rs *rs, const struct ds_rs_action *action) {
+/* RS doesn't count the instance as up any more. The keepers decide when the processes end. */
+static void end_instance(struct rs *rs, struct instance *it) {
+    peers_forget(&rs->peers, it);
+    instances_end(&rs->instances, it);
+}
+
+static void kill_instance(struct rs *rs, const struct ds_rs_action *action, enum cause cause) {
     struct instance *it = instances_at(&rs->instances, action->generation, action->slot);
     if (!it) return;
-    it->service->cause = rs->cause;
-    events_tell(&rs->events, LOG_INFO, "kill: %s %s cause %d", it->service->label, it->endpoint, rs->cause);
-    peers_forget(&rs->peers, it);
-    instances_kill(&rs->instances, it, rs->is_gentle);
+    it->service->cause = cause;
+    events_tell(&rs->events, LOG_INFO, "kill: %s %s cause %d", it->service->label, it->endpoint, cause);
+    end_instance(rs, it);
 }
 
 static void start_instance(struct rs *rs, const struct ds_rs_action *action) {
     struct service *service = service_of(rs, action);
     if (!service) return;
     outputs_look(rs, service);
-    instances_start(&rs->instances, service, action->generation, action->slot)->pinged_at = rs->ticks.now;
+    instances_add(&rs->instances, service, action->generation, action->slot);
 }
 
 static void ping_instance(struct rs *rs, const struct ds_rs_action *action) {
     struct instance *it = instances_at(&rs->instances, action->generation, action->slot);
-    if (!it) return;
-    it->pinged_at = rs->ticks.now;
-    peers_tell(&rs->peers, it, "ping");
+    if (it) peers_tell(&rs->peers, it, "ping");
 }
 
-/* Nobody would find an instance whose label the store refused, so it counts as dead. */
+/* Nobody would find an instance whose label the store refused. The start fails. */
 static void look_at_offer(struct rs *rs, const struct ds_rs_action *action) {
     if (action->word != DS_REFUSED) return;
     const char *why = ds_refusal_text(action->refusal);
     events_tell(&rs->events, LOG_ERROR, "refused: %.*s %u: %s", action->label_length, action->label, action->generation, why);
     struct instance *it = action->gone ? NULL : instances_at(&rs->instances, action->generation, action->slot);
-    if (it) instances_fail(&rs->instances, it, why);
+    if (it) it->refused = why;
 }
 
-static void act(struct rs *rs, const struct ds_rs_action *action) {
+static void act(struct rs *rs, const struct ds_rs_action *action, enum cause cause) {
     switch ((enum ds_rs_action_kind)action->kind) {
-    case DS_RS_KILL: kill_instance(rs, action); break;
+    case DS_RS_KILL: kill_instance(rs, action, cause); break;
     case DS_RS_START: start_instance(rs, action); break;
     case DS_RS_PING: ping_instance(rs, action); break;
     case DS_RS_OFFER: look_at_offer(rs, action); break;
@@ -176,61 +199,25 @@ static void act(struct rs *rs, const struct ds_rs_action *action) {
     }
 }
 
-/* Notes why and how an instance ends that this event ends. */
-static void note_cause(struct rs *rs, const struct ds_rs_event *event) {
+/* Returns why an instance ends that this event ends. */
+static enum cause cause_of(const struct ds_rs_event *event) {
     switch (event->kind) {
-    case DS_RS_DEATH: rs->cause = (enum cause)event->cause; break;
-    case DS_RS_TICK: rs->cause = CAUSE_HEARTBEAT; break;
-    case DS_RS_REFRESH: rs->cause = CAUSE_UPDATE; break;
-    default: rs->cause = CAUSE_NONE;
+    case DS_RS_DEATH: return (enum cause)event->cause;
+    case DS_RS_TICK: return CAUSE_HEARTBEAT;
+    case DS_RS_REFRESH: return CAUSE_UPDATE;
+    default: return CAUSE_NONE;
     }
-    rs->is_gentle = event->kind == DS_RS_DOWN || event->kind == DS_RS_REFRESH;
 }
 
-/* Writes the generation of the next start, before RS can use that generation. Returns whether the file has the number. A fault is reported
- * once. */
-static bool keep_generation(struct rs *rs) {
-    uint32_t next;
-    bool fails = !ds_rs_next(&rs->store, &next) && !generations_keep(&rs->generations, next);
-    if (fails && !rs->unkept) events_tell(&rs->events, LOG_ERROR, "generations: %s: %s", rs->generations.path, strerror(errno));
-    rs->unkept = fails;
-    return !fails;
+static bool is_refused_as(const struct ds_answer *answer, enum ds_refusal refusal) {
+    return answer->word == DS_REFUSED && answer->refusal == (uint32_t)refusal;
 }
 
-static bool is_start_due(struct rs *rs) {
-    struct ds_rs_service it;
-    for (size_t i = 0; !ds_rs_service(&rs->store, i, &it); i++)
-        if (it.state == DS_RS_ISWAITING && it.until <= rs->ticks.now) return true;
-    return false;
-}
-
-/* Whether RS finds a missing heartbeat at a tick, or asks for one: both come before starts. An instance without a first heartbeat may have
- * time left from `startup`, so such an instance isn't counted. */
-static bool is_heartbeat_due(const struct rs *rs) {
-    for (const struct instance *it = rs->instances.first; it; it = it->next) {
-        uint64_t period = it->service->settings.period;
-        if (!period || it->state == INSTANCE_ENDS) continue;
-        if (rs->ticks.now - it->pinged_at >= period || (it->beat_at && rs->ticks.now - it->beat_at >= 2 * period)) return true;
-    }
-    return false;
-}
-
-/* Whether RS may start an instance at an event. */
-static bool may_start(struct rs *rs, const struct ds_rs_event *event) {
-    if (event->kind == DS_RS_TICK) return is_start_due(rs) && !is_heartbeat_due(rs);
-    return event->kind == DS_RS_UP || event->kind == DS_RS_REFRESH || event->kind == DS_RS_RESTART;
-}
-
-/* Otherwise a later run, which reads the file, could use the generation again. */
-static bool refuse_start(struct ds_answer *answer, struct text *to) {
-    *answer = (struct ds_answer){.word = DS_REFUSED, .refusal = DS_NOROOM};
-    return !to || text_print(to, "refused noroom\n");
-}
-
-static void note_beat(struct rs *rs, const struct ds_rs_event *event, const struct ds_answer *answer) {
-    bool is_beat = event->kind == DS_RS_BEAT && answer->word == DS_ACTED;
-    struct instance *it = is_beat ? instances_at(&rs->instances, event->generation, event->slot) : NULL;
-    if (it) it->beat_at = event->tick;
+/* Returns whether memory ran out, or the file of generations couldn't be written, and RS has to learn the event later. */
+static bool ran_out(struct rs *rs, const struct ds_answer *answer) {
+    bool is_short = is_refused_as(answer, DS_NOROOM) || is_refused_as(answer, DS_BEHIND);
+    rs->repeats |= is_short;
+    return is_short;
 }
 
 /* Owes the notices of RS's actions, and notes which servers get one. */
@@ -242,19 +229,26 @@ static void note_told(struct rs *rs, const uint8_t owed[16]) {
     }
 }
 
-/* Fetches all actions before the first is carried out, since the next request replaces them. */
-static bool report(struct rs *rs, struct ds_rs_event *event, struct text *to, struct ds_answer *answer) {
+/* Carries out the actions of the last answer. All are fetched before the first is carried out, since the next request replaces them. */
+static void act_on(struct rs *rs, const struct ds_answer *answer, enum cause cause) {
     struct ds_rs_action actions[ACTIONS];
     size_t count = 0;
-    event->tick = rs->ticks.now;
-    if (!keep_generation(rs) && may_start(rs, event)) return refuse_start(answer, to);
-    note_cause(rs, event);
-    if (ds_rs_event(&rs->store, event, answer)) return true;
-    bool put = !to || (answer->word == DS_NOREQUEST ? text_print(to, "norequest\n") : lines_fetch(&rs->store, to) == LINES_ANSWERED);
     while (count < ACTIONS && !ds_rs_action(&rs->store, count, &actions[count])) count++;
-    for (size_t i = 0; i < count; i++) act(rs, &actions[i]);
-    note_beat(rs, event, answer);
+    for (size_t i = 0; i < count; i++) act(rs, &actions[i], cause);
     note_told(rs, answer->owed);
+}
+
+/* What RS stops by `down` and `refresh` has a grace period. A start for which the file lacks the generation is reported again after the
+ * write. */
+static bool report(struct rs *rs, struct ds_rs_event *event, struct text *to, struct ds_answer *answer) {
+    bool is_gentle = event->kind == DS_RS_DOWN || event->kind == DS_RS_REFRESH;
+    uint64_t deadline = clock_now() + (is_gentle ? rs->instances.grace : 0);
+    event->tick = rs->ticks.now;
+    do
+        if (ds_keeper_event(&rs->store, event, deadline, answer)) return true;
+    while (is_refused_as(answer, DS_BEHIND) && rs_may_start(rs));
+    bool put = !to || (answer->word == DS_NOREQUEST ? text_print(to, "norequest\n") : lines_fetch(&rs->store, to) == LINES_ANSWERED);
+    act_on(rs, answer, cause_of(event));
     return put;
 }
 
@@ -262,9 +256,7 @@ static bool report(struct rs *rs, struct ds_rs_event *event, struct text *to, st
 static bool has_learnt(struct rs *rs, struct ds_rs_event *event) {
     struct ds_answer answer = {0};
     report(rs, event, NULL, &answer);
-    bool ran_out = answer.word == DS_REFUSED && answer.refusal == DS_NOROOM;
-    rs->repeats |= ran_out;
-    return !ran_out;
+    return !ran_out(rs, &answer);
 }
 
 bool rs_tell(struct rs *rs, enum ds_rs_event_kind kind, const char *label) {
@@ -279,32 +271,36 @@ bool rs_event(struct rs *rs, struct ds_rs_event *event, struct text *to) {
 
 /* ---- deaths, time, and the end ---- */
 
-void rs_bury(struct rs *rs) {
-    for (struct instance *it = rs->instances.first, *next; it; it = next) {
-        next = it->next;
-        if (!it->died) continue;
-        it->service->cause = it->cause;
-        struct ds_rs_event death = rs_of_instance(DS_RS_DEATH, it->generation, it->slot, it->cause);
-        peers_forget(&rs->peers, it);
-        if (!has_learnt(rs, &death)) continue;
-        it->died = false;
-        instances_kill(&rs->instances, it, false); /* processes of the group that may be left */
-    }
+bool rs_report(struct rs *rs, struct instance *it) {
+    struct ds_answer answer = {0};
+    it->service->cause = it->cause;
+    uint32_t fault = ds_keeper_report(&rs->store, it->service->number, it->cause, rs->ticks.now, clock_now(), &answer);
+    if (fault || ran_out(rs, &answer)) return false;
+    act_on(rs, &answer, it->cause);
+    if (it->is_up) end_instance(rs, it);
+    return true;
 }
 
-/* An instance that hasn't begun can't send a heartbeat. dsrs reports one in its place. */
-static void vouch_for_waiting(struct rs *rs) {
-    for (const struct instance *it = rs->instances.first; it; it = it->next) {
-        if (it->state != INSTANCE_WAITS || !it->service->settings.period) continue;
-        struct ds_rs_event beat = rs_of_instance(DS_RS_BEAT, it->generation, it->slot, CAUSE_NONE);
-        rs_event(rs, &beat, NULL);
+bool rs_fail(struct rs *rs, struct instance *it) {
+    struct ds_rs_event death = rs_of_instance(DS_RS_DEATH, it->generation, it->slot, CAUSE_EXIT);
+    it->service->cause = CAUSE_EXIT;
+    if (!has_learnt(rs, &death)) return false;
+    if (it->is_up) end_instance(rs, it);
+    return true;
+}
+
+/* An instance that hasn't begun can't send a heartbeat. The keepers vouch for such instances alone. */
+static void vouch_for_pending(struct rs *rs) {
+    for (size_t i = 0; i < rs->services; i++) {
+        uint32_t word = ds_keeper_vouch(&rs->store, i, rs->ticks.now);
+        (void)word;
     }
 }
 
 /* RS does one thing at each report. After a refusal, as without a free slot, a later tick tries again. */
 void rs_tick(struct rs *rs) {
     struct ds_answer answer = {.word = DS_ACTED, .count = 1};
-    if (rs_due(rs) <= rs->ticks.now) vouch_for_waiting(rs);
+    if (rs_due(rs) <= rs->ticks.now) vouch_for_pending(rs);
     while (rs_due(rs) <= rs->ticks.now && answer.word == DS_ACTED && answer.count) {
         struct ds_rs_event tick = {.kind = DS_RS_TICK};
         report(rs, &tick, NULL, &answer);
@@ -322,17 +318,8 @@ uint64_t rs_due(struct rs *rs) {
     return ds_rs_due(&rs->store, &due) ? TICKS_NEVER : due;
 }
 
-void rs_begin(struct rs *rs) {
-    for (size_t i = 0; i < rs->services; i++) {
-        struct service *it = rs->service[i];
-        if (it->wish == WISH_START && !rs_tell(rs, DS_RS_UP, it->label))
-            events_tell(&rs->events, LOG_ERROR, "noroom: %s isn't started", it->label);
-        it->wish = WISH_NOTHING;
-    }
-}
-
 bool rs_go_down(struct rs *rs) {
     size_t before = rs->left;
-    while (rs->left && rs_tell(rs, DS_RS_DOWN, rs->service[rs->left - 1]->label)) rs->left--;
+    for (; rs->left && rs_tell(rs, DS_RS_DOWN, rs->service[rs->left - 1]->label); rs->left--) tasks_turn(rs);
     return rs->left < before;
 }

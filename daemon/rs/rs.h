@@ -1,4 +1,4 @@
-/* RS: the library decides, and dsrs carries the decisions out. */
+/* RS, and the keepers of the services' processes: the library decides, and dsrs carries the decisions out. */
 #ifndef DSRS_RS_H
 #define DSRS_RS_H
 
@@ -15,7 +15,7 @@
 enum { KEPT = 2 * SERVICES /* those of the settings, and those that a reload left out */ };
 
 struct rs {
-    const char *path;     /* of the settings */
+    const char *path;     /* the path of the settings */
     struct text settings; /* the text of those in use */
     uint16_t slot;        /* the first one */
     struct ds_handle store;
@@ -30,38 +30,37 @@ struct rs {
     struct generations generations;
     struct stream stream;
     struct events events;
-    struct outlet outlet;     /* of the outputs of services, */
-    size_t next_output;       /* and the next one, an index of kept */
+    struct outlet outlet;     /* the outlet of the services' outputs */
+    size_t next_output;       /* the next output to be read, an index of `kept` */
     size_t left;   /* while dsrs goes down: how many services are still to be stopped, the last one first */
     bool ending;
     uint64_t ends_at; /* when log programs are killed then, by clock_now */
     bool repeats;  /* an event is reported again a little later, since memory ran out, or the generation isn't kept */
-    bool unkept;   /* the next generation couldn't be written */
-    enum cause cause; /* of an end that the current event brings, */
-    bool is_gentle;   /* by SIGTERM first */
+    bool unwritten; /* the next generation couldn't be written */
+    bool is_busy;  /* by the keepers, a service that the other settings leave out has processes still */
 };
 
-/* Opens a store with RS for the file of settings, at tick 0. Returns false after an event that says why. */
+/* Opens a store with RS and keepers for the file of settings, at tick 0. Returns false after an event that says why. */
 bool rs_open(struct rs *rs);
 /* Learns which services the settings have: new ones get their output, and others keep theirs and their instances. Notes
  * which are to be started, and which refreshed. */
 void rs_learn(struct rs *rs);
 /* Finds a service of a store's RS by a label. */
 bool rs_find(struct ds_handle *store, const char *label, struct ds_rs_service *found);
-/* Whether the service's folder has a file `down`. */
-bool rs_keeps_down(const struct rs *rs, const struct service *service);
-/* Starts each service, unless the folder has a file `down`. */
-void rs_begin(struct rs *rs);
 /* Events, at the current tick. */
 struct ds_rs_event rs_of_label(enum ds_rs_event_kind kind, const char *label, size_t length);
 struct ds_rs_event rs_of_instance(enum ds_rs_event_kind kind, uint32_t generation, uint16_t slot, enum cause cause);
+/* Writes the generation that the keepers want before the next start, if any. Returns whether the file has that generation. */
+bool rs_may_start(struct rs *rs);
 /* Reports an event, and carries out the actions. Appends the answer to `to`, unless that is NULL. Returns false where memory runs out for
  * the answer. */
 bool rs_event(struct rs *rs, struct ds_rs_event *event, struct text *to);
 /* Reports an event that RS hasn't learnt, without an answer. Returns false where memory ran out: the event is to be reported again. */
 bool rs_tell(struct rs *rs, enum ds_rs_event_kind kind, const char *label);
-/* Reports instances that died. */
-void rs_bury(struct rs *rs);
+/* Reports the death of an instance that is up. Returns false where memory ran out: the death is to be reported again. */
+bool rs_report(struct rs *rs, struct instance *instance);
+/* Reports that an instance couldn't begin, which RS counts as a death, and frees the instance. Returns false where memory ran out. */
+bool rs_fail(struct rs *rs, struct instance *instance);
 /* Reports the time if something is due, until nothing is. */
 void rs_tick(struct rs *rs);
 /* Returns the tick at which something is due, or TICKS_NEVER. */

@@ -24,8 +24,9 @@ enum wish { WISH_NOTHING, WISH_START, WISH_REFRESH };
 
 struct service {
     char label[SERVICE_LABEL];
-    bool leaves;      /* the settings of a pending reload leave the service out, */
-    bool was_up;      /* and the reload stopped the service */
+    size_t number;    /* among the services of RS and of the keepers, from 0 */
+    bool leaves;      /* the settings of a pending reload leave the service out */
+    bool was_up;      /* the service was up when the reload stopped it */
     bool is_left_out; /* the settings in force leave the service out: the log program reads the rest */
     enum wish wish;
     struct ds_rs_service settings; /* as RS has them */

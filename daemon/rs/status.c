@@ -4,7 +4,7 @@
 
 static const char *state_of(const struct ds_rs_service *it, const struct instance *instance) {
     switch ((enum ds_rs_state)it->state) {
-    case DS_RS_ISUP: return instance && instance->state == INSTANCE_WAITS ? "wants" : instance && instance->is_ready ? "ready" : "up";
+    case DS_RS_ISUP: return instance && !instance->pid ? "wants" : instance && instance->is_ready ? "ready" : "up";
     case DS_RS_ISWAITING: return "waiting";
     case DS_RS_ISGIVENUP: return "givenup";
     case DS_RS_ISDOWN: break;

@@ -12,14 +12,14 @@ bool stream_open(struct stream *stream, struct ds_handle *store, int epoll, stru
     struct ds_fleet_options options = {.url = stream->url, .stream = stream->name, .tell = log_tell, .context = log};
     enum ds_fleet_word word = ds_fleet_open(&stream->fleet, store, &options);
     stream->word = DS_FLEET_LATE;
-    if (word == DS_FLEET_INSTEP && watch_open(&stream->bell, epoll, ds_fleet_bell(stream->fleet), EPOLLIN)) return true;
+    if (word == DS_FLEET_INSTEP && watch_open(&stream->poller, epoll, ds_fleet_bell(stream->fleet), EPOLLIN)) return true;
     log_say(log, LOG_ERROR, "stream: %s", word == DS_FLEET_INSTEP || word == DS_FLEET_SYSTEM ? strerror(errno) : ds_fleet_word(word));
     return false;
 }
 
 void stream_turn(struct stream *stream, uint8_t owed[16], struct log *log) {
     if (!stream->fleet) return;
-    stream->bell.ready = 0;
+    stream->poller.ready = 0;
     enum ds_fleet_word word = ds_fleet_step(stream->fleet, 0);
     ds_fleet_owed(stream->fleet, owed);
     if (word == DS_FLEET_LATE || (int)word == stream->word) return;
@@ -32,7 +32,7 @@ void stream_turn(struct stream *stream, uint8_t owed[16], struct log *log) {
 void stream_close(struct stream *stream, int epoll) {
     if (!stream->fleet) return;
     if (stream->word == DS_FLEET_INSTEP) ds_fleet_step(stream->fleet, LAST);
-    watch_for(&stream->bell, epoll, 0);
+    watch_for(&stream->poller, epoll, 0);
     ds_fleet_close(stream->fleet);
     stream->fleet = NULL;
 }

@@ -13,8 +13,8 @@ struct ds_fleet;
 struct stream {
     const char *url, *name; /* of the server, or NULL: the store is alone; the prefix of the keys, or NULL */
     struct ds_fleet *fleet;
-    struct watch bell;
-    int word;               /* of the last step, by ds_fleet.h */
+    struct watch poller;
+    int word;               /* the word of the last step, by ds_fleet.h */
 };
 
 /* Joins the store to the stream, without waiting for the server. Returns false after a line to the log. */

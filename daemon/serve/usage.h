@@ -22,7 +22,7 @@ struct option_row {
 struct usage {
     const char *name, *help, *version;
     const struct option_row *rows;
-    bool options_first; /* words after the first that isn't an option are none */
+    bool options_first; /* whether options end at the first word that isn't one */
 };
 
 /* Reads the options, and sets `*first` to the first word that isn't one. Returns GO_ON, or the exit status after a message. */

@@ -20,7 +20,7 @@ def started(store, disks, generation):
     """RS says that each disk's driver runs in this generation, in a slot of its own."""
     for slot, disk in enumerate(disks, FIRST_SLOT):
         endpoint = Endpoint(generation, slot)
-        store.publish(RS, disk, endpoint, version=(generation, 0), overwrite=True)
+        store.rs_started(disk, endpoint)
         print(f"rs: {disk} runs at {endpoint}")
 
 

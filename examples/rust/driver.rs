@@ -40,7 +40,7 @@ fn print_items(what: &str, word: &str, shown: Result<Shown<'_>, Error>) -> Resul
 
 /// RS says that eth0 runs in this generation and slot.
 fn started(store: &mut Store, at: Endpoint) -> Result<(), Error> {
-    let done = store.publish(RS, "eth0", at, Version::new(at.generation, 0), true)?;
+    let done = store.rs_started("eth0", at)?;
     print("rs: eth0 runs", if done.changed { "changed" } else { "known" }, &done.owed);
     Ok(())
 }

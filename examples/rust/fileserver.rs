@@ -5,7 +5,7 @@
 //!
 //! docs/guide/rust.md says where the crate finds the library.
 
-use pengtawis::{Class, Cursor, Endpoint, Error, Items, Kind, Map, Merged, Move, Moves, Refusal, Server, Shown, Store, Table, Version, RS};
+use pengtawis::{Class, Cursor, Endpoint, Error, Items, Kind, Map, Merged, Move, Moves, Refusal, Server, Shown, Store, Table, RS};
 use std::collections::BTreeMap;
 
 const FIRST_SLOT: u16 = 16; // of the disks' drivers
@@ -25,7 +25,7 @@ fn name_of(disk: u16) -> String {
 fn started(store: &mut Store, disks: u16, generation: u32) -> Result<(), Error> {
     for disk in 0..disks {
         let (name, at) = (name_of(disk), Endpoint::new(generation, FIRST_SLOT + disk));
-        store.publish(RS, &name, at, Version::new(generation, 0), true)?;
+        store.rs_started(&name, at)?;
         println!("rs: {name} runs at {at}");
     }
     Ok(())

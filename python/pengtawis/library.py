@@ -30,6 +30,7 @@ CHANGED, NO_REQUEST, BAD_LINE = 0, 13, 15  # of enum ds_word
 WHOLE, WANTING = 0, 20  # of enum ds_stop
 REQUEST = struct.Struct("@4Q7I2H6B64s0Q")  # struct ds_request: unlike ctypes, struct refuses a number that is out of range
 Self = TypeVar("Self", bound="Handle")
+Loaded = TypeVar("Loaded", bound=ctypes.CDLL)
 ROOM = 1 << 16  # bytes of text that are fetched at a time
 PIECE = 2204  # DS_MAX_PIECE
 
@@ -49,6 +50,10 @@ class Answer(ctypes.Structure):
 
 class Given(ctypes.Structure):
     _fields_ = [("count", c_uint64), ("length", c_uint64), ("stop", c_uint32)]
+
+
+class MapKey(ctypes.Structure):
+    _fields_ = [("kind", c_uint8), ("name_length", c_uint8), ("name", c_uint8 * 64)]
 
 
 TEXT, ANSWER, ROOM_OF_TEXT = (c_char_p, c_size_t), POINTER(Answer), (c_size_t, c_void_p, c_size_t, POINTER(Given))
@@ -73,6 +78,8 @@ CALLS: Any = {
     "ds_map_new": (c_uint8, *TEXT),
     "ds_map_take": (*TEXT, ANSWER),
     "ds_map_label": (*TEXT, ANSWER),
+    "ds_map_value": (c_uint8, *TEXT, ANSWER, c_char_p, c_size_t, POINTER(Given)),
+    "ds_map_next": (POINTER(MapKey),),
     "ds_map_close": (),
     "ds_table_new": (c_uint32,),
     "ds_table_assign": (c_uint8, c_uint8, *TEXT, ANSWER),
@@ -81,17 +88,33 @@ CALLS: Any = {
     "ds_table_reply": (c_uint32, c_uint16, c_uint64, ANSWER),
     "ds_table_moves": (c_size_t, c_void_p, c_size_t, POINTER(c_size_t)),
     "ds_table_close": (),
+    "ds_desk_open": (c_uint64, c_uint64, c_uint32, c_uint32),
+    "ds_seat_open": (c_void_p,),
+    "ds_seat_items": ROOM_OF_TEXT,
+    "ds_seat_take": (c_uint32, POINTER(c_uint8), POINTER(c_uint64)),
+    "ds_seat_close": (),
+    "ds_desk_close": (),
 }
+SHARING: Any = dict.fromkeys(("ds_seat_call", "ds_seat_wait"), (c_char_p, *TEXT, ANSWER, POINTER(c_uint64)))
+
+
+def typed(library: Loaded, calls: Any) -> Loaded:
+    for name, words in calls.items():
+        call = getattr(library, name)
+        call.argtypes, call.restype = (c_void_p, *words), c_uint32
+    return library
 
 
 @functools.lru_cache(maxsize=None)
 def loaded(path: str) -> ctypes.PyDLL:
     """Loads the library once. Its calls keep the interpreter's lock: they are short, and a handle has one call at a time."""
-    library = ctypes.PyDLL(path)
-    for name, words in CALLS.items():
-        call = getattr(library, name)
-        call.argtypes, call.restype = (c_void_p, *words), c_uint32
-    return library
+    return typed(ctypes.PyDLL(path), CALLS)
+
+
+@functools.lru_cache(maxsize=None)
+def sharing(path: str) -> ctypes.CDLL:
+    """Loads the library for calls of several threads side by side, which let go of the interpreter's lock."""
+    return typed(ctypes.CDLL(path), SHARING)
 
 
 class Handle:
@@ -101,7 +124,8 @@ class Handle:
         named = library or os.environ.get("PENGTAWIS_LIBRARY")
         path = named if named else next((it for it in PLACES if os.path.exists(it)), NAME)
         try:
-            self._library, self._closes = loaded(os.fspath(path)), closes
+            self._path, self._closes = os.fspath(path), closes
+            self._library = loaded(self._path)
         except OSError as fault:
             if path != NAME:
                 raise

@@ -62,7 +62,7 @@ class Worn(Refused): """The store's positions are used up, or a tick is above 2^
 class NoRoom(Refused, MemoryError): """Out of memory, or the pattern compiles to too much."""
 class BadRing(Refused, ValueError): """A journal keeps 1 to 4096 items."""
 class BadFirst(Refused, ValueError): """The first position is at most 2^62. Of an `Rs`, `next` is 1 to 2097152, and slots are 16 to 1023."""
-class IsClosed(Refused, ValueError): """The store, the map or the table is closed."""
+class IsClosed(Refused, ValueError): """The store, the map, the table, the desk or the seat is closed."""
 class IsOpen(Refused, ValueError): """The handle is open already."""
 # Those of an event of RS, and of its settings.
 class TickBack(Refused, ValueError): """The tick is below that of the last event that RS took."""
@@ -85,7 +85,7 @@ class Assigned(Refused): """The unit has a driver."""
 class TwoIds(Refused, ValueError): """The id isn't above that of every request that was accepted."""
 class NoDevice(Refused, LookupError): """The unit has no driver."""
 class NotPending(Refused, LookupError): """There is no unanswered request of this id."""
-# Those of a desk, which Python has no calls for.
+# Those of a desk.
 class IsBusy(Refused): """Another seat has the turn, or a seat of the desk is open."""
 class NoSeat(Refused): """The desk has no seat left."""
 

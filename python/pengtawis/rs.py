@@ -9,8 +9,9 @@ from ctypes import byref, c_char, c_uint8, c_uint16, c_uint32, c_uint64
 from typing import FrozenSet, Iterator, List, NamedTuple, Optional, Union, cast
 
 from . import wrong
+from .commands import Pair
 from .refusals import NUMBERED, NotAllowed, NotFound, Refused
-from .store import Pair, Store
+from .store import Store
 from .values import Endpoint, bit_of
 
 Cause = enum.IntEnum("Cause", "EXIT EXCEPTION KILLED SILENT COMPLAINT UPDATE", start=1)

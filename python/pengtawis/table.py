@@ -10,7 +10,7 @@ from .library import Handle
 from .map import Map
 from .refusals import NUMBERED, Refused
 from .rs import Class
-from .store import Pair
+from .commands import Pair
 from .values import Endpoint
 
 ID, UNIT = ("`id`", 2**64 - 1), ("`unit`", 255)

@@ -58,6 +58,13 @@ def spelled(name: str, text: Any) -> bytes:
     return text.encode()
 
 
+def key(it: Any) -> Any:
+    """Returns the key of an entry. TypeError: it isn't a pair of a name and a kind."""
+    if not isinstance(it, tuple) or len(it) != 2:
+        raise TypeError(f"a key is a name and a kind, as in `map[\"eth0\", Endpoint]`, and not {it!r}")
+    return it
+
+
 def named(name: str, text: bytes) -> None:
     """Raises ValueError if the bytes aren't a name."""
     it = text.decode()

@@ -2,6 +2,7 @@
 import pathlib
 import re
 import sys
+import threading
 
 ROOT = pathlib.Path(__file__).resolve().parent.parent.parent
 TESTS = ROOT / "tests"
@@ -14,6 +15,25 @@ from pengtawis import Endpoint
 KINDS = (Endpoint, int, str, bytes)  # in the order of the model's
 WORDS = dict(zip(KINDS, ("label", "u32", "str", "mem")))
 STAMPS = re.compile(r"(checked \d+) .*")
+
+
+def at_once(*works):
+    """Runs each work in a thread, and raises what one of them raised."""
+    wrong = []
+
+    def one(work):
+        try:
+            work()
+        except BaseException as fault:
+            wrong.append(fault)
+
+    threads = [threading.Thread(target=one, args=(it,)) for it in works]
+    for it in threads:
+        it.start()
+    for it in threads:
+        it.join()
+    if wrong:
+        raise wrong[0]
 
 
 def value_of(kind, spelled):

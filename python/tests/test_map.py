@@ -40,6 +40,8 @@ class Maps(unittest.TestCase):
         for name in NAMES:
             held = wanted.held.answer(b"retrieve", ((name, 0),))[0].decode()
             self.assertEqual(label_of(drivers, name.decode()), held)
+        shown = Items(b"".join(it + b"\n" for it in wanted.held.show()[:-1]))
+        self.assertEqual(list(drivers), [(it.name, it.kind, it.value) for it in shown])
 
     def test_what_stops_it(self):
         """Sees that the items before are kept, and that the others may be taken again."""
@@ -60,6 +62,31 @@ class Maps(unittest.TestCase):
         self.assertRaises(refusals.BadPattern, Map, "(")
         self.assertRaises(refusals.NoRoom, Map, "a{4000}")
 
+    def test_values(self):
+        with Map(kinds=support.kinds_of(15)) as driver:
+            driver.take(Items(b"a label rs 3.0 = 3/16\na u32 a 3.0 = 7\n"))
+            driver.take(Items(b"a str a 3.1 = \"x \\\"y\\\"\"\na mem a 3.2 = 00ff\nb u32 a 3.3 -\n"))
+            self.assertEqual((driver["a", Endpoint], driver["a", int]), (Endpoint(3, 16), 7))
+            self.assertEqual((driver["a", str], driver["a", bytes]), ('x "y"', b"\0\xff"))
+            self.assertEqual([it.kind for it in driver], [Endpoint, int, str, bytes])
+            for name in ("b", "c"):
+                self.assertRaises(refusals.NotFound, lambda: driver[name, int])
+            self.assertRaises(LookupError, lambda: driver["b", int])
+            self.assertRaises(ValueError, lambda: driver["a b", int])
+            for key in ("a", ("a",), (1, int), ("a", float)):
+                self.assertRaises(TypeError, lambda: driver[key])
+            big = bytes(range(256)) * 4
+            driver.take(Items(b"big mem a 3.4 = %s\n" % big.hex().encode()))
+            self.assertEqual(driver["big", bytes], big)
+
+    def test_items_in_between(self):
+        with Map(kinds=[int]) as driver:
+            driver.take(Items(b"a u32 x 1.0 = 1\nb u32 x 1.1 = 2\nc u32 x 1.2 = 3\n"))
+            walk = iter(driver)
+            self.assertEqual(next(walk).name, "a")
+            driver.take(Items(b"b u32 x 1.3 -\nbb u32 x 1.4 = 4\n"))
+            self.assertEqual([(it.name, it.value) for it in walk], [("bb", 4), ("c", 3)])
+
     def test_what_are_no_items(self):
         with Map() as drivers:
             for text in (b"eth0 labe", b"! tty 1\n! ", b"\xff\xff"):
@@ -72,6 +99,8 @@ class Maps(unittest.TestCase):
             pass
         drivers.close()
         self.assertRaises(refusals.IsClosed, drivers.label, "eth0")
+        self.assertRaises(refusals.IsClosed, lambda: drivers["eth0", Endpoint])
+        self.assertRaises(refusals.IsClosed, list, drivers)
         self.assertRaises(refusals.IsClosed, drivers.take, Items(b""))
 
     def test_it_follows_a_store(self):

@@ -23,10 +23,11 @@ import servers
 PACKAGE = support.ROOT / "python" / "pengtawis"
 PAGE = support.ROOT / "docs" / "guide" / "python.md"
 RS_PAGE = support.ROOT / "docs" / "guide" / "rs.md"
+THREADS_PAGE = support.ROOT / "docs" / "guide" / "threads.md"
 BLOCK = re.compile(r"(?<=\n\n)(?:    .*\n)+")
 EXAMPLES = support.ROOT / "examples" / "python"
 WATCH = EXAMPLES / "watch.py"
-AS_IN_C = ("fileserver", "supervisor")  # the examples that print what those in C print
+AS_IN_C = ("fileserver", "supervisor", "threads")  # the examples that print what those in C print
 PATIENCE = 60  # seconds
 TO_INSTALL = ("pip", "setuptools", "wheel")
 CALLER = """\
@@ -44,7 +45,7 @@ with Store() as store, Map() as drivers:
 # What mypy has to say of it: a line and its fault.
 WRONG = [
     (6, 'Incompatible types in assignment (expression has type "bytes", variable has type "str")  [assignment]'),
-    (10, 'Argument 3 to "publish" of "Store" has incompatible type "float"; expected "Union[Endpoint, int, str, bytes]"  [arg-type]'),
+    (10, 'Argument 3 to "publish" of "Commands" has incompatible type "float"; expected "Union[Endpoint, int, str, bytes]"  [arg-type]'),
 ]
 
 
@@ -84,11 +85,11 @@ class Pages(unittest.TestCase):
                 self.assertGreater(len(test.examples), 15)
                 self.assertEqual(runner.run(test).failed, 0)
 
-    def test_the_session_of_the_page_of_rs(self):
-        text = RS_PAGE.read_text()
-        test = doctest.DocTestParser().get_doctest(text, dict(vars(pengtawis)), RS_PAGE.name, str(RS_PAGE), 0)
-        self.assertGreater(len(test.examples), 5)
-        self.assertEqual(doctest.DocTestRunner().run(test).failed, 0)
+    def test_the_sessions_of_other_pages(self):
+        for page, least in ((RS_PAGE, 6), (THREADS_PAGE, 1)):
+            test = doctest.DocTestParser().get_doctest(page.read_text(), dict(vars(pengtawis)), page.name, str(page), 0)
+            self.assertGreaterEqual(len(test.examples), least)
+            self.assertEqual(doctest.DocTestRunner().run(test).failed, 0)
 
     def test_each_block_of_the_page_is_tried(self):
         """Runs each block that isn't a session of Python's in a shell at the root of the repository. It prints nothing."""

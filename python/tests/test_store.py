@@ -9,7 +9,7 @@ import support  # noqa: F401, I001: it finds the modules of tests/
 import causes
 import model
 import stores
-from pengtawis import store as pengtawis_store
+from pengtawis import commands
 from pengtawis import RS, BadItems, Cursor, Endpoint, Floor, Items, Map, Store, read_item, refusals
 
 DRAWN = 20  # scripts of drawn commands
@@ -470,7 +470,7 @@ class Named(unittest.TestCase):
                 self.assertRaisesRegex(AttributeError, f"a Store has no `{word}`: here it is {here}", getattr, store, word)
             self.assertRaisesRegex(AttributeError, "a Store has no `xyzzy`$", getattr, store, "xyzzy")
             self.assertFalse(hasattr(store, "_other"))
-        self.assertTrue(all(not hasattr(Store, it) for it in pengtawis_store.ELSEWHERE))
+        self.assertTrue(all(not hasattr(Store, it) for it in commands.ELSEWHERE))
 
     def test_endpoints_from_text(self):
         for text in ("0/2", "3/16", "2097151/1023"):

@@ -1,32 +1,14 @@
 """Threads: each with a store of its own, and all with one under a lock of the caller's."""
+import functools
 import threading
 import unittest
 
-import support  # noqa: F401, I001: it finds the modules of tests/
+import support  # noqa: I001: it finds the modules of tests/
 import stores
 from pengtawis import RS, Endpoint, Store
 
 THREADS = 8
 TURNS = 300
-
-
-def at_once(work):
-    """Runs the work in threads, and raises what one of them raised."""
-    wrong = []
-
-    def one(at):
-        try:
-            work(at)
-        except BaseException as fault:
-            wrong.append(fault)
-
-    threads = [threading.Thread(target=one, args=(at,)) for at in range(THREADS)]
-    for it in threads:
-        it.start()
-    for it in threads:
-        it.join()
-    if wrong:
-        raise wrong[0]
 
 
 class Threads(unittest.TestCase):
@@ -40,7 +22,7 @@ class Threads(unittest.TestCase):
                 self.assertEqual(typed.answer(line.encode()), support.without_stamps(wanted), line)
             typed.close()
 
-        at_once(work)
+        support.at_once(*(functools.partial(work, at) for at in range(THREADS)))
 
     def test_one_store_under_a_lock(self):
         """Publishes numbers of each thread's own, and reads them back while the others publish theirs."""
@@ -59,7 +41,7 @@ class Threads(unittest.TestCase):
                     with lock:
                         self.assertEqual(store.retrieve(f"{name}.n", int), turn)
 
-            at_once(work)
+            support.at_once(*(functools.partial(work, at) for at in range(THREADS)))
             items, cursor = store.snapshot(kinds=[int])
             self.assertEqual([(it.name, it.value) for it in items], [(f"d{at}.n", TURNS - 1) for at in range(THREADS)])
             self.assertEqual(cursor, (1, THREADS * (1 + TURNS)))

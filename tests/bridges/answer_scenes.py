@@ -3,10 +3,11 @@ import contextlib
 import itertools
 import time
 
-from fleets import Fleet, Proxy, until
+from fleets import Fleet, Proxy
 from scenes import REST, number, numbers, offer, shows
 from state_scenes import in_step
 from scripted import Scripted
+from waiting import until
 
 SLOWLY = 0.5  # seconds between two bytes of a server that trickles
 
@@ -77,7 +78,9 @@ def two_servers_at_one_address(fleet, draw):
 
 
 def who_waits_is_not_first(fleet, draw):
-    """Of the bridges that agree at the entry where others differ, the first by name sends everything; one whose digest is of an earlier entry isn't."""
+    """Of the bridges that agree at the entry where others differ, the first by name sends everything; one whose digest is of an earlier
+    entry isn't.
+    """
     script = fleet.adopt(Scripted(fleet.port))
     bridge, beats = fleet.start(url=script.url()), itertools.count(1)
 
@@ -166,7 +169,9 @@ def answers_that_are_too_long(fleet, draw):
     script = fleet.adopt(Scripted(fleet.port))
     bridge = fleet.start(url=script.url())
     peak = peak_of(bridge)
-    for at, made in enumerate((b"*2147483647\r\n", b"$999999999999\r\n", b"$2147483648\r\n", b"*-2\r\n", b"$1x\r\n", b"what\r\n", b"*65537\r\n")):
+    for at, made in enumerate(
+        (b"*2147483647\r\n", b"$999999999999\r\n", b"$2147483648\r\n", b"*-2\r\n", b"$1x\r\n", b"what\r\n", b"*65537\r\n")
+    ):
         before = bridge.said().count("more than was asked for")
         script.script("XLEN", made)
         offer(bridge, number("a", at + 1, 1))

@@ -114,12 +114,12 @@ static void waits(struct ds_handle *store, const char *nobody) {
     close(mute);
 }
 
-/* Steps when the bell rings, until the other store's items are there. */
+/* Steps when the poller is readable, until the other store's items are there. */
 static void rung(struct ds_fleet *fleet, struct ds_handle *store, uint64_t wanted) {
-    struct pollfd bell = {.fd = ds_fleet_bell(fleet), .events = POLLIN};
+    struct pollfd poller = {.fd = ds_fleet_bell(fleet), .events = POLLIN};
     for (int times = 0; times < 100 && held(store) < wanted; times++)
-        if (poll(&bell, 1, 1000) > 0) ds_fleet_step(fleet, 0);
-    printf("by the bell: %llu held\n", (unsigned long long)held(store));
+        if (poll(&poller, 1, 1000) > 0) ds_fleet_step(fleet, 0);
+    printf("by the poller: %llu held\n", (unsigned long long)held(store));
 }
 
 static void shares(struct ds_handle *one, struct ds_handle *two, const char *url) {
@@ -168,7 +168,7 @@ static void of_another_scope(struct ds_handle *store, const char *url) {
     ds_fleet_close(fleet);
 }
 
-static unsigned megabytes_untold(const struct ds_fleet *fleet) {
+static unsigned outbox_megabytes(const struct ds_fleet *fleet) {
     struct ds_fleet_state state;
     ds_fleet_state(fleet, &state);
     return (unsigned)(state.untold >> 20);
@@ -190,7 +190,7 @@ static uint64_t offer_much(struct ds_fleet *fleet, struct ds_handle *store) {
 }
 
 /* All that is held is told in place of all changes, in several rounds, and the first change counts as told when the last one does. */
-static void has_much_untold(const char *url) {
+static void has_long_outbox(const char *url) {
     struct ds_handle store = DS_CLOSED;
     struct ds_fleet_options options = {.url = url, .stream = "much"};
     struct ds_fleet_state state;
@@ -198,7 +198,7 @@ static void has_much_untold(const char *url) {
     if (ds_open(&store, 1, 0, 256) || ds_fleet_open(&fleet, &store, &options) != DS_FLEET_INSTEP) exit(1);
     uint64_t first = offer_much(fleet, &store), last = ds_fleet_mark(fleet);
     bool is_early = false;
-    printf("much: %u MB untold\n", megabytes_untold(fleet));
+    printf("much: %u MB untold\n", outbox_megabytes(fleet));
     for (int times = 0; times < MOST_STEPS && !ds_fleet_is_told(fleet, last); times++) {
         is_early |= ds_fleet_is_told(fleet, first);
         ds_fleet_step(fleet, 1);
@@ -222,9 +222,9 @@ static void has_much_without_its_replica(const char *url) {
     ds_fleet_state(fleet, &state);
     printf("without its replica: %s\n", state.said);
     uint64_t first = offer_much(fleet, &store);
-    printf("without its replica: %u MB untold\n", megabytes_untold(fleet));
-    for (int times = 0; times < MOST_STEPS && megabytes_untold(fleet) > 8; times++) ds_fleet_step(fleet, 1);
-    printf("without its replica: %u MB untold, told %d\n", megabytes_untold(fleet), ds_fleet_is_told(fleet, first));
+    printf("without its replica: %u MB untold\n", outbox_megabytes(fleet));
+    for (int times = 0; times < MOST_STEPS && outbox_megabytes(fleet) > 8; times++) ds_fleet_step(fleet, 1);
+    printf("without its replica: %u MB untold, told %d\n", outbox_megabytes(fleet), ds_fleet_is_told(fleet, first));
     ds_fleet_close(fleet);
     ds_close(&store);
 }
@@ -239,7 +239,7 @@ int main(int count, char **words) {
     waits(&one, words[2]);
     shares(&one, &two, words[1]);
     of_another_scope(&one, words[1]);
-    has_much_untold(words[1]);
+    has_long_outbox(words[1]);
     has_much_without_its_replica(words[1]);
     return ds_close(&one) != 0;
 }

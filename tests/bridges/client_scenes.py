@@ -11,12 +11,15 @@ import subprocess
 import threading
 import time
 
-from fleets import PATIENCE, ROOT, Gone, dsask, free_port, until
+from fleets import ROOT, Gone, dsask, free_port
 from scenes import number, numbers, offer, shows
+from waiting import PATIENCE, until
 
 PLACES = 512  # clients that a bridge serves at once
 ROOM = 64 << 20  # bytes of answers that may wait for all of them
-NATIVE = ("answers_that_nobody_reads", "places_are_for_clients_that_read", "few_descriptors_are_told", "many_refused_items", "many_costly_lines")  # not under valgrind's memory, pace and limits
+NATIVE = (  # not under valgrind's memory, pace and limits
+    "answers_that_nobody_reads", "places_are_for_clients_that_read", "few_descriptors_are_told", "many_refused_items", "many_costly_lines",
+)
 
 soft, hard = resource.getrlimit(resource.RLIMIT_NOFILE)
 resource.setrlimit(resource.RLIMIT_NOFILE, (hard if hard != resource.RLIM_INFINITY and hard < 8192 else 8192, hard))
@@ -203,7 +206,8 @@ def deaf(bridge, count, *lines):
 
 
 def answers_that_nobody_reads(fleet, draw):
-    """Clients that request much and read nothing use bounded memory, which is freed later. They delay neither short answers nor long ones."""
+    """Clients that request much and read nothing use bounded memory, which is freed later. They delay neither short answers nor long ones.
+    """
     bridge = fleet.start()
     offer(bridge, *large(1000))
     answer = 2 << 20
@@ -381,7 +385,9 @@ def what_a_log_line_is(fleet, draw):
     lines = bridge.said().splitlines()
     assert all(map(LOGGED.fullmatch, lines)), lines
     assert r'a \"quote\" and a \\ ?"' in bridge.said(), lines
-    assert [it.split()[:2] for it in lines if "serves" in it] == [["INFO", "event=serves"]] and any(it.startswith("WARN event=unread") for it in lines)
+    assert [it.split()[:2] for it in lines if "serves" in it] == [["INFO", "event=serves"]] and any(
+        it.startswith("WARN event=unread") for it in lines
+    )
 
 
 def what_a_log_line_is_in_json(fleet, draw):
@@ -426,12 +432,17 @@ def metrics_are_read(fleet, draw):
     until(lambda: other.state()["unread"] == "1", "it is read")
     with other.client() as more:
         assert more.ask("nameof 1/1") == ["refused notfound"]
-        now = until(lambda: (lambda it: it if it["dsfleet_in_step"] and not it["dsfleet_lag_seconds"] else None)(metrics_of(other)), "it is in step")
+        now = until(
+            lambda: (lambda it: it if it["dsfleet_in_step"] and not it["dsfleet_lag_seconds"] else None)(metrics_of(other)), "it is in step"
+        )
     state, version = other.state(), (ROOT / "VERSION").read_text().strip()
     wanted = {
-        "dsfleet_server_connected": 1, "dsfleet_entries": 7, "dsfleet_changes_total": 7, "dsfleet_lag_seconds": 0, "dsfleet_untold_bytes": 0,
-        "dsfleet_entries_told_total": float(state["told"]), "dsfleet_entries_read_total": float(state["read"]), "dsfleet_connections_total": 1,
-        "dsfleet_unread_total": 1, "dsfleet_differing_stores": 0, "dsfleet_clients": 2, "dsfleet_waiting_bytes": 0, ("dsfleet_build_info", version): 1,
+        "dsfleet_server_connected": 1, "dsfleet_entries": 7, "dsfleet_changes_total": 7, "dsfleet_lag_seconds": 0,
+        "dsfleet_untold_bytes": 0,
+        "dsfleet_entries_told_total": float(state["told"]), "dsfleet_entries_read_total": float(state["read"]),
+        "dsfleet_connections_total": 1,
+        "dsfleet_unread_total": 1, "dsfleet_differing_stores": 0, "dsfleet_clients": 2, "dsfleet_waiting_bytes": 0,
+        ("dsfleet_build_info", version): 1,
         ("dsfleet_refused_keys", "clash"): 1, ("dsfleet_refused_keys", "notowner"): 0,
     }
     assert {it: now.get(it) for it in wanted} == wanted, now
@@ -501,7 +512,9 @@ def asked_from_a_shell(fleet, draw):
         assert ran(ask, bridge.socket, stdin=given) == (0, wanted, "")
     assert ran(ask, bridge.socket, stdin=subprocess.DEVNULL) == (0, "", "")
     assert ran("sh", "-c", f"exec {ask} {bridge.socket} <&-") == (0, "", "")
-    assert ran(ask, bridge.socket, "retrieve a0 u32", "all", stdin=subprocess.DEVNULL)[:2] == (0, "".join(f"{it}\n" for it in ("found 7", *lines, "shown 3")))
+    assert ran(
+        ask, bridge.socket, "retrieve a0 u32", "all", stdin=subprocess.DEVNULL
+    )[:2] == (0, "".join(f"{it}\n" for it in ("found 7", *lines, "shown 3")))
     assert ran(ask, bridge.socket, input="all") == (0, "".join(f"{it}\n" for it in (*lines, "shown 3")), "")
     offer(bridge, *large(200))
     status, out, err = ran(ask, bridge.socket, input="all\n" * 100)
@@ -521,7 +534,9 @@ def asked_in_vain(fleet, draw):
         status, out, err = ran(ask, *words)
         assert (status, out) == (wanted, "") and part in err, f"{words}: {status} {out} {err}"
     fleet.pause_server()
-    with subprocess.Popen([ask, bridge.socket, f"offer {number('a', 1, 1)}"], stdout=subprocess.PIPE, stderr=subprocess.PIPE, text=True) as asks:
+    with subprocess.Popen(
+        [ask, bridge.socket, f"offer {number('a', 1, 1)}"], stdout=subprocess.PIPE, stderr=subprocess.PIPE, text=True
+    ) as asks:
         until(lambda: bridge.state()["untold"] != "0", "it has sent its line")
         bridge.kill()
         out, err = asks.communicate(timeout=PATIENCE)

@@ -1,11 +1,13 @@
-"""Scenes of compactions: a snapshot takes in nothing that the stream lacks, and no bridge trims what it didn't read. scenes.py lists these."""
+"""Scenes of compactions: a snapshot takes in nothing that the stream lacks, and no bridge trims what it didn't read. scenes.py lists these.
+"""
 import contextlib
 import threading
 import time
 
-from fleets import Clock, Fleet, Gone, until
+from fleets import Clock, Fleet, Gone
 from scenes import REST, number, numbers, offer, shows
 from scripted import SWALLOW, Scripted
+from waiting import until
 
 LOAD = 3  # seconds
 LOOKED = "HGETALL ds:digests"  # a bridge asks this after each look at the stream, whose answer it judges with this one's
@@ -32,7 +34,9 @@ def once_looked(script, bridge, work):
 
 
 def a_change_while_its_bridge_compacts(fleet, draw):
-    """A change takes effect while its bridge compacts. That bridge is killed once the snapshot is written: the others get the change all the same."""
+    """A change takes effect while its bridge compacts. That bridge is killed once the snapshot is written: the others get the change all
+    the same.
+    """
     script, lines, late = fleet.adopt(Scripted(fleet.port)), numbers("a", 30), number("late", 1, 1)
     other, bridge = fleet.start("--keep", "1000"), fleet.start("--keep", "20", url=script.url())
     with bridge.client() as client, bridge.client() as second:
@@ -105,7 +109,9 @@ def begun_anew(fleet, other, lines):
 
 
 def a_stream_begun_anew(fleet, draw):
-    """A stream is deleted, and begins anew with smaller ids. A bridge that hasn't noticed compacts nothing: it hasn't read what is there now."""
+    """A stream is deleted, and begins anew with smaller ids. A bridge that hasn't noticed compacts nothing: it hasn't read what is there
+    now.
+    """
     with two_with_a_stream(fleet) as (script, bridge, other), bridge.client() as client:
         far = number("far", 1, 1)
         fleet.ask("XADD", "ds:items", "99999999999999-0", "from", "x", "items", far + "\n")
@@ -145,9 +151,13 @@ def a_server_that_names_no_run(fleet, draw):
 
 
 def a_clock_that_goes_back(fleet, draw):
-    """A stream is deleted, and the server's clock goes back for a moment: the ids of what comes then are smaller, and those after it aren't."""
+    """A stream is deleted, and the server's clock goes back for a moment: the ids of what comes then are smaller, and those after it
+    aren't.
+    """
     clock = fleet.adopt(Clock())
-    with Fleet(fleet.words, named=clock.named) as late_fleet, two_with_a_stream(late_fleet) as (script, bridge, other), bridge.client() as client:
+    with Fleet(
+        fleet.words, named=clock.named
+    ) as late_fleet, two_with_a_stream(late_fleet) as (script, bridge, other), bridge.client() as client:
         time.sleep(REST)  # so that it has looked
         lines, after = numbers("b", 8), number("after", 1, 1)
 
@@ -171,7 +181,7 @@ def a_history_that_changes(fleet, draw):
     """A server becomes another's replica, and the master again, in one process. A bridge doesn't compact it before it has looked."""
     with Fleet([]) as replica, two_with_a_stream(fleet) as (script, bridge, _), bridge.client() as client:
         replica.follow(fleet)
-        script.script("XREAD", SWALLOW, 1 << 30)  # or the listener hears that the server becomes a replica
+        script.script("XREAD", SWALLOW, 1 << 30)  # or the consumer reads that the server becomes a replica
         until(lambda: script.asked["XREAD COUNT"] and bridge.state()["state"] == "instep", "it is in step")
         before = bridge.said()
 

@@ -1,28 +1,30 @@
 #!/usr/bin/env python3
-"""tests/bridges/explorer.py [COUNT [FIRST]]: draws schedules of what bridges decide, against a model of a server that loses, and checks laws.
+"""tests/bridges/explorer.py [COUNT [FIRST]]: draws schedules of what bridges decide, against a model of a server that loses, and checks
+laws.
 
-The decisions are those of daemon/fleet/*.c, without lines, connections and time. An item is a number, so a store holds a set. Two bridges share a
-server, and the events of clients, questions, answers and losses come in any order. COUNT schedules, or 3,000, begin with the seed FIRST, or
-0: none may break a law. Then guards are taken out of the decisions: for each of these wrong rules a schedule is sought that breaks a law, and
-shrunk until each of its events is needed. The last line is 'N passed, M failed'.
+The decisions are those of daemon/fleet/*.c, without lines, connections and time. An item is a number, so a store holds a set. Two bridges
+share a server, and the events of clients, questions, answers and losses come in any order. COUNT schedules, or 3,000, begin with the seed
+FIRST, or 0: none may break a law. Then guards are taken out of the decisions: for each of these wrong rules a schedule is sought that
+breaks a law, and shrunk until each of its events is needed. The last line is 'N passed, M failed'.
 
-The laws: an answer was true at some moment after its line came; a compaction takes nothing from the server; a snapshot has only what an entry
-had; a bridge holds what it has read; what it holds is on the server, or is to be sent. A premise: no stream has an id that another one had.
+The laws: an answer was true at some moment after its line came; a compaction takes nothing from the server; a snapshot has only what an
+entry had; a bridge holds what it has read; what it holds is on the server, or is to be sent. A premise: no stream has an id that another
+one had.
 """
 import random
 import sys
 
 COUNT, SOUGHT, LENGTH = 3000, 20000, 80  # schedules; those in which a law is to be broken; events of one
-ITEMS, ROOM, ROOM_ASIDE, KEEP = 8, 4, 1, 1
+ITEMS, ROOM, ROOM_DEAD, KEEP = 8, 4, 1, 1
 NO_ENTRY = (0, 0)
 LOSSES = ("stream", "stream", "all", "another", "back", "forward")  # the last two are the clock's
-GUARDS = frozenset(("untold", "entry", "witnesses", "known", "lost", "aside", "after", "owed", "asked"))
+GUARDS = frozenset(("outbox", "entry", "probes", "known", "lost", "dead_letters", "after", "owed", "asked"))
 WRONG = {  # rules, and the guards that they lack
-    "a snapshot takes in what no entry has": ("untold",),
-    "a compaction trims any stream": ("entry", "witnesses"),
+    "a snapshot takes in what no entry has": ("outbox",),
+    "a compaction trims any stream": ("entry", "probes"),
     "a compaction replaces any snapshot": ("entry", "known"),
     "a compaction drops what no store here holds": ("lost",),
-    "what was refused isn't sent again": ("aside",),
+    "what was refused isn't sent again": ("dead_letters",),
     "a look that began before a line answers it": ("after",),
     "a look that finds a loss answers a line": ("owed",),
     "what was held is answered at once": ("asked",),
@@ -59,7 +61,10 @@ class Server:
 
     def stock(self):
         at = NO_ENTRY if self.at > self.generated else self.at
-        return {"snapshot": at, "generated": self.generated, "added": self.added, "gone": self.added - len(self.entries) - self.trimmed, "history": self.history, "losses": self.losses}
+        return {
+            "snapshot": at, "generated": self.generated, "added": self.added, "gone": self.added - len(self.entries) - self.trimmed,
+            "history": self.history, "losses": self.losses
+        }
 
 
 class Trail:
@@ -81,12 +86,12 @@ class Trail:
 
 
 class Bridge:
-    """The decisions of one bridge. `question` is the teller's, and `answer` what the server said to it."""
+    """The decisions of one bridge. `question` is the producer's, and `answer` what the server said to it."""
 
     def __init__(self, name, guards):
         self.name, self.guards = name, guards
-        self.store, self.aside, self.lost, self.noted = set(), set(), False, None
-        self.untold, self.sent, self.told, self.gathered, self.owes = [], 0, 0, 0, False
+        self.store, self.dead_letters, self.lost, self.noted = set(), set(), False, None
+        self.outbox, self.sent, self.told, self.gathered, self.owes = [], 0, 0, 0, False
         self.met, self.caught_up, self.is_long, self.looks_due = False, False, False, False
         self.asked_looks, self.wanted, self.good, self.good_at, self.seen, self.gathered_at = 0, 0, 0, 0, 0, 0
         self.question = self.answer = None
@@ -106,19 +111,19 @@ class Bridge:
         self.sent, self.good, self.stock, self.noticed = 0, 0, stock, stock["losses"]
         self.read_from_start()
 
-    def witnesses(self):
+    def probes(self):
         return [it for trail in self.trails.values() for it in (trail.sure, trail.first)]
 
     # ---- the store ----
 
     def take(self, items):
         for item in items:
-            if item in self.store or item in self.aside:
+            if item in self.store or item in self.dead_letters:
                 continue
             if len(self.store) < ROOM:
                 self.store.add(item)
-            elif len(self.aside) < ROOM_ASIDE:
-                self.aside.add(item)
+            elif len(self.dead_letters) < ROOM_DEAD:
+                self.dead_letters.add(item)
             else:
                 self.lost = True
         if self.noted is not None:
@@ -134,7 +139,7 @@ class Bridge:
             self.waiting.append([item, self.wanted if is_look else self.gathered, is_look, False])
         elif len(self.store) < ROOM:
             self.store.add(item)
-            self.untold.append(item)
+            self.outbox.append(item)
             self.gathered += 1
             self.waiting.append([item, self.gathered, False, False])
 
@@ -147,16 +152,16 @@ class Bridge:
     def has_seen(self, look):
         return self.seen >= look or (self.good >= look and self.told >= self.good_at)
 
-    # ---- the teller ----
+    # ---- the producer ----
 
     def ask(self):
         """Asks the next question, as ask_next of ds_fleet.c chooses it."""
         if self.question:
             return
         if self.owes and self.state == "end" and self.met:
-            owed = self.store | (self.aside if "aside" in self.guards else set())
+            owed = self.store | (self.dead_letters if "dead_letters" in self.guards else set())
             fresh = sorted(owed - (self.noted or set()))
-            self.untold += fresh
+            self.outbox += fresh
             self.gathered += len(fresh)
             self.owes, self.noted = False, None
         if not self.met:
@@ -169,9 +174,9 @@ class Bridge:
             self.question = ("watch",)
         elif self.is_look_due():
             self.ask_to_look()
-        elif self.untold:
-            self.sent = len(self.untold)
-            self.question = ("add", frozenset(self.untold))
+        elif self.outbox:
+            self.sent = len(self.outbox)
+            self.question = ("add", frozenset(self.outbox))
 
     def is_overfull(self):
         return self.lost and "lost" in self.guards
@@ -183,7 +188,7 @@ class Bridge:
     def ask_to_look(self):
         self.asked_looks += 1
         self.gathered_at, self.asked, self.looks_due = self.gathered, self.last, False
-        self.question = ("look", self.witnesses())
+        self.question = ("look", self.probes())
         for trail in self.trails.values():
             trail.ask()
 
@@ -193,17 +198,17 @@ class Bridge:
         may = self.state == "end" and self.said is not None and not self.is_overfull() and not self.owes
         if not may or ("known" in self.guards and not is_known):
             return None
-        self.sent = len(self.untold)
-        added = frozenset(self.untold) if "untold" in self.guards else frozenset()
-        missing = [it for it in self.witnesses() if it > at] if "witnesses" in self.guards else []
-        return ("write", version, dict(self.stock), self.last, self.said, missing, added, frozenset(self.store | self.aside))
+        self.sent = len(self.outbox)
+        added = frozenset(self.outbox) if "outbox" in self.guards else frozenset()
+        missing = [it for it in self.probes() if it > at] if "probes" in self.guards else []
+        return ("write", version, dict(self.stock), self.last, self.said, missing, added, frozenset(self.store | self.dead_letters))
 
     def tell(self, entry):
         self.trails["told"].add(entry)
         self.drop_told()
 
     def drop_told(self):
-        self.untold, self.told, self.sent = self.untold[self.sent :], self.told + self.sent, 0
+        self.outbox, self.told, self.sent = self.outbox[self.sent :], self.told + self.sent, 0
 
     def look_for_loss(self, stock, lacks):
         before = self.stock
@@ -256,7 +261,7 @@ class Bridge:
         if self.good <= self.seen:
             self.good, self.good_at = self.asked_looks, self.gathered_at
 
-    # ---- the listener ----
+    # ---- the consumer ----
 
     def read(self, server):
         if not self.met or self.state == "gap":
@@ -371,14 +376,14 @@ class World:
             if any(not it[3] for it in bridge.released()):
                 return "an answer is true at some moment after its line came"
             in_step = bridge.met and bridge.state == "end" and bridge.noticed == self.server.losses and not bridge.question
-            bridge.caught_up |= in_step and not bridge.untold and not bridge.owes
+            bridge.caught_up |= in_step and not bridge.outbox and not bridge.owes
             if not in_step or bridge.owes:
                 continue
-            held = bridge.store | bridge.aside
+            held = bridge.store | bridge.dead_letters
             read = set().union(*(items for entry, (_, items) in self.server.entries.items() if entry <= bridge.last))
             if read - held and not bridge.lost:
                 return "what a bridge has read it holds"
-            if held - content - set(bridge.untold):
+            if held - content - set(bridge.outbox):
                 return "what it holds is on the server, or is to be told"
         return None
 

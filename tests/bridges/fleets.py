@@ -1,4 +1,4 @@
-"""A redis server, bridges and clients for tests/fleet: how they are started, queried, paused, killed and meddled with.
+"""A redis server, bridges and clients for tests/bridges/run: how they are started, queried, paused, killed and meddled with.
 
 Each server is a process in a folder of its own, on a free port of the loopback. Each bridge is a `dsfleet` with a socket there.
 """
@@ -16,8 +16,9 @@ import tempfile
 import threading
 import time
 
+from waiting import PATIENCE, until
+
 ROOT = pathlib.Path(__file__).resolve().parent.parent.parent
-PATIENCE = 60  # seconds that anything may take, on a busy machine, too
 TICK = 0.005
 FAULT = re.compile(r"^.*(ERROR: |runtime error|==\d+== ).*$", re.MULTILINE)  # of a sanitizer, or of valgrind
 DOWN_AFTER = 2000  # milliseconds after which a Sentinel considers a master dead: a busy one may be silent for some hundred
@@ -30,18 +31,6 @@ class Gone(Exception):
 
 class Skipped(Exception):
     """Why a scene can't be played here."""
-
-
-def until(so, what, seconds=PATIENCE):
-    """Waits until `so` returns something true, and returns that. Otherwise it fails and names what was waited for."""
-    end = time.monotonic() + seconds
-    while True:
-        found = so()
-        if found:
-            return found
-        if time.monotonic() > end:
-            raise AssertionError(f"not within {seconds} s: {what}")
-        time.sleep(TICK)
 
 
 def build(library, program, *flags, folder=ROOT / "daemon" / "dsfleet"):
@@ -66,8 +55,13 @@ def build_over(library, program, source, *flags):
     page = subprocess.run(["rt", "doc"], capture_output=True, text=True, check=True).stdout.split()[0]
     heap = os.environ.get("DS_HEAP") or pathlib.Path(page).parent / "c" / "liblibc_c.a"
     parts = [ROOT / "daemon" / "serve" / "text.c", *(ROOT / "daemon" / "fleet").glob("*.c")]
-    words = [os.environ.get("CC", "cc"), "-std=c11", "-pthread", "-D_GNU_SOURCE", "-Wall", "-Wextra", "-Wpedantic", "-Werror", "-O2", *flags]
-    subprocess.run([*words, "-I", ROOT / "c", "-I", ROOT / "daemon" / "serve", "-I", ROOT / "daemon" / "fleet", "-o", program, source, *parts, library, heap, "-lhiredis"], check=True)
+    words = [
+        os.environ.get("CC", "cc"), "-std=c11", "-pthread", "-D_GNU_SOURCE", "-Wall", "-Wextra", "-Wpedantic", "-Werror", "-O2", *flags,
+    ]
+    subprocess.run([
+        *words, "-I", ROOT / "c", "-I", ROOT / "daemon" / "serve", "-I", ROOT / "daemon" / "fleet", "-o", program, source, *parts, library,
+        heap, "-lhiredis"
+    ], check=True)
     return program
 
 
@@ -82,7 +76,8 @@ class Fleet:
 
     def __init__(self, words, keep=None, syncs="everysec", host="127.0.0.1", port=None, settings=(), named=()):
         self.words, self.keep, self.syncs = words, keep, syncs  # the command that starts a bridge; when the server syncs its file
-        self.host, self.settings, self.named = host, settings, dict(named)  # the server's address, more of its options, and of its environment
+        # The server's address, more of its options, and of its environment.
+        self.host, self.settings, self.named = host, settings, dict(named)
         self.home = tempfile.mkdtemp(prefix="fleet", dir=MEMORY if os.access(MEMORY, os.W_OK) else None)
         self.bridges, self.server, self.port = [], None, port or free_port()
         self.adopted = contextlib.ExitStack()
@@ -208,7 +203,9 @@ class Fleet:
 
     def agree(self, seconds=PATIENCE):
         """Waits until all hold the same, and returns that."""
-        views = until(lambda: (lambda them: them if len(set(map(tuple, them))) == 1 else None)([it.all() for it in self.bridges]), "all hold the same", seconds)
+        views = until(lambda: (
+            lambda them: them if len(set(map(tuple, them))) == 1 else None
+        )([it.all() for it in self.bridges]), "all hold the same", seconds)
         return views[0]
 
 
@@ -224,7 +221,10 @@ class Bridge:
     def start(self):
         keep = ["--keep", str(self.fleet.keep)] if self.fleet.keep else []
         with open(self.log, "ab") as log:
-            self.process = subprocess.Popen([*self.fleet.words, *keep, *self.options, self.socket, self.url], stderr=log, stdin=subprocess.DEVNULL, env=os.environ | self.named)
+            self.process = subprocess.Popen(
+                [*self.fleet.words, *keep, *self.options, self.socket, self.url], stderr=log, stdin=subprocess.DEVNULL,
+                env=os.environ | self.named
+            )
         self.starts += 1
 
     def serves(self):
@@ -348,7 +348,7 @@ class Client:
 
 class Proxy:
     """Carries what a bridge and the server send each other, except on connections that it swallows. Nothing of those is passed on, and
-    neither end notices. Connections are counted from 0; a bridge's first one is its teller, its second one its listener."""
+    neither end notices. Connections are counted from 0; a bridge's first one is its producer, its second one its consumer."""
 
     def __init__(self, port, *swallowed):
         self.port, self.muted, self.listener = port, set(swallowed), socket.create_server(("127.0.0.1", 0))
@@ -363,7 +363,7 @@ class Proxy:
         return f"redis://127.0.0.1:{self.port_of()}"
 
     def mute(self):
-        """Swallows the listeners of all bridges that are connected."""
+        """Swallows the consumers of all bridges that are connected."""
         self.muted = {it for it in range(self.count) if it % 2}
 
     def cut(self):
@@ -373,7 +373,7 @@ class Proxy:
             shut(it)
 
     def blip(self):
-        """Cuts all connections, and swallows the next listener."""
+        """Cuts all connections, and swallows the next consumer."""
         self.muted = {self.count + 1}
         self.cut()
 

@@ -1,9 +1,10 @@
 #!/usr/bin/env python3
 """tests/bridges/history.py [--bound SECONDS] LOG ..: checks whether the answers that clients of bridges got have a legal order.
 
-Each line of a log is a JSON object, with times in seconds of one clock, and `store` and `run` of the bridge that was called. A change has `text`,
-its line; `asked`, when it was sent; and `answered`, or null if no answer came. A read has `client`, one connection; `asked` and `answered`; and
-`shown`, the lines of changes and floors. A `final` read was made after all changes and shows all that its store holds. The rules for each key:
+Each line of a log is a JSON object, with times in seconds of one clock, and `store` and `run` of the bridge that was called. A change has
+`text`, its line; `asked`, when it was sent; and `answered`, or null if no answer came. A read has `client`, one connection; `asked` and
+`answered`; and `shown`, the lines of changes and floors. A `final` read was made after all changes and shows all that its store holds. The
+rules for each key:
 
     invented   a read shows a change that no client had sent by then
     back       a later read of the same client shows an older version

@@ -4,8 +4,9 @@ import json
 import subprocess
 import sys
 
-from fleets import PATIENCE, ROOT
+from fleets import ROOT
 from history import History
+from waiting import PATIENCE
 
 LEGAL = [
     {"store": "a", "run": 1, "text": "k u32 d 1.1 = 1", "asked": 1, "answered": 2},

@@ -5,8 +5,9 @@ import stat
 import subprocess
 import time
 
-from fleets import PATIENCE, Client, Skipped, until
+from fleets import Client, Skipped
 from scenes import number, numbers, offer, shows
+from waiting import PATIENCE, until
 
 STRANGER, WRITERS, READERS = 12345, 23456, 34567  # a user and groups that nobody has
 PASSED = """
@@ -128,7 +129,9 @@ def an_endpoint_of_a_connection(fleet, draw):
         assert driver.ask("as 3/17") == ["as 3/17"]
         assert driver.ask("as 3/17") == driver.ask("as 3/18") == ["refused notallowed"]
         assert driver.ask("publish 3/17 new eth0.mtu u32 3.0 = 1500") == ["taken"]
-        for line in ("publish 0/2 over eth0 label 4.0 = 4/17", "sweep 0/2 eth0 3", "delete 3/1 eth0.mtu u32 3.1", f"offer {number('a', 1, 1)}"):
+        for line in (
+            "publish 0/2 over eth0 label 4.0 = 4/17", "sweep 0/2 eth0 3", "delete 3/1 eth0.mtu u32 3.1", f"offer {number('a', 1, 1)}"
+        ):
             assert driver.ask(line) == ["refused notsender"], line
         assert driver.ask("delete 3/17 eth0.mtu u32 3.1") == ["taken"]
 
@@ -141,7 +144,9 @@ def an_endpoint_of_a_client_that_hangs_up(fleet, draw):
     bridge.pause()
     for at in range(9):
         with bridge.client() as driver:
-            driver.send("as 3/17", "as 0/2", f"publish 0/2 new forged{at} label 1.0 = 1/{at + 20}", f"publish 3/17 new eth0.own{at} u32 3.{at} = 1")
+            driver.send(
+                "as 3/17", "as 0/2", f"publish 0/2 new forged{at} label 1.0 = 1/{at + 20}", f"publish 3/17 new eth0.own{at} u32 3.{at} = 1"
+            )
     bridge.resume()
     until(lambda: sum("eth0.own" in it for it in bridge.all()) == 9, "what it changes under its own endpoint is held")
     assert not any("forged" in it for it in bridge.all()), bridge.all()
@@ -158,14 +163,18 @@ def subscriptions_end_with_their_client(fleet, draw):
         assert other.ask("listen 40") == ["listening 40"]
         assert other.ask('subscribe "b.*" 2 first new') == ["subscribed 2", "sub 127"]
         assert other.ask('subscribe "b.*" 2 first new') == ["subscribed 3", "sub 126"]
-        assert first.ask('subscribe "(" 2 first new') == ["refused badpattern"] == first.ask('subscribe 40 "(" 2 first over') == ["refused badpattern"]
+        assert first.ask('subscribe "(" 2 first new') == ["refused badpattern"] == first.ask(
+            'subscribe 40 "(" 2 first over'
+        ) == ["refused badpattern"]
         assert first.ask("check 127 8") == ["refused notallowed"]
         for it in range(125, -1, -1):
             if it != 40:
                 assert other.ask('subscribe "c" 2 later new')[-1] == f"sub {it}"
         assert other.ask('subscribe "c" 2 later new') == ["refused toomany"]
         first.it.close()
-        assert until(lambda: (lambda it: it if it != ["refused notallowed"] else None)(other.ask('subscribe 40 "b.*" 2 first new')), "it is free")[0].startswith("subscribed ")
+        assert until(
+            lambda: (lambda it: it if it != ["refused notallowed"] else None)(other.ask('subscribe 40 "b.*" 2 first new')), "it is free"
+        )[0].startswith("subscribed ")
 
 
 def limits_of_clients(fleet, draw):
@@ -211,5 +220,7 @@ def passwords_that_nobody_sees(fleet, draw):
             assert b"secret" not in words.read()
     warned = ["event=password" in it.said() for it in bridges]
     assert warned == [False, False, True, False, False], warned
-    status = subprocess.run([*fleet.words, "--password-file", f"{file}.none", bridges[0].socket, url], capture_output=True, text=True, timeout=PATIENCE)
+    status = subprocess.run(
+        [*fleet.words, "--password-file", f"{file}.none", bridges[0].socket, url], capture_output=True, text=True, timeout=PATIENCE
+    )
     assert status.returncode == 2 and "password file" in status.stderr, status

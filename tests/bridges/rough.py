@@ -109,8 +109,9 @@ class Rude(threading.Thread):
 
 
 class Prober(threading.Thread):
-    """A client that sends queries all the time. `slowest` is the seconds of the slowest answer; a stopped bridge's don't count. `late` is by how
-    much the machine delayed its longest rest."""
+    """A client that sends queries all the time. `slowest` is the seconds of the slowest answer; a stopped bridge's don't count. `late` is
+    by how much the machine delayed its longest rest.
+    """
 
     def __init__(self, bridge):
         super().__init__(daemon=True)

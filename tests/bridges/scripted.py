@@ -4,7 +4,8 @@ import queue
 import socket
 import threading
 
-from fleets import Proxy, shut, until
+from fleets import Proxy, shut
+from waiting import until
 
 CUT = object()  # instead of an answer: the connection ends
 SWALLOW = object()  # no answer comes, and the connection stays open
@@ -31,8 +32,9 @@ class Scripted(Proxy):
         super().__init__(port)
 
     def script(self, question, made, times=1, whole=False):
-        """Scripts answers to questions that begin with `question`. `made` is bytes, CUT, SWALLOW, or a function of the server's answer, which
-        may return an iterator of pieces."""
+        """Scripts answers to questions that begin with `question`. `made` is bytes, CUT, SWALLOW, or a function of the server's answer,
+        which may return an iterator of pieces.
+        """
         rule = Rule(question, made, times, whole)
         with self.lock:
             self.rules.append(rule)

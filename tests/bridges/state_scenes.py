@@ -1,15 +1,17 @@
-"""The tables of daemon/fleet/, cell by cell: each state of a part of a bridge meets each event, over a scripted server. scenes.py lists these.
+"""The tables of daemon/fleet/, cell by cell: each state of a part of a bridge meets each event, over a scripted server. scenes.py lists
+these.
 
-A table has lines ` *   STATE, .. | event | becomes, and does`: a cell for each of the states. A scene names each cell that it walks, and fails if
-the file has a cell that isn't walked.
+A table has lines ` *   STATE, .. | event | becomes, and does`: a cell for each of the states. A scene names each cell that it walks, and
+fails if the file has a cell that isn't walked.
 """
 import contextlib
 import re
 import time
 
-from fleets import ROOT, free_port, until
+from fleets import ROOT, free_port
 from scenes import number, numbers, offer, shows
 from scripted import CUT, SWALLOW, Scripted
+from waiting import until
 
 ERROR, TYPE, DEMOTED = b"-ERR scripted\r\n", b"*1\r\n:1\r\n", b"-READONLY scripted\r\n"
 NOTHING = b"*-1\r\n"
@@ -129,10 +131,10 @@ def states_of_the_server(fleet, draw):
         until(lambda: connections(bridge) > before, "both connections are made anew")
         told(fleet, *kept)
         walk("MET | a loss, or all is read once more")
-        script.script("INFO", bytes, whole=True)  # the teller's
+        script.script("INFO", bytes, whole=True)  # the producer's
         script.script("INFO", of_another_run, whole=True)
         reconnects(bridge, lambda: says(bridge, "lead to two servers") if not script.cut() else None)
-        walk("MET | the listener is at another server")
+        walk("MET | the consumer is at another server")
 
         for event, answer in (("an error of a demoted server", DEMOTED), ("a connection is lost, or is silent", CUT)):
             script.script("INFO", answer, whole=True)
@@ -205,8 +207,8 @@ def states_of_the_master(fleet, draw):
     walk.ends()
 
 
-def states_of_telling(fleet, draw):
-    with walking(fleet, "telling", "--replicas", "1", "--within", "50") as (walk, script, bridge):
+def states_of_producing(fleet, draw):
+    with walking(fleet, "producing", "--replicas", "1", "--within", "50") as (walk, script, bridge):
         enough = script.script("WAIT", b":1\r\n", 1 << 30)
         lines = numbers("a", 20)
 
@@ -446,8 +448,8 @@ def states_of_compacting(fleet, draw):
         walk("WATCHES | not all is read, or it can't be kept")
 
 
-def states_of_comparing(fleet, draw):
-    with walking(fleet, "comparing") as (walk, script, bridge):
+def states_of_anti_entropy(fleet, draw):
+    with walking(fleet, "anti_entropy") as (walk, script, bridge):
         lines = numbers("a", 9)
         for line in lines:
             offer(bridge, line)

@@ -1,8 +1,8 @@
 """Publishers work at some bridges for a while, under kills and meddling. Then all stores must hold the same, as the model predicts.
 
 A rough storm also has failovers, swallowed connections, bridges of another scope, and clients that hang up or read nothing. In a Sentinel's
-storm masters are killed, a Sentinel promotes the replica, and a change is answered once the replica has it. So nothing is lost, whatever dies
-after that, and whatever the Sentinel of a busy machine takes for dead. A seed never chooses this kind.
+storm masters are killed, a Sentinel promotes the replica, and a change is answered once the replica has it. So nothing is lost, whatever
+dies after that, and whatever the Sentinel of a busy machine takes for dead. A seed never chooses this kind.
 """
 import collections
 import contextlib
@@ -13,9 +13,10 @@ import random
 import threading
 import time
 
-from fleets import Fleet, Gone, Sentinel, until
+from fleets import Fleet, Gone, Sentinel
 from history import History
 from rough import Prober, Rapids, Rude
+from waiting import until
 
 from model import lines as reader
 from model.store import Store
@@ -35,7 +36,8 @@ FOLLOWED = ("--repl-diskless-sync-delay", "0")  # an empty replica gets everythi
 
 # Commands by hand, as a user with the keys may send them.
 HANDS = (
-    ["CLIENT", "KILL", "TYPE", "normal"], ["XTRIM", "ds:items", "MAXLEN", 0], ["FLUSHALL"], ["DEL", "ds:items"], ["DEL", "ds:snapshot"], ["DEL", "ds:digests"],
+    ["CLIENT", "KILL", "TYPE", "normal"], ["XTRIM", "ds:items", "MAXLEN", 0], ["FLUSHALL"], ["DEL", "ds:items"], ["DEL", "ds:snapshot"],
+    ["DEL", "ds:digests"],
     ["XADD", "ds:items", "*", "from", "x", "items", "junk"], ["XADD", "ds:items", "*", "other", "field"], ["CLIENT", "PAUSE", 150, "WRITE"],
     ["HSET", "ds:snapshot", "at", "9999999999999-0", "items", ""], ["HDEL", "ds:snapshot", "items"], ["HSET", "ds:digests", "x", "y"],
 )
@@ -99,8 +101,8 @@ class Publisher(threading.Thread):
     """Publishes and deletes entries of its own at its bridge. Now and then its driver dies, is swept, and returns in the next generation.
 
     Publishers with odd numbers offer items. Those with even ones act as RS and a driver with a label, whose commands the store judges. Each
-    connection begins a generation above all that the store holds and all that this publisher ever sent: a change without an answer may still
-    take effect, also after a failover, and the store of a restarted bridge need not hold it. So a refusal is always a fault.
+    connection begins a generation above all that the store holds and all that this publisher ever sent: a change without an answer may
+    still take effect, also after a failover, and the store of a restarted bridge need not hold it. So a refusal is always a fault.
     """
 
     def __init__(self, bridge, number, seed):
@@ -156,7 +158,9 @@ class Publisher(threading.Thread):
         for key, line in newest.items():
             if not covered(line, held.get(key), floor):
                 raise Lost(f"{self.bridge.socket} has {held.get(key)}, floor {floor}, but {line} was answered")
-        self.generation = max([self.generation, floor, *(generation_of(line) for key, line in held.items() if key.startswith(f"host{self.number}."))])
+        self.generation = max(
+            [self.generation, floor, *(generation_of(line) for key, line in held.items() if key.startswith(f"host{self.number}."))]
+        )
         self.seqs, self.waiting = {}, self.reborn()
 
     def reborn(self):
@@ -380,7 +384,8 @@ class Storm:
         old.kill_server()
         until(lambda: self.sentinel.master_port() == new.port, "the Sentinel chooses the replica", 60)
         old.start_server()
-        until(lambda: patient(lambda: old.ask("REPLICAOF", new.host, new.port)), "the old one is a replica")  # as the Sentinel would, some seconds later
+        # As the Sentinel would, some seconds later.
+        until(lambda: patient(lambda: old.ask("REPLICAOF", new.host, new.port)), "the old one is a replica")
         self.master, self.replica = new, old
 
     def meet_stranger(self, fleet):

@@ -6,8 +6,9 @@ import shutil
 import subprocess
 import time
 
-from fleets import PATIENCE, ROOT, Fleet, Names, Proxy, Skipped, free_port, until
+from fleets import ROOT, Fleet, Names, Proxy, Skipped, free_port
 from scenes import number, numbers, offer, shows
+from waiting import PATIENCE, until
 
 NAME = "redis.example.org"  # the server's, on the page
 KEY = ("-newkey", "ec", "-pkeyopt", "ec_paramgen_curve:P-256", "-nodes", "-days", "2")
@@ -26,7 +27,9 @@ def certify(home):
     """Makes a CA, and the keys and certificates of the server and of a host."""
 
     def openssl(name, *words):
-        words = ["openssl", "req", "-x509", *KEY, "-subj", f"/CN={name}", *words, "-keyout", f"{home}/{name}.key", "-out", f"{home}/{name}.pem"]
+        words = [
+            "openssl", "req", "-x509", *KEY, "-subj", f"/CN={name}", *words, "-keyout", f"{home}/{name}.key", "-out", f"{home}/{name}.pem",
+        ]
         subprocess.run(words, check=True, capture_output=True)
 
     openssl("ca")
@@ -152,7 +155,9 @@ def tls_of_a_bridge(fleet, draw):
             server.bridges.remove(lost)
             assert lost.end() == 0
             os.remove(lost.log)
-        for options in (("--cacert", f"{home}/none"), ("--cert", f"{home}/host.pem"), ("--cert", f"{home}/host.pem", "--key", f"{home}/ca.key")):
+        for options in (
+            ("--cacert", f"{home}/none"), ("--cert", f"{home}/host.pem"), ("--cert", f"{home}/host.pem", "--key", f"{home}/ca.key")
+        ):
             refused = ran(fleet, *options, f"{home}/s", url)
             assert refused.returncode == 2 and "event=badtls" in refused.stderr and "TLS: " in refused.stderr, refused
         assert ran(fleet, *files, f"{home}/s", f"redis://127.0.0.1:{server.port}").returncode == 2, "files without TLS are ignored"

@@ -9,7 +9,8 @@ import threading
 
 import fleets
 import supervisors
-from players import ROOT, Skipped, equal, until
+from players import ROOT, Skipped, equal
+from waiting import until
 
 SCENES = []
 
@@ -191,17 +192,15 @@ def shape(lines):
     return [it for at, it in enumerate(plain) if not at or it != plain[at - 1]]
 
 
-@scene
-@only("c")
-def the_session_of_the_guide(stage):
-    """The client of docs/guide/client.md prints what the page shows, when the page's commands kill the service and dsrs."""
+def play_the_guide(stage, run):
+    """Plays the session of docs/guide/client.md with a program as the service: the client prints what the page shows."""
     page = (ROOT / "docs/guide/client.md").read_text()
     compiles = re.search(r"^    (cc .*)$", page, re.MULTILINE)[1].replace("/tmp/follow", f"{stage.home}/follow")
     kills = re.search(r"^    \$ (kill -9 .*dsask.*)$", page, re.MULTILINE)[1]
     wanted = shape(re.search(r"\$ /tmp/follow /tmp/socket\n((?:    .*\n)+)", page)[1].splitlines())
     subprocess.run(["sh", "-c", compiles], cwd=ROOT, check=True)
     it = stage.enter(supervisors.Host([stage.built.room / "dsrs"], stage.built.room))
-    it.service("count", f"#!/bin/sh\nPYTHONPATH={stage.built.package} exec python3 {ROOT}/examples/client/count/run\n")
+    it.service("count", f"#!/bin/sh\n{run}\n")
     it.start(settings=(ROOT / "examples/client/settings.toml").read_text())
     it.logged("ready count 1/16")
     with open(stage.home / "said", "w") as said:
@@ -217,6 +216,23 @@ def the_session_of_the_guide(stage):
     follow.kill()
     follow.wait()
     it.end()
+
+
+@scene
+@only("c")
+def the_session_of_the_guide(stage):
+    """The client of docs/guide/client.md prints what the page shows, when the page's commands kill the service and dsrs."""
+    play_the_guide(stage, f"PYTHONPATH={stage.built.package} exec python3 {ROOT}/examples/client/count/run")
+
+
+@scene
+@only("c")
+def the_service_of_the_guide_in_c(stage):
+    """The same session, with the service that the page compiles."""
+    page = (ROOT / "docs/guide/client.md").read_text()
+    compiles = re.search(r"`(cc .* examples/client/count\.c .*)`", page)[1].replace("/tmp/client/count/run", f"{stage.home}/count")
+    subprocess.run(["sh", "-c", compiles], cwd=ROOT, check=True)
+    play_the_guide(stage, f"exec {stage.home}/count")
 
 
 # ---- a dsfleet ----

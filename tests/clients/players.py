@@ -1,4 +1,4 @@
-"""Players of the libraries for clients, one a language, and a daemon whose answers a scene scripts, for tests/client."""
+"""Players of the libraries for clients, one a language, and a daemon whose answers a scene scripts, for tests/clients/run."""
 import os
 import pathlib
 import select
@@ -8,10 +8,10 @@ import subprocess
 import sys
 import tempfile
 import threading
-import time
+
+from waiting import PATIENCE, until
 
 ROOT = pathlib.Path(__file__).resolve().parent.parent.parent
-PATIENCE = 60  # seconds that anything may take
 LANGUAGES = ("c", "python", "rust")
 
 
@@ -21,17 +21,6 @@ class Skipped(Exception):
 
 def equal(got, wanted):
     assert got == wanted, f"{got!r} instead of {wanted!r}"
-
-
-def until(so, what, seconds=PATIENCE):
-    """Waits until `so` returns something true, and returns that."""
-    end = time.monotonic() + seconds
-    while True:
-        found = so()
-        if found:
-            return found
-        assert time.monotonic() < end, f"not within {seconds} s: {what() if callable(what) else what}"
-        time.sleep(0.01)
 
 
 class Player:

@@ -5,7 +5,8 @@ import socket
 import threading
 import time
 
-from players import PATIENCE, ROOT, Peer, Player, equal
+from players import ROOT, Peer, Player, equal
+from waiting import PATIENCE
 
 SCENES = []
 

@@ -23,7 +23,9 @@ def blocks(text):
 
 
 def without(text, errors):
-    """Returns the text without the definitions that have an error or use such a one, and their names. `errors` are line numbers with messages."""
+    """Returns the text without the definitions that have an error or use such a one, and their names. `errors` are line numbers with
+    messages.
+    """
     lines, gone, unknown = text.split("\n"), set(), set()
     parts = blocks(text)
     for name, first, last in parts:
@@ -58,7 +60,9 @@ def broken(lines, folder="proofs/"):
 
 
 def dropped(lines, read):
-    """Returns what a check's lines leave of the files of answers, by path, and the answers that go, each with its path. `read` reads a file."""
+    """Returns what a check's lines leave of the files of answers, by path, and the answers that go, each with its path. `read` reads a
+    file.
+    """
     errors = {}
     for line in lines:
         it = BROKEN.match(line.removeprefix("note: "))

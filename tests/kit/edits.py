@@ -13,9 +13,9 @@ class BadEdit(Exception):
 
 
 def pairs(edit, crate):
-    """Returns the edit's 'old:' and 'new:' texts, each with the path of its file in the crate."""
+    """Returns the edit's 'old:' and 'new:' texts, each with the path of its file in the crate. Each text is the rest of one line."""
     path, old, found = None, None, []
-    for line in edit.read_text().split("\n"):
+    for number, line in enumerate(edit.read_text().split("\n"), 1):
         word, _, rest = line.partition(":")
         rest = rest.removeprefix(" ")
         if word == "file":
@@ -23,12 +23,18 @@ def pairs(edit, crate):
             if path.split("/")[0] not in PARTS or not (crate / path).is_file():
                 raise BadEdit(f"there is no file {path}")
         elif word == "old":
+            if old is not None:
+                raise BadEdit(f"line {number}: the 'old:' line before it has no 'new:' line")
             old = rest
         elif word == "new":
             if path is None or not old:
                 raise BadEdit("a 'new:' line comes before any 'file:' or 'old:' line")
             found.append((path, old, rest))
             old = None
+        elif line.strip():
+            raise BadEdit(f"line {number} begins with neither 'file:', 'old:' nor 'new:': a text is the rest of one line")
+    if old is not None:
+        raise BadEdit("its last 'old:' line has no 'new:' line")
     if not found:
         raise BadEdit("it has no 'old:' and 'new:' pair")
     return found

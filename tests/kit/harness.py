@@ -86,7 +86,8 @@ def read_cases():
 
 
 def all_cases():
-    """Reads every case of tests/dsctl/cases, and every script, settings text, trace and text of commands of examples/ as a case of its own."""
+    """Reads every case of tests/dsctl/cases, and every script, settings text, trace and text of commands of examples/ as a case of its own.
+    """
     words = {".ds": [], ".toml": ["settings"], ".trace": ["verify"], ".commands": ["record"]}
     files = sorted(it for it in EXAMPLES.iterdir() if it.suffix in words)
     examples = [Case(f"examples/{it.name}", words[it.suffix], it, wanted_of(it), status_beside(it)) for it in files]
@@ -191,13 +192,15 @@ def untold(error, wanted):
 
 
 def unexplained(output, error, has_notes=False):
-    """Returns what is wrong with standard error, or None. It must have one line for each bad line of the output, or for an illegal trace, or
-    lines for bad settings. In a script with notes, a line has its number in the file, which the output doesn't have."""
+    """Returns what is wrong with standard error, or None. It must have one line for each bad line of the output, or for an illegal trace,
+    or lines for bad settings. In a script with notes, a line has its number in the file, which the output doesn't have.
+    """
     if BAD_SETTINGS.fullmatch(output):
         are_right = error.endswith(b"\n") and all(it.startswith(TOLD) for it in error.splitlines())
         return None if are_right else f"standard error is {error[:200]!r}, wanted lines that begin with {TOLD!r}"
     trace = BAD_TRACE.fullmatch(output)
-    wanted = [WRONG_LINE % trace[1]] if trace else [b"dsctl: line %s, byte %s: " % (rb"\d+" if has_notes else line, place) for line, place in BAD_LINE.findall(output)]
+    found = [(rb"\d+" if has_notes else line, place) for line, place in BAD_LINE.findall(output)]
+    wanted = [WRONG_LINE % trace[1]] if trace else [b"dsctl: line %s, byte %s: " % it for it in found]
     lines = error.splitlines()
     if len(lines) == len(wanted) and all(map(re.match, wanted, lines)):
         return None

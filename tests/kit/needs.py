@@ -38,7 +38,10 @@ def compiles(source, *flags):
 NEEDS = (
     Need("python3 3.11 or newer", "python3", "every test", lambda: sys.version_info >= (3, 11), True),
     program("rt", "", "the proofs: the Rattle toolchain", True),
-    Need("a C compiler", "gcc", "everything in C, and refused memory (CC may name one other than cc)", lambda: shutil.which(CC) is not None, True),
+    Need(
+        "a C compiler", "gcc", "everything in C, and refused memory (CC may name one other than cc)", lambda: shutil.which(CC) is not None,
+        True
+    ),
     program("nm", "binutils", "which functions a program calls", True),
     program("bash", "bash", "its completions"),
     program("zsh", "zsh", "its completions"),
@@ -48,7 +51,10 @@ NEEDS = (
     program("dpkg-architecture", "dpkg-dev", "Debian's packages"),
     program("lintian", "lintian", "what is wrong with Debian's packages"),
     program("valgrind", "valgrind", "memory errors of the programs in C"),
-    Need("sanitizers of the C compiler", "gcc", "the programs in C, a second time", lambda: compiles("int main(void) { return 0; }\n", SANITIZERS)),
+    Need(
+        "sanitizers of the C compiler", "gcc", "the programs in C, a second time",
+        lambda: compiles("int main(void) { return 0; }\n", SANITIZERS)
+    ),
     program("redis-server", "redis-server", "dsfleet"),
     program("stunnel", "stunnel4", "dsfleet over TLS"),
     Need("hiredis", "libhiredis-dev", "dsfleet", lambda: compiles("#include <hiredis/hiredis.h>\n", "-fsyntax-only")),
@@ -77,6 +83,9 @@ def install(lacking):
     command = how_to_install(lacking)
     if not command or os.geteuid() or not shutil.which("apt-get"):
         return
-    quiet = {"stdin": subprocess.DEVNULL, "stdout": subprocess.DEVNULL, "env": {**os.environ, "RUNLEVEL": "1", "DEBIAN_FRONTEND": "noninteractive"}}
+    quiet = {
+        "stdin": subprocess.DEVNULL, "stdout": subprocess.DEVNULL,
+        "env": {**os.environ, "RUNLEVEL": "1", "DEBIAN_FRONTEND": "noninteractive"}
+    }
     subprocess.run(["apt-get", "update", "-qq"], **quiet)
     subprocess.run([*command.split()[:2], "-y", "-qq", "--no-install-recommends", *command.split()[2:]], **quiet)

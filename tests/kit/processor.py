@@ -6,13 +6,18 @@ its last sample counts as the rest of `rt ci`.
 """
 import os
 import re
+import statistics
 import threading
+import time
 
 PARTS = ("proof", "tests", "edits")
-BUDGET = {"proof": 6, "tests": 1, "edits": 4}  # minutes that a crate may take
+BUDGET = {"proof": 6, "tests": 1, "edits": 4}  # minutes of the reference processor that a crate may take,
+BUDGET_OF_ALL = 155  # and that the whole gate may
 INTERVAL = 1  # seconds between two samples
 MOST = 4  # proofs at once
 UNKNOWN = 2  # proofs at once, if a figure is unknown
+REST = 15  # seconds between two pieces of work
+REFERENCE = 0.0084  # seconds that the piece of work takes the reference processor, while a gate runs beside it
 ROOM = 5 << 30  # bytes that must be free for each proof
 TICK = os.sysconf("SC_CLK_TCK")
 
@@ -22,6 +27,11 @@ def side_by_side(processors, free):
     by_processors = UNKNOWN if processors is None else processors
     by_memory = UNKNOWN if free is None else free // ROOM
     return max(1, min(MOST, by_processors, by_memory))
+
+
+def lanes(processors):
+    """Returns how many tests run at once, given the processors; None means unknown. One processor is left to what the tests wait for."""
+    return max(1, (UNKNOWN if processors is None else processors) - 1)
 
 
 def usable_processors():
@@ -83,6 +93,47 @@ def part_of(number):
     return crate, "edits" if folder.startswith("rt-edit") else "tests" if b"--test" in words else "proof"
 
 
+def piece_of_work():
+    """Returns the processor's seconds for a fixed piece of work, which fills a table and sorts it."""
+    begun, table = time.thread_time(), {}
+    for at in range(60_000):
+        table[at * 7_919 % 65_521] = at
+    sorted(table.values())
+    return time.thread_time() - begun
+
+
+class Pace:
+    """Measures how fast the processors are while something runs, by a fixed piece of work each quarter of a minute: `with Pace() as pace:
+    ..`.
+    """
+
+    def __init__(self):
+        self.ended = threading.Event()
+        self.seconds = [piece_of_work()]
+        self.working = threading.Thread(target=self.work_on)
+
+    def __enter__(self):
+        self.working.start()
+        return self
+
+    def __exit__(self, *_):
+        self.ended.set()
+        self.working.join()
+
+    def work_on(self):
+        while not self.ended.wait(REST):
+            self.seconds.append(piece_of_work())
+
+    def took(self):
+        """Returns the median of the seconds that the piece of work took."""
+        return statistics.median(self.seconds)
+
+
+def of_reference(minutes, took):
+    """Returns the minutes of the reference processor, given the minutes here and the seconds that the piece of work took here."""
+    return minutes * REFERENCE / took
+
+
 class Clock:
     """Watches the process `number` and its descendants: `with Clock(number) as clock: ..`."""
 
@@ -129,16 +180,22 @@ class Clock:
         return sums
 
 
-def table(minutes, rest, others=()):
+def table(minutes, rest, others=(), took=REFERENCE):
     """Returns lines with the minutes of each crate and part, of the rest by name, of others, and of what is above its budget.
 
-    The crate that took the most comes first, and the sums follow the crates. No sum includes `others`, the rows of `beside`.
+    The crate that took the most comes first, and the sums follow the crates. No sum includes `others`, the rows of `beside`. All are
+    minutes of the reference processor, given the seconds that the piece of work took here.
     """
+    minutes = {part: of_reference(it, took) for part, it in minutes.items()}
+    rest, others = ([(name, of_reference(it, took)) for name, it in rows] for rows in (rest, others))
     crates = [(crate, *(minutes.get((crate, part), 0) for part in PARTS)) for crate in {crate for crate, _ in minutes}]
     crates.sort(key=lambda row: (-sum(row[1:]), row[0]))
     sums = ("all crates", *(sum(row[at] for row in crates) for at in range(1, len(PARTS) + 1)))
-    lines = [f"{'processor minutes':<20}" + "".join(f"{part:>8}" for part in PARTS) + f"{'sum':>8}"]
+    total = sum(sums[1:]) + sum(it for _, it in rest)
+    lines = [f"{'reference minutes':<20}" + "".join(f"{part:>8}" for part in PARTS) + f"{'sum':>8}"]
     lines += [f"{row[0]:<20}" + "".join(f"{it:8.1f}" for it in (*row[1:], sum(row[1:]))) for row in [*crates, sums]]
-    lines += [f"{name:<44}{it:8.1f}" for name, it in [*rest, ("all", sum(sums[1:]) + sum(it for _, it in rest)), *others]]
+    lines += [f"{name:<44}{it:8.1f}" for name, it in [*rest, ("all", total), *others]]
+    lines += [f"a minute is one of the reference processor: the piece of work took {took:.4f} s here, {REFERENCE:.4f} s there"]
     over = [(row[0], part) for row in crates for part, it in zip(PARTS, row[1:]) if it > BUDGET[part]]
-    return lines + [f"above its budget of {BUDGET[part]}: {crate}, {part}" for crate, part in over]
+    lines += [f"above its budget of {BUDGET[part]}: {crate}, {part}" for crate, part in over]
+    return lines + [f"above its budget of {BUDGET_OF_ALL}: all"] * (total > BUDGET_OF_ALL)

@@ -13,7 +13,8 @@
 //   REFUSE_EACH=F    growths are refused to copies of the process: at the n-th, from REFUSE_FROM to REFUSE_TO, a copy goes on without the memory
 //                    to its end, and then the process with it, which ends after the last copy. The file F gets a row of each copy
 //                    (`struct row`). Standard input, output and error must be three files, and the program must have no other thread
-//   REFUSE_TALLY=F   the file F, four 64-bit words, gets the number of growths, reads and writes, and of bytes read
+//   REFUSE_TALLY=F   the file F, five 64-bit words, gets the number of growths, reads and writes, of bytes read, and of growths before
+//                    the first read
 //
 // Calls are counted from the start of the program's `main`, over all its threads. What the loader and the C library take
 // before `main` differs from machine to machine, so `__libc_start_main` is overridden, and counting begins where it enters
@@ -39,7 +40,7 @@
 #include <sys/wait.h>
 #include <unistd.h>
 
-enum call { GROWTH, READ, WRITE, BYTES, WORDS };
+enum call { GROWTH, READ, WRITE, BYTES, EARLY, WORDS };
 enum { MOST_STACK = 8 << 20, MOST_CALLS = 1 << 16, SECONDS = 120 };
 
 static _Atomic uint64_t *tally; // NULL until main begins
@@ -161,9 +162,9 @@ static void tell_stack(char *frame) {
 
 // ---- copies of the process ----
 
-// What is told of a copy: the growth, its status as `waitpid` gives it, how many bytes of output and error precede its own, and how many bytes
-// follow: those that it wrote to each, and what REFUSE_STACK tells.
-struct row { uint64_t number, status, before[2], written[2], stack; };
+// What is told of a copy: the growth, its status as `waitpid` gives it, how many bytes of input it read, how many bytes of output and error
+// precede its own, and how many bytes follow: those that it wrote to each, and what REFUSE_STACK tells.
+struct row { uint64_t number, status, read, before[2], written[2], stack; };
 
 static off_t place_of(int file) {
     return lseek(file, 0, SEEK_CUR);
@@ -213,6 +214,7 @@ static int is_copy(uint64_t number, char *frame) {
     if (copy < 0 || waitpid(copy, &status, 0) != copy)
         _exit(99);
     row.status = status;
+    row.read = place_of(STDIN_FILENO) - read_to;
     for (int at = 0; at < 2; at++)
         row.written[at] = place_of(STDOUT_FILENO + at) - row.before[at];
     row.stack = calls_of(frame, calls);
@@ -311,6 +313,8 @@ ssize_t read(int file, void *to, size_t count) {
         return syscall(SYS_read, file, to, count);
     if (is_interrupted())
         return -1;
+    if (tally && !atomic_load(&tally[READ]))
+        atomic_store(&tally[EARLY], atomic_load(&tally[GROWTH]));
     if (refuses(READ)) {
         errno = EIO;
         return -1;

@@ -10,7 +10,7 @@ import askers
 import harness
 
 CALLS = ("growth", "read", "write")
-ROW = struct.Struct("7Q")  # what tests/kit/refuse.c tells of a copy
+ROW = struct.Struct("8Q")  # what tests/kit/refuse.c tells of a copy
 # Names of functions that take memory, read or write. A program that calls one which tests/kit/refuse.c lacks bypasses it.
 MOVES = re.compile(
     "alloc|memalign|mmap|mremap|brk$|strn?dup|getline|getdelim|read|recv|scanf|getc|gets|write|send|printf|put[sc]|splice|syscall"
@@ -47,20 +47,21 @@ class Refuser:
         stack.write_bytes(b"")
         environment = self.environment(REFUSE_STACK=stack, **{f"REFUSE_{name.upper()}": number for name, number in refused.items()})
         ran = harness.run_case(self.program, case, environment)
-        counts = struct.unpack("4Q", pathlib.Path(environment["REFUSE_TALLY"]).read_bytes())
+        counts = struct.unpack("5Q", pathlib.Path(environment["REFUSE_TALLY"]).read_bytes())
         self.stack = stack.read_bytes()
-        return ran, dict(zip((*CALLS, "bytes"), counts))
+        return ran, dict(zip((*CALLS, "bytes", "early"), counts))
 
     def environment(self, **words):
         """Returns the environment of a run, with these words more, and makes the file that gets its tally."""
         tally = pathlib.Path(self.room, f"tally-{os.getpid()}")
-        tally.write_bytes(bytes(32))
+        tally.write_bytes(bytes(40))
         named = {name: str(word) for name, word in words.items()}
         return {**os.environ, "LD_PRELOAD": self.library, "REFUSE_TALLY": str(tally), **named}
 
     def copies(self, case, first, last):
-        """Runs a case once, and refuses each growth from `first` to `last` to a copy of the process. Yields each copy's run, in order, up to the
-        first growth that wasn't made."""
+        """Runs a case once, and refuses each growth from `first` to `last` to a copy of the process. Yields each copy's run, and how many
+        bytes it read, in order, up to the first growth that wasn't made.
+        """
         with tempfile.TemporaryDirectory(dir=self.room) as folder:
             told, *outputs = [pathlib.Path(folder, it) for it in ("told", "out", "error")]
             told.touch()
@@ -71,10 +72,10 @@ class Refuser:
             written = [it.read_bytes() for it in outputs]
             with told.open("rb") as rows:
                 while head := rows.read(ROW.size):
-                    _number, status, *counts, stack = ROW.unpack(head)
+                    _number, status, read, *counts, stack = ROW.unpack(head)
                     output, error = [it[:before] + rows.read(count) for it, before, count in zip(written, counts[:2], counts[2:])]
                     self.stack = rows.read(stack)
-                    yield harness.Ran(output, os.waitstatus_to_exitcode(status), error)
+                    yield harness.Ran(output, os.waitstatus_to_exitcode(status), error), read
 
     def counted(self, case):
         """Runs a case with ample memory. Returns what is wrong, or None, and the number of growths."""

@@ -90,7 +90,8 @@ def last_tried(edit, sum, rows):
 
 
 def minutes(name, count):
-    """Returns about how many processor minutes it takes to prove a crate and to try some of its edits. No figure of the machine is in it."""
+    """Returns about how many processor minutes it takes to prove a crate and to try some of its edits. No figure of the machine is in it.
+    """
     return MINUTES_A_BYTE * sum(path.stat().st_size for path in texts_of(name)) + MINUTES_AN_EDIT * count
 
 
@@ -102,8 +103,9 @@ def by_age(name, rows):
 
 
 def stalest(names, most):
-    """Returns edits by crate, those that weren't tried for the longest time, as many as take `most` minutes; one in any case. Of crates with
-    edits of one date that comes first whose proof is the shortest, since each is proved once more before its edits are tried."""
+    """Returns edits by crate, those that weren't tried for the longest time, as many as take `most` minutes; one in any case. Of crates
+    with edits of one date that comes first whose proof is the shortest, since each is proved once more before its edits are tried.
+    """
     rows, chosen, left = read(), {}, most
     aged = {name: edits for name in names if (edits := by_age(name, rows))}
     oldest = {name: (edits[0][1], minutes(name, 0), name) for name, edits in aged.items()}

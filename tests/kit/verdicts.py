@@ -35,8 +35,9 @@ def whole(output):
 
 
 def refuting(lines, broken):
-    """Returns the first line that reports a goal as unproved for what the edit does, or None: a goal that the prover finds false, or one that it
-    searched to the end without an answer that the edit broke."""
+    """Returns the first line that reports a goal as unproved for what the edit does, or None: a goal that the prover finds false, or one
+    that it searched to the end without an answer that the edit broke.
+    """
     goals = [(line, UNPROVED.search(line)) for line in lines]
     false = [line for line, goal in goals if goal and FALSE in line]
     ended = [line for line, goal in goals if goal and goal[1] not in broken and GAVE_UP not in line]
@@ -44,7 +45,9 @@ def refuting(lines, broken):
 
 
 def judge(status, output, texts, dropped=frozenset()):
-    """Judges a check of an edited crate. `dropped` are the answers that were taken out of it. Returns the verdict, and a line that reports why."""
+    """Judges a check of an edited crate. `dropped` are the answers that were taken out of it. Returns the verdict, and a line that reports
+    why.
+    """
     lines = whole(output)
     if status == 0:
         without = f" and without {len(dropped)} answers that it broke" if dropped else ""

@@ -7,7 +7,8 @@ import subprocess
 import time
 
 from scenes import LIVES, scene
-from supervisors import Skipped, equal, lives, until
+from supervisors import Skipped, equal, lives
+from waiting import until
 
 # Starts processes that leave the service's group, session and environment: a chain of sessions, whose last process notes its number.
 CHAIN = """

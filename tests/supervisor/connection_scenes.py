@@ -2,7 +2,7 @@
 import os
 
 from scenes import LIVES, scene
-from supervisors import until
+from waiting import until
 
 # Receives messages over descriptor 3, and the descriptors that come with them, each with the last message of its piece.
 HANDED = '''

@@ -2,7 +2,8 @@
 import random
 import socket
 
-from supervisors import PATIENCE, Gone, until
+from supervisors import Gone
+from waiting import PATIENCE, until
 
 WORDS = ("publish", "delete", "retrieve", "nameof", "subscribe", "check", "listen", "since", "snapshot", "page", "show", "all", "beat", "complain", "connect",
          "service", "status", "offer", "sweep", "death", "tick", "settings", "side", "map", "deliver", "")

@@ -9,7 +9,8 @@ import time
 
 import refusal_scenes
 from scenes import asked, scene, used
-from supervisors import PATIENCE, Skipped, equal, lives, until
+from supervisors import Skipped, equal, lives
+from waiting import PATIENCE, until
 
 SLEEPS = "#!/bin/sh\nexec sleep 1000\n"
 
@@ -171,7 +172,7 @@ def descriptors_for_lines_are_looked_for_again(host):
     host.ask("service refresh s11")
     until(lambda: "\ns11: prints\n" in host.log(), "it prints to a pipe")
     reader = until(lambda: next((it for it in host.processes() if pathlib.Path(f"/proc/{it}/comm").read_text() == "cat\n"), None), "the log program reads")
-    time.sleep(0.6)  # strays are looked for at once then
+    time.sleep(1.2)  # strays are looked for at once then
     os.kill(reader, signal.SIGKILL)
     host.logged("nolog s00 signal 9")
     host.end()
@@ -321,9 +322,9 @@ def a_daemon_ends_before_the_next_instance(host):
 LATE = "#!/bin/sh\nsetsid sh -c 'setsid sh -c \"echo \\$\\$ > late; exec sleep 1000\" & echo $$ > parent; exec env -i sleep SECONDS' &\nexec sleep 1000\n"
 
 
-def late_stray(host, seconds):
+def late_stray(host, seconds, others="b"):
     """Starts a service with a process like that, kills the service once they are there, and returns the process after its parent has ended."""
-    host.start({"a": ({}, LATE.replace("SECONDS", str(seconds))), "b": ({}, SLEEPS)})
+    host.start({"a": ({}, LATE.replace("SECONDS", str(seconds))), **{label: ({}, SLEEPS) for label in others}})
     folder = host.home / "services" / "a"
     late, parent = (int(until(lambda: (folder / it).exists() and (folder / it).read_text(), f"{it} is there")) for it in ("late", "parent"))
     os.kill(host.pid("a"), signal.SIGKILL)
@@ -345,6 +346,13 @@ def a_late_stray_is_killed(host):
 def a_late_stray_ends_before_the_supervisor(host):
     """The supervisor gets its signal before it looks for strays again."""
     late_stray(host, 0.4)
+    host.end()
+
+
+@scene
+def a_late_stray_ends_before_a_supervisor_of_nothing(host):
+    """No service runs any more, so nothing but the end of the supervisor has strays looked for."""
+    late_stray(host, 0.4, others="")
     host.end()
 
 

@@ -4,7 +4,8 @@ import signal
 import time
 
 from scenes import LIVES, scene
-from supervisors import equal, until
+from supervisors import equal
+from waiting import until
 
 
 def lines(host, label="a"):

@@ -8,7 +8,8 @@ import threading
 import time
 
 from scenes import scene
-from supervisors import PATIENCE, equal, until
+from supervisors import equal
+from waiting import PATIENCE, until
 
 LINE = "#" * 40
 

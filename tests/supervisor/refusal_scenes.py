@@ -7,7 +7,8 @@ import subprocess
 import time
 
 from scenes import scene
-from supervisors import Gone, Host, Skipped, equal, lives, toml, until
+from supervisors import Gone, Host, Skipped, equal, lives, toml
+from waiting import until
 
 HERE = pathlib.Path(__file__).resolve().parent
 AT_ONCE = 6

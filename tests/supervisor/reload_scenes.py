@@ -5,7 +5,8 @@ import re
 import signal
 
 from scenes import LIVES, scene
-from supervisors import equal, until
+from supervisors import equal
+from waiting import until
 
 STAYS = "signal.signal(signal.SIGTERM, lambda *_: note('asked'))\nwhile True: time.sleep(1)\n"  # until SIGKILL
 

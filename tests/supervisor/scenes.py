@@ -10,7 +10,8 @@ import subprocess
 import sys
 import time
 
-from supervisors import PATIENCE, ROOT, Skipped, equal, lives, until
+from supervisors import ROOT, Skipped, equal, lives
+from waiting import PATIENCE, until
 
 LIVES = "live()\n"
 SCENES = []
@@ -621,7 +622,7 @@ def a_second_signal_waits_for_nobody(host):
 @scene
 def a_second_signal_waits_for_no_log_program(host):
     host.service("a/log", "#!/bin/sh\nexec sleep 1000\n")
-    host.start({"a": ({}, LIVES)}, options=("--grace", "60000"))
+    host.start({"a": ({}, LIVES)}, options=("--grace", "600000"))
     host.ask("status")
     ends_at_a_second_signal(host, "gone a")
 

@@ -7,7 +7,8 @@ import subprocess
 import time
 
 import supervisors
-from supervisors import equal, lives, until
+from supervisors import equal, lives
+from waiting import until
 
 MEMBER = supervisors.ROOT / "tests" / "supervisor" / "member.c"
 LABELS = [f"s{i}" for i in range(12)]

@@ -6,7 +6,8 @@ import signal
 import subprocess
 
 from scenes import LIVES, memory, scene
-from supervisors import Host, Skipped, equal, until
+from supervisors import Host, Skipped, equal
+from waiting import until
 
 
 @contextlib.contextmanager

@@ -1,4 +1,4 @@
-"""A dsrs over a folder of its own, with services, for tests/rs: how it is built, started and queried, and what its services do."""
+"""A dsrs over a folder of its own, with services, for tests/supervisor/run: how it is built, started and queried, and what its services do."""
 import fcntl
 import os
 import pathlib
@@ -8,11 +8,10 @@ import signal
 import socket
 import subprocess
 import tempfile
-import time
+
+from waiting import PATIENCE, until
 
 ROOT = pathlib.Path(__file__).resolve().parent.parent.parent
-PATIENCE = 60  # seconds that anything may take, on a busy machine, too
-PAUSE = 0.01
 SLOW = 10  # milliseconds of a tick
 FAULT = re.compile(r"^.*(ERROR: |runtime error|==\d+== ).*$", re.MULTILINE)  # of a sanitizer, or of valgrind
 EVENT = re.compile(r'^\w+ event=(\w+) text="(.*)"$', re.MULTILINE)
@@ -53,18 +52,6 @@ class Gone(Exception):
 
 class Skipped(Exception):
     """Why a scene can't be played on this machine."""
-
-
-def until(so, what, seconds=PATIENCE):
-    """Waits until `so` returns something true, and returns that. Otherwise it fails and names what was waited for."""
-    end = time.monotonic() + seconds
-    while True:
-        found = so()
-        if found:
-            return found
-        if time.monotonic() > end:
-            raise AssertionError(f"not within {seconds} s: {what() if callable(what) else what}")
-        time.sleep(PAUSE)
 
 
 def equal(got, wanted):

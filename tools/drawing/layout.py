@@ -66,13 +66,15 @@ class Layout:
     """The places of a run's picture."""
 
     def __init__(self, rows, shown):
-        self.rows, self.shown, self.story = rows, shown, story.Teller(rows).story
+        self.rows, self.shown, self.story = rows, shown, story.Narrator(rows).story
         self.end = max(shown, default=-1) + 1  # the first row past the last that is shown
         self.leave_out()
         self.labels = list(dict.fromkeys(it.label for it in self.story.lives))
         self.generations = self.generations_by_label()
         self.blocks = {holder: list(self.blocks_of(holder)) for holder in self.holders()}
-        self.servers = [it for it in story.SERVERS.values() if any(note.lane == it for note in self.story.notes) or any(it in (one.begin, one.end) for one in self.story.strokes)]
+        self.servers = [it for it in story.SERVERS.values() if any(note.lane == it for note in self.story.notes) or any(
+            it in (one.begin, one.end) for one in self.story.strokes
+        )]
         self.set_lanes()
         self.set_rows()
 
@@ -165,7 +167,8 @@ class Layout:
         self.strips[None] = (x, self.band - x) if self.is_narrow else (0.0, self.band)
 
     def strip(self, holder, label):
-        """Returns the left edge and the width of a label's strip in a band; without a label, of what is beside the strips, or of the band."""
+        """Returns the left edge and the width of a label's strip in a band; without a label, of what is beside the strips, or of the band.
+        """
         x, wide = self.strips.get(label, self.strips[None])
         return self.left(holder) + x, wide
 
@@ -194,7 +197,9 @@ class Layout:
     def band_width(self, chips):
         """Returns the width that the widest of these chips needs, and more as far as there is room."""
         count = max(1, len(self.holders()))
-        lanes = 44 + sum(max(sans_width(it, LINE, True), 40) + 12 for it in self.labels) + sum(28 + self.server_width(it) for it in self.servers)
+        lanes = 44 + sum(
+            max(sans_width(it, LINE, True), 40) + 12 for it in self.labels
+        ) + sum(28 + self.server_width(it) for it in self.servers)
         subs = 68 * sum(len(self.subscribers(it)) for it in self.holders())
         room = (WIDTH - 2 * SIDE - TEXT - lanes - subs) / count - GAP
         return max([BAND, *(chip_width(it.text) + 12 for it in chips), min(room, 190)])

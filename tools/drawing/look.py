@@ -37,7 +37,8 @@ def grounds(paper, ink, faint, rule, none, bad, plain, vain):
 
 
 def shade(place, generation, generations):
-    """Returns the name of a driver's tone, by its place among the drivers, in the shade of a generation among all of its own in the picture.
+    """Returns the name of a driver's tone, by its place among the drivers, in the shade of a generation among all of its own in the
+    picture.
 
     The newer the generation, the stronger the shade. Without a place: the last tone.
     """

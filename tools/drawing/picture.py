@@ -44,7 +44,10 @@ class Picture:
         wide, high = f"{self.layout.width:.0f}", f"{self.legend():.0f}"
         head = f'<svg xmlns="http://www.w3.org/2000/svg" width="{wide}" height="{high}" viewBox="0 0 {wide} {high}" role="img">'
         title = f"<title>{escape(self.name)}: what its lines did</title>"
-        return "\n".join([head, title, f"<style>{style_of(self.out)}</style>", HATCH, '<rect class="paper" width="100%" height="100%"/>', *self.out, "</svg>", ""])
+        return "\n".join([
+            head, title, f"<style>{style_of(self.out)}</style>", HATCH, '<rect class="paper" width="100%" height="100%"/>', *self.out,
+            "</svg>", ""
+        ])
 
     # ---- parts ----
 
@@ -54,7 +57,9 @@ class Picture:
         self.out.append(f'<text class="{looks}" x="{x:.1f}" y="{y:.1f}" font-size="{size}" text-anchor="{anchor}">{shown}</text>')
 
     def rect(self, x, y, wide, high, look, more="", tooltip=""):
-        self.out.append(with_tooltip(f'<rect class="{look}" x="{x:.1f}" y="{y:.1f}" width="{wide:.1f}" height="{high:.1f}"{more}/>', tooltip))
+        self.out.append(
+            with_tooltip(f'<rect class="{look}" x="{x:.1f}" y="{y:.1f}" width="{wide:.1f}" height="{high:.1f}"{more}/>', tooltip)
+        )
 
     def path(self, steps, look, tooltip=""):
         self.out.append(with_tooltip(f'<path class="{look}" d="{steps}"/>', tooltip))
@@ -96,7 +101,9 @@ class Picture:
         return self.near(stroke.begin, sign), end, sign
 
     def crossed(self, stroke):
-        """Returns what a stroke goes round, in its order: from where to where there is a driver's bar, tag or cross, and how far down it goes."""
+        """Returns what a stroke goes round, in its order: from where to where there is a driver's bar, tag or cross, and how far down it
+        goes.
+        """
         it, y = self.layout, self.layout.y(stroke.row, stroke.step)
         begin, end, sign = self.ends(stroke)
         found = []
@@ -119,12 +126,16 @@ class Picture:
         return ways if sign > 0 else [(right, left, down) for left, right, down in reversed(ways)]
 
     def way_round(self, left, right, y):
-        """Returns how far down a bend goes: above a tag and a cross, or below; 0 if neither has room, and the stroke passes under the bar."""
+        """Returns how far down a bend goes: above a tag and a cross, or below; 0 if neither has room, and the stroke passes under the bar.
+        """
         it = self.layout
         tags = [(it.middle[life.lane], it.tag[life.lane] / 2, it.y(*born)) for life in it.story.lives if (born := it.first_shown(life))]
         crosses = [(it.middle[life.lane], 7, it.y(*life.died)) for life in it.story.lives if life.died and it.first_shown(life)]
-        near = [(middle, place) for middle, half, place in tags + crosses if middle + half > left - 7 and middle - half < right + 7 and place != y]
-        is_above_free = all(not 0 < y - place < BEND + 12 for _, place in near) and all(place != y or not left < middle < right for middle, _, place in crosses)
+        beside = [(middle, place) for middle, half, place in tags + crosses if middle + half > left - 7 and middle - half < right + 7]
+        near = [(middle, place) for middle, place in beside if place != y]
+        is_above_free = all(not 0 < y - place < BEND + 12 for _, place in near) and all(
+            place != y or not left < middle < right for middle, _, place in crosses
+        )
         if is_above_free:
             return -BEND
         return BEND if all(not 0 < place - y < BEND + 12 for _, place in near) else 0
@@ -144,7 +155,9 @@ class Picture:
     def tone(self, tone):
         """Returns the name of a driver's tone in the shade of a generation; the last tone is for RS and those that aren't drawn."""
         label, generation = tone
-        return shade(self.layout.labels.index(label) if label in self.layout.labels else None, generation, self.layout.generations.get(label, ()))
+        return shade(
+            self.layout.labels.index(label) if label in self.layout.labels else None, generation, self.layout.generations.get(label, ())
+        )
 
     def strokes(self):
         for it in self.layout.story.strokes:
@@ -156,7 +169,9 @@ class Picture:
             if it.is_delivery:
                 self.has.add("trail")
                 self.path(f"M{begin:.1f} {self.made[it.message][1] + 8:.1f} V{y:.1f}", "trail plain")
-            bends = "".join(f" H{left - sign * 4:.1f} l{sign * 4} {down} H{right:.1f} l{sign * 4} {-down}" for left, right, down in self.crossed(it))
+            bends = "".join(
+                f" H{left - sign * 4:.1f} l{sign * 4} {down} H{right:.1f} l{sign * 4} {-down}" for left, right, down in self.crossed(it)
+            )
             self.path(f"M{begin:.1f} {y:.1f}{bends} H{end - sign * 4:.1f}", f"stroke {self.look_of(it)}{dashed}", self.told(it.row))
 
     def told(self, number):
@@ -285,7 +300,7 @@ class Picture:
                 self.circle(self.layout.right(lane) + 11, self.layout.y(row), number)
         for note in self.layout.story.notes:
             if note.lane not in self.layout.blocks:
-                self.aside(note)
+                self.beside(note)
 
     def circle(self, x, y, number):
         self.has.add("message")
@@ -302,7 +317,7 @@ class Picture:
         self.rect(x - wide / 2, y - 6, wide, 12, "paper")
         self.text(x, y + 3, stroke.word, "ink", TINY, "middle")
 
-    def aside(self, note):
+    def beside(self, note):
         """Draws a word to the right of a lane's line."""
         x = self.layout.middle[note.lane]
         y = self.layout.y(note.row, note.step)

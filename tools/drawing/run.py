@@ -107,7 +107,10 @@ class Drawing:
         for place, row in enumerate(LEGEND):
             self.text(EDGE, self.high - EDGE - 13 * (len(LEGEND) - 1 - place), row, "faint", SMALL)
         head = f'<svg xmlns="http://www.w3.org/2000/svg" width="{WIDE}" height="{self.high:.0f}" viewBox="0 0 {WIDE} {self.high:.0f}" role="img">'
-        return "\n".join([head, "<title>what a supervisor did</title>", f"<style>{style_of(self.out)}</style>", '<rect class="paper" width="100%" height="100%"/>', *self.out, "</svg>", ""])
+        return "\n".join([
+            head, "<title>what a supervisor did</title>", f"<style>{style_of(self.out)}</style>",
+            '<rect class="paper" width="100%" height="100%"/>', *self.out, "</svg>", ""
+        ])
 
     def scale(self):
         """Draws lines for the time, at most ten."""
@@ -130,7 +133,9 @@ class Drawing:
             gone = self.last if life.gone is None else life.gone
             if began <= self.last and gone >= self.first:
                 generations = [it.generation for it in self.run.lives[label]]
-                self.life(label, life, shade(self.labels.index(label), life.generation, generations), y, self.x(began), self.x(lost), self.x(gone))
+                self.life(
+                    label, life, shade(self.labels.index(label), life.generation, generations), y, self.x(began), self.x(lost), self.x(gone)
+                )
         self.deaths(label)
 
     def life(self, label, life, tone, y, began, lost, gone):

@@ -92,7 +92,7 @@ def tone_of(item):
     return (name if kind == "label" else owner), int(generation)
 
 
-class Teller:
+class Narrator:
     """Goes through the rows of a run once."""
 
     def __init__(self, rows):
@@ -328,7 +328,9 @@ class Teller:
     def reply(self, row):
         life, server = self.life_at(row.words[2]), SERVERS[row.words[1]]
         is_late = life is not None and life.died is not None
-        self.stroke(life.lane if life else None, server, tone=life and life.tone, is_late=is_late, is_stopped=row.is_refused, word=row.words[3])
+        self.stroke(
+            life.lane if life else None, server, tone=life and life.tone, is_late=is_late, is_stopped=row.is_refused, word=row.words[3]
+        )
         if not row.is_refused:
             self.note(server, f"{row.words[3]} done")
 

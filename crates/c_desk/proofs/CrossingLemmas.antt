@@ -33,7 +33,8 @@ Stored = Box.the_row Store.the_row Heap.the_row ghosts
 store_slot_send : IsSend (Option.the_row (Home.the_row Stored Command.the_row Reply.the_row))
 store_slot_send = slot_send Stored Command.the_row Reply.the_row (Box-send Store.the_row store_send)
 
-table_send : (S V K Q : RattleType) (h : TableRule.Ghosts Q.Denot S.Denot V.Denot K.Denot) → IsSend S → IsSend (Table.the_row S V K Q Heap.the_row h ghosts)
+table_send : (S V K Q : RattleType) (h : TableRule.Ghosts Q.Denot S.Denot V.Denot K.Denot) → IsSend S →
+    IsSend (Table.the_row S V K Q Heap.the_row h ghosts)
 table_send S V K Q h s = declared_send (Table.the_type S V K Q Heap.the_row h ghosts) (
   search (s, shared.the_send, sendable) depth 40,
   (
@@ -48,8 +49,10 @@ table_send S V K Q h s = declared_send (Table.the_type S V K Q Heap.the_row h gh
   ),
 )
 
-desk_send : (S V K Q : RattleType) (g : Made.Ghosts K.Denot) (h : TableRule.Ghosts Q.Denot S.Denot V.Denot K.Denot) → IsSend S → IsSend (DeskOf.the_row S V K Q g h)
-desk_send S V K Q g h s = declared_send (DeskOf.the_type S V K Q g h) (search (table_send S V K Q h s, sendable) depth 40, (search sendable depth 40, tt))
+desk_send : (S V K Q : RattleType) (g : Made.Ghosts K.Denot) (h : TableRule.Ghosts Q.Denot S.Denot V.Denot K.Denot) → IsSend S →
+    IsSend (DeskOf.the_row S V K Q g h)
+desk_send S V K Q g h s = declared_send (DeskOf.the_type S V K Q g h)
+    (search (table_send S V K Q h s, sendable) depth 40, (search sendable depth 40, tt))
 
 reply_send : IsSend Reply.the_row
 reply_send = search (items.the_send, text.the_send, blob.the_send, name.the_send, endpoint.the_send, crosses, sendable) fits 20000 depth 80

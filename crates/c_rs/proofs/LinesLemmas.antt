@@ -29,7 +29,8 @@ pub with_rs : (services : Option RsRecord) (none : Bool) (command : ScriptComman
 with_rs None none command old answer new e f carried = absurd (some_stands none e f)
 with_rs (Some rs) none command old answer new e f carried = carried
 
-pub carried_line : (bytes : List ℕ) (command : ScriptCommand) (old : RsSession) (answer : Answer) (new : RsSession) → IsCommandIn bytes command
+pub carried_line : (bytes : List ℕ) (command : ScriptCommand) (old : RsSession) (answer : Answer) (new : RsSession) →
+    IsCommandIn bytes command
     → CarriesOutCommand command old answer new → CallsRsLine bytes old answer new
 carried_line bytes command old answer new stands carried = inl (record { command = command; stands = stands; carried = carried })
 

@@ -8,13 +8,15 @@ use Rattle.ds_names.specs.declared.key.Key.{Key}
 use Rattle.ds_names.specs.declared.version.Version.{Version}
 use Rattle.ds_entry.specs.declared.body.Value.{Value}
 use Rattle.ds_machine.specs.declared.command.Command.{Command}
-use Rattle.ds_machine.specs.declared.command.Command.TheVariants.{Publish, Delete, Sweep, Retrieve, NameOf, Subscribe, Since, Snapshot, Page}
+use Rattle.ds_machine.specs.declared.command.Command.TheVariants.{Publish, Delete, Sweep, Retrieve, NameOf, Subscribe, Since, Snapshot}
+use Rattle.ds_machine.specs.declared.command.Command.TheVariants.{Page}
 use Rattle.ds_machine.specs.declared.command.Scope.{Scope}
 use Rattle.rs_core.specs.State.{RsRecord}
 use Rattle.rs_store.specs.ByRs.{is_by_rs}
 use Rattle.rs_store.specs.Serving.{passes_for_rs}
 use Rattle.c_values.specs.declared.request.Request.{Request}
-use Rattle.c_values.specs.Request.{command_of, publish_of, delete_of, sweep_of, subscribe_of, since_of_request, page_of_request, caller_of, endpoint_at, query_at, scope_of}
+use Rattle.c_values.specs.Request.{command_of, publish_of, delete_of, sweep_of, subscribe_of, since_of_request, page_of_request, caller_of}
+use Rattle.c_values.specs.Request.{endpoint_at, query_at, scope_of}
 use Rattle.c_values.specs.Asked.{StandsFor, request_text}
 use Rattle.c_rs.specs.Requests.{CallsUnlessBarred, is_rs_request, is_for_rs_alone}
 use Rattle.history.specs.History.{Run, entry}
@@ -51,7 +53,8 @@ client_caller g s client = in_range _ g s client
 -- ---- the three commands that have a caller
 
 publish_by : (k : Option Key) (e : Option EndpointRecord) (v : Option Version) (f : Key → Option Value) (o : Bool) → rs_in e ≡ false
-    → by_rs (option_and_then (λ (key : Key). option_and_then (λ caller. option_and_then (λ version. option_map (λ value. Publish caller key version value o) (f key)) v) e) k) ≡ false
+    → by_rs (option_and_then (λ (key : Key). option_and_then
+    (λ caller. option_and_then (λ version. option_map (λ value. Publish caller key version value o) (f key)) v) e) k) ≡ false
 publish_by None e v f o client = refl
 publish_by (Some k) None v f o client = refl
 publish_by (Some k) (Some x) None f o client = refl
@@ -102,11 +105,13 @@ module _ (r : Request) (text : List ℕ) where
 
   subscribe_client : by_rs (subscribe_of r text) ≡ false
   unfolding subscribe_of
-  subscribe_client = mapped (λ query. Subscribe r.sub query (not (r.initial == 0)) (not (r.overwrite == 0))) (query_at r.kinds text) (λ _. refl)
+  subscribe_client = mapped (λ query. Subscribe r.sub query (not (r.initial == 0)) (not (r.overwrite == 0))) (query_at r.kinds text)
+      (λ _. refl)
 
   since_client : by_rs (since_of_request r text) ≡ false
   unfolding since_of_request
-  since_client = mapped (λ (scope : Scope). Since scope (record { incarnation = r.incarnation; position = r.position }) r.max) (scope_of r text) (λ _. refl)
+  since_client = mapped (λ (scope : Scope). Since scope (record { incarnation = r.incarnation; position = r.position }) r.max)
+      (scope_of r text) (λ _. refl)
 
   pick : (b : Bool) (x y : Option Command) → (b ≡ true → by_rs x ≡ false) → by_rs y ≡ false → by_rs (cond b x y) ≡ false
   pick true x y here else = here refl
@@ -148,10 +153,11 @@ module _ (r : Request) (text : List ℕ) where
 -- ---- one call, and calls in order
 
 -- what one call is: a turn of RS and its store, or none
-abbrev OneTurn : List ℕ → RsSession → Request → Answer → RsSession → Type 0
+abbrev pub OneTurn : List ℕ → RsSession → Request → Answer → RsSession → Type 0
 OneTurn texts old r a new =
     (IsNoEntry a × (new.session.node ≡ old.session.node))
-    ⊎ ((command : Command) × (reply : Reply) × IsEntryOf texts r a (entry 0 command reply) × RsTurn old.session.node (Ask command) (Replied reply) new.session.node)
+    ⊎ ((command : Command) × (reply : Reply) × IsEntryOf texts r a (entry 0 command reply) ×
+    RsTurn old.session.node (Ask command) (Replied reply) new.session.node)
 
 session_turn : (texts : List ℕ) (old new : RsSession) (r : Request) (a : Answer) (o : Option (List ℕ)) → request_text r texts ≡ o
     → is_for_rs_alone old.session.node.services r ≡ false → Called old.session r o a new.session → OneTurn texts old r a new
@@ -169,7 +175,8 @@ session_turn texts old new r a (Some text) is alone called = elim called [
   ]
 ]
 
-one_turn : (texts : List ℕ) (old new : RsSession) (r : Request) (a : Answer) (barred : Bool) → is_for_rs_alone old.session.node.services r ≡ barred
+pub one_turn : (texts : List ℕ) (old new : RsSession) (r : Request) (a : Answer) (barred : Bool) →
+    is_for_rs_alone old.session.node.services r ≡ barred
     → CallsUnlessBarred barred texts old r a new → OneTurn texts old r a new
 one_turn texts old new r a true alone called = inl (inr (inr called.done.told_is), called.done.node_is)
 one_turn texts old new r a false alone called = session_turn texts old new r a (request_text r texts) refl alone called.done
@@ -181,7 +188,11 @@ calls_are_node_turns texts (r ∷ rs) (a ∷ ys) old new calls =
     let more = calls_are_node_turns texts rs ys mid new calls.2 in
     elim (one_turn texts old mid r a (is_for_rs_alone old.session.node.services r) refl calls.1) [
       | inl unasked ↦ (more.0, inl (unasked.0, more.1), subst (λ (p : PairRecord). Run RsTurn p more.0 new.session.node) unasked.1 more.2)
-      | inr asked ↦ (entry 0 (Ask asked.0) (Replied asked.1) ∷ more.0, inr (entry 0 asked.0 asked.1, store_entries more.0, refl, asked.2, more.1), (mid.session.node, asked.3, more.2))
+      | inr asked ↦ (
+        entry 0 (Ask asked.0) (Replied asked.1) ∷ more.0,
+        inr (entry 0 asked.0 asked.1, store_entries more.0, refl, asked.2, more.1),
+        (mid.session.node, asked.3, more.2),
+      )
     ]
 calls_are_node_turns texts [] (a ∷ ys) old new calls = absurd calls
 calls_are_node_turns texts (r ∷ rs) [] old new calls = absurd calls

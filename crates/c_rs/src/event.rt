@@ -38,8 +38,8 @@ impl RsSession {
         }
     }
 
-    // Answers a struct that stands for no event. Nothing changes.
-    fn decline(&mut self, answer: &mut Answer)
+    /// Answers a struct that stands for no event. Nothing changes.
+    pub fn decline(&mut self, answer: &mut Answer)
         ensures { SessionDoes RestsForNone self.old answer.new self.new }
     {
         self.told = None;
@@ -47,9 +47,9 @@ impl RsSession {
     }
 }
 
-// Returns the event that a struct stands for.
+/// Returns the event that a struct stands for.
 #[tactic(auto, unfolding(crate::specs::Event::event_of))]
-fn event_of(event: &RsEvent) -> Option<Event>
+pub fn event_of(event: &RsEvent) -> Option<Event>
     ensures { result ≡ event_of event.now }
 {
     match event.kind {

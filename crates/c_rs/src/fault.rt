@@ -25,7 +25,7 @@ pub struct SettingsRefusal {
 
 impl SettingsRefusal {
     /// Returns a fault of a settings text, in numbers.
-    pub(crate) fn of(alloc: Global, text: &[u8], fault: SettingsFault) -> SettingsRefusal
+    pub fn of(alloc: Global, text: &[u8], fault: SettingsFault) -> SettingsRefusal
         ensures { TellsFault text.now fault result }
     {
         SettingsRefusal {
@@ -37,7 +37,7 @@ impl SettingsRefusal {
 }
 
 /// Returns the number of a service, of which there are 64 at most.
-pub(crate) fn service_number(index: Option<usize>) -> u32
+pub fn service_number(index: Option<usize>) -> u32
     ensures { result ≡ service_number index }
 {
     match index {

@@ -20,8 +20,10 @@ mod telling;
 mod text;
 
 pub use action::RsAction;
-pub use event::RsEvent;
-pub use fault::SettingsRefusal;
+pub use event::{RsEvent, event_of};
+pub use fault::{SettingsRefusal, service_number};
+pub use renewing::{fault_after, renewal_number};
 pub use running::calls_are_turns;
 pub use service::RsService;
 pub use session::RsSession;
+pub use telling::{cause_number, rs_fault_number};

@@ -55,8 +55,8 @@ impl RsSession {
         }
     }
 
-    // Carries out a command.
-    fn carry(&mut self, alloc: Global, command: ScriptCommand, answer: &mut Answer)
+    /// Carries out the command of a line.
+    pub fn carry(&mut self, alloc: Global, command: ScriptCommand, answer: &mut Answer)
         ensures { CarriesOutCommand command self.old answer.new self.new }
     {
         if self.session.node.services().is_none() {

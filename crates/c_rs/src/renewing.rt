@@ -45,8 +45,8 @@ impl RsSession {
         }
     }
 
-    // Forgets the last answer. The store is unchanged.
-    fn forget_last(&mut self)
+    /// Forgets the last answer, which may name services of settings that were in force. RS and the store are unchanged.
+    pub fn forget_last(&mut self)
         ensures forgotten { IsForgotten self.old self.new }
         ensures services { self.new.session.node.services ≡ self.old.session.node.services }
     {
@@ -56,8 +56,8 @@ impl RsSession {
     }
 }
 
-// Returns the number of a fault against settings.
-fn renewal_number(fault: RenewFault) -> u32
+/// Returns the number of a fault against settings.
+pub fn renewal_number(fault: RenewFault) -> u32
     ensures { result ≡ renewal_number fault }
 {
     match fault {
@@ -68,8 +68,8 @@ fn renewal_number(fault: RenewFault) -> u32
     }
 }
 
-// Returns what the place of the fault holds after a refusal: the service that is still up, or what it held.
-fn fault_after(before: SettingsRefusal, fault: RenewFault) -> SettingsRefusal
+/// Returns what the place of the fault holds after a refusal: the service that is still up, or what it held.
+pub fn fault_after(before: SettingsRefusal, fault: RenewFault) -> SettingsRefusal
     ensures { result ≡ fault_after before (Err fault) }
 {
     match fault {

@@ -1,6 +1,6 @@
 //! A session with RS beside its store.
 
-ghost use Rattle.std.specs.Prelude.{◌≡◌, ◌≤◌, None, IfOk, IfErr, OnOk};
+ghost use Rattle.std.specs.Prelude.{◌≡◌, ◌≤◌, None, Some, IfOk, IfErr, OnOk};
 ghost use Rattle.ds_feed.specs.Kept.{IsRing};
 ghost use Rattle.ds_held.specs.Limits.{larger};
 ghost use Rattle.ds_machine.specs.State.{opening};
@@ -9,6 +9,7 @@ ghost use Rattle.ds_content.specs.Stands.{ContentStands};
 ghost use Rattle.ds_store.specs.Opening.{IsOpenRefusal};
 ghost use Rattle.c_store.specs.declared.last.Last.TheVariants.{Nothing};
 ghost use Rattle.c_rs.specs.Serving.{RefusesCommand, ServesBy};
+ghost use Rattle.c_rs.specs.Telling.{told_answer};
 
 use crate::telling::told;
 use c_store::Session;
@@ -22,8 +23,10 @@ use std::alloc::Global;
 /// A session, which has RS once it is open, and the last reply if it is RS's. Otherwise the session has the last reply.
 #[derive(Drop)]
 pub struct RsSession {
-    pub(crate) session: Session,
-    pub(crate) told: Option<RsReply>,
+    /// The store, RS once it is open, and the store's last answer.
+    pub session: Session,
+    /// RS's last reply, if the last answer is RS's.
+    pub told: Option<RsReply>,
 }
 
 impl RsSession {
@@ -56,8 +59,18 @@ impl RsSession {
         self.told = Some(reply);
     }
 
+    /// Writes the answer of a reply of RS, and keeps the reply. The store and RS are unchanged.
+    pub fn answer_reply(&mut self, reply: RsReply, answer: &mut Answer)
+        ensures session { self.new.session ≡ self.old.session }
+        ensures answered { answer.new ≡ told_answer reply }
+        ensures kept { self.new.told ≡ Some reply }
+    {
+        *answer = told(&reply);
+        self.told = Some(reply);
+    }
+
     /// Refuses a command. The store and RS are unchanged.
-    pub(crate) fn refuse(&mut self, refusal: Refusal, answer: &mut Answer)
+    pub fn refuse(&mut self, refusal: Refusal, answer: &mut Answer)
         ensures { RefusesCommand refusal self.old answer.new self.new }
     {
         self.told = None;

@@ -60,8 +60,8 @@ pub(crate) fn begun_word(reply: &RsReply) -> u32
     }
 }
 
-// Returns the number of a fault of RS.
-fn rs_fault_number(fault: RsFault) -> u32
+/// Returns the number of a fault of RS.
+pub fn rs_fault_number(fault: RsFault) -> u32
     ensures { result ≡ rs_fault_number fault }
 {
     match fault {
@@ -79,7 +79,7 @@ fn rs_fault_number(fault: RsFault) -> u32
 }
 
 /// Returns the number of a cause for which a settings text is refused.
-pub(crate) fn cause_number(cause: SettingsCause) -> u32
+pub fn cause_number(cause: SettingsCause) -> u32
     ensures { result ≡ cause_number cause }
 {
     match cause {

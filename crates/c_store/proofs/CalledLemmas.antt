@@ -34,23 +34,27 @@ use Rattle.c_store.specs.Called.{CalledWith, Called, Rests, Tells}
 use Rattle.c_store.specs.declared.last.Last.TheVariants.{Reply as Replied}
 use Rattle.c_store.specs.Kept.{copy_reply}
 
-pub called : (old new : Session) (r : Request) (o : Option (List ℕ)) (text : List ℕ) (answer : Answer) → o ≡ Some text → CalledWith old r text answer new → Called old r o answer new
+pub called : (old new : Session) (r : Request) (o : Option (List ℕ)) (text : List ℕ) (answer : Answer) → o ≡ Some text →
+    CalledWith old r text answer new → Called old r o answer new
 called old new r o text answer is given = subst (λ (p : Option (List ℕ)). Called old r p answer new) (sym is) given
 
 -- A command that a turn of the store answers, which leaves the store unchanged. Before the answer, the last one may be let go.
-pub told_so : (old mid new : Session) (answer : Answer) (command : Command) (reply : Reply) → mid.node ≡ old.node → (v : ContentRecord) → v ≡ mid.node.store → Turn v command reply v
+pub told_so : (old mid new : Session) (answer : Answer) (command : Command) (reply : Reply) → mid.node ≡ old.node → (v : ContentRecord) →
+    v ≡ mid.node.store → Turn v command reply v
     → Rests mid (answer_of reply) (Replied reply AsMerge) answer new → Tells old AsMerge command answer new
 told_so old mid new answer command reply same v is turn rests = record {
   reply = reply;
   turn = subst (λ (w : PairRecord). Turn old.node.store command reply w.store) (sym rests.node_is)
-      (subst (λ (w : PairRecord). Turn w.store command reply mid.node.store) same (subst (λ (w : ContentRecord). Turn w command reply w) is turn));
+      (subst (λ (w : PairRecord). Turn w.store command reply mid.node.store) same
+      (subst (λ (w : ContentRecord). Turn w command reply w) is turn));
   services = ap (λ (w : PairRecord). w.services) (rests.node_is ∙ same);
   told = rests.told_is;
   kept = rests.kept;
 }
 
 -- A request whose command is answered.
-pub answered : (old new : Session) (r : Request) (text : List ℕ) (answer : Answer) (command : Command) → StandsFor r text command → Tells old AsMerge command answer new → CalledWith old r text answer new
+pub answered : (old new : Session) (r : Request) (text : List ℕ) (answer : Answer) (command : Command) → StandsFor r text command →
+    Tells old AsMerge command answer new → CalledWith old r text answer new
 answered old new r text answer command stands tells = inl (record { command = command; stands = stands; answered = tells })
 
 -- ---- what a Publish, a Retrieve and a NameOf stand for
@@ -63,23 +67,28 @@ names : (r : Request) (text : List ℕ) → r.command ≡ 4 → command_of r tex
 unfolding command_of
 names r text four = rw four refl
 
-pub stands_for_publish : (r : Request) (text : List ℕ) (asked : Publication) → r.command ≡ 0 → option_map publish_command (Some asked) ≡ publish_of r text → StandsFor r text (publish_command asked)
+pub stands_for_publish : (r : Request) (text : List ℕ) (asked : Publication) → r.command ≡ 0 →
+    option_map publish_command (Some asked) ≡ publish_of r text → StandsFor r text (publish_command asked)
 stands_for_publish r text asked zero e = inl (publishes r text zero ∙ sym e)
 
-pub stands_for_no_publish : (r : Request) (text : List ℕ) → r.command ≡ 0 → option_map publish_command None ≡ publish_of r text → StandsForNone r text
+pub stands_for_no_publish : (r : Request) (text : List ℕ) → r.command ≡ 0 → option_map publish_command None ≡ publish_of r text →
+    StandsForNone r text
 stands_for_no_publish r text zero e = none_of_parts r text (λ ten. omega (arith, zero, ten)) (publishes r text zero ∙ sym e)
 
 pub stands_for_retrieve : (r : Request) (text : List ℕ) (key : Key) → r.command ≡ 3 → Some key ≡ key_of r → StandsFor r text (Retrieve key)
 stands_for_retrieve r text key three e = inl (retrieves r text three ∙ ap (option_map Retrieve) (sym e))
 
 pub stands_for_no_retrieve : (r : Request) (text : List ℕ) → r.command ≡ 3 → None ≡ key_of r → StandsForNone r text
-stands_for_no_retrieve r text three e = none_of_parts r text (λ ten. omega (arith, three, ten)) (retrieves r text three ∙ ap (option_map Retrieve) (sym e))
+stands_for_no_retrieve r text three e = none_of_parts r text (λ ten. omega (arith, three, ten))
+    (retrieves r text three ∙ ap (option_map Retrieve) (sym e))
 
-pub stands_for_name : (r : Request) (text : List ℕ) (endpoint : EndpointRecord) → r.command ≡ 4 → Some endpoint ≡ caller_of r → StandsFor r text (NameOf endpoint)
+pub stands_for_name : (r : Request) (text : List ℕ) (endpoint : EndpointRecord) → r.command ≡ 4 → Some endpoint ≡ caller_of r →
+    StandsFor r text (NameOf endpoint)
 stands_for_name r text endpoint four e = inl (names r text four ∙ ap (option_map NameOf) (sym e))
 
 pub stands_for_no_name : (r : Request) (text : List ℕ) → r.command ≡ 4 → None ≡ caller_of r → StandsForNone r text
-stands_for_no_name r text four e = none_of_parts r text (λ ten. omega (arith, four, ten)) (names r text four ∙ ap (option_map NameOf) (sym e))
+stands_for_no_name r text four e = none_of_parts r text (λ ten. omega (arith, four, ten))
+    (names r text four ∙ ap (option_map NameOf) (sym e))
 
 -- ---- the turn of a NameOf of an endpoint without a label
 
@@ -87,13 +96,19 @@ no_name : (rs : Bool) (o : Option (List ℕ)) → None ≡ cond rs None o → rs
 no_name true o e is = absurd (cc)
 no_name false o e is = e
 
-pub nameless_turn : (v : ContentRecord) (endpoint : EndpointRecord) → ((s : State) × ContentStands v s) → InEachState v (λ s. None ≡ label_name s endpoint) → is_rs endpoint ≡ false
+pub nameless_turn : (v : ContentRecord) (endpoint : EndpointRecord) → ((s : State) × ContentStands v s) →
+    InEachState v (λ s. None ≡ label_name s endpoint) → is_rs endpoint ≡ false
     → Turn v (NameOf endpoint) (Refused NotFound) v
 nameless_turn v endpoint stood is client = record {
   stood = stood;
   steps = λ s stands. (
     s,
-    inl (inl (record { reply_is = ap (λ (o : Option (List ℕ)). found_or (option_map Named o)) (no_name (is_rs endpoint) (name_of (held s) endpoint) (is s stands) client); state_is = refl })),
+    inl (inl
+        (record {
+          reply_is = ap (λ (o : Option (List ℕ)). found_or (option_map Named o))
+              (no_name (is_rs endpoint) (name_of (held s) endpoint) (is s stands) client);
+          state_is = refl;
+        })),
     stands,
   );
   last = λ s stands. tt;
@@ -101,7 +116,10 @@ nameless_turn v endpoint stood is client = record {
 
 -- ---- the turn of a Retrieve that copies the value
 
-pub copied_turn : (v : ContentRecord) (key : Key) (value : Value) (copied : Result Value room.NoRoom) → ((s : State) × ContentStands v s) → InEachState v (λ s. Some value ≡ live_at s key) → kind_of value ≡ key.kind
+pub copied_turn : (v : ContentRecord) (key : Key) (value : Value) (copied : Result Value room.NoRoom) → ((s : State) × ContentStands v s) →
+    InEachState v (λ s. Some value ≡ live_at s key) → kind_of value ≡ key.kind
     → IfOk copied (λ copy. copy ≡ value) → (IsInPlace value → IsOk copied) → Turn v (Retrieve key) (copy_reply copied) v
-copied_turn v key value (Ok copy) stood is kind same in_place = subst (λ (x : Value). Turn v (Retrieve key) (Found x) v) (sym same) (retrieve_turn v key (Some value) stood is)
-copied_turn v key value (Err want) stood is kind same in_place = copyless_turn v key value stood is kind (λ p. let no : false ≡ true = in_place p in absurd (cc))
+copied_turn v key value (Ok copy) stood is kind same in_place =
+    subst (λ (x : Value). Turn v (Retrieve key) (Found x) v) (sym same) (retrieve_turn v key (Some value) stood is)
+copied_turn v key value (Err want) stood is kind same in_place =
+    copyless_turn v key value stood is kind (λ p. let no : false ≡ true = in_place p in absurd (cc))

@@ -1,5 +1,6 @@
 -- What a fast reader finds is the line's command.
-use Rattle.std.proofs.Common.{◌≡◌, ◌≤◌, ◌⊎◌, ℕ, Bool, true, false, cond, List, [], ◌∷◌, ◌++◌, Option, Some, None, Ok, IfSome, inl, inr, refl, ap, subst, length, ◌∙◌, arith, length-append}
+use Rattle.std.proofs.Common.{◌≡◌, ◌≤◌, ◌⊎◌, ℕ, Bool, true, false, cond, List, [], ◌∷◌, ◌++◌, Option, Some, None, Ok, IfSome, inl, inr}
+use Rattle.std.proofs.Common.{refl, ap, subst, length, ◌∙◌, arith, length-append}
 use Rattle.std.specs.Prelude.{codes}
 use Rattle.std.specs.Char.{is_ascii_digit}
 use Rattle.std.proofs.lemmas.List.{append-nil}
@@ -36,7 +37,8 @@ ends_so : (bytes text rest : List ℕ) → bytes ≡ text ++ rest → (rest ≡ 
 ends_so bytes text rest parts (inl none) = inl (parts ∙ ap (λ (r : List ℕ). text ++ r) none ∙ append-nil text)
 ends_so bytes text rest parts (inr one) = inr (parts ∙ ap (λ (r : List ℕ). text ++ r) one)
 
-pub alone : (g s : ℕ) (bytes rest : List ℕ) → Begins is_ascii_digit bytes (endpoint_text (endpoint_of g s)) rest → IsEndpoint (endpoint_of g s) → (rest ≡ []) ⊎ (rest ≡ 10 ∷ [])
+pub alone : (g s : ℕ) (bytes rest : List ℕ) → Begins is_ascii_digit bytes (endpoint_text (endpoint_of g s)) rest →
+    IsEndpoint (endpoint_of g s) → (rest ≡ []) ⊎ (rest ≡ 10 ∷ [])
     → (found : Option EndpointRecord) → found ≡ endpoint_at g s → IfSome found (λ e. IsEndpointAlone e bytes)
 alone g s bytes rest begins valid end None is = tt
 alone g s bytes rest begins valid end (Some e) is =
@@ -53,7 +55,8 @@ unbroken_line e valid =
     let t1 = unbroken_one 97 (109 ∷ 101 ∷ 111 ∷ 102 ∷ 32 ∷ endpoint_text e) (λ same. omega (arith, same)) t2 in
     unbroken_one 110 (97 ∷ 109 ∷ 101 ∷ 111 ∷ 102 ∷ 32 ∷ endpoint_text e) (λ same. omega (arith, same)) t1
 
-line_of : (e : EndpointRecord) → IsEndpoint e → length (codes "nameof " ++ endpoint_text e) ≤ 4096 → IsLineOf (Store (NameOf e)) (codes "nameof " ++ endpoint_text e)
+line_of : (e : EndpointRecord) → IsEndpoint e → length (codes "nameof " ++ endpoint_text e) ≤ 4096 →
+    IsLineOf (Store (NameOf e)) (codes "nameof " ++ endpoint_text e)
 line_of e valid short = record { written = (valid, tt); text = refl; short = short }
 
 named : (bytes past : List ℕ) (e : EndpointRecord) → length bytes ≤ 4096 → bytes ≡ codes "nameof " ++ past → IsEndpoint e
@@ -61,11 +64,21 @@ named : (bytes past : List ℕ) (e : EndpointRecord) → length bytes ≤ 4096 �
 named bytes past e short is valid (inl whole) =
     let line = codes "nameof " ++ endpoint_text e in
     let same : bytes ≡ line = is ∙ ap (λ (r : List ℕ). codes "nameof " ++ r) whole in
-    record { line = line; is = record { unbroken = unbroken_line e valid; text = inl same }; stands = line_of e valid (omega (arith, short, ap length same)) }
+    record {
+      line = line;
+      is = record { unbroken = unbroken_line e valid; text = inl same };
+      stands =
+          line_of e valid (omega (arith, short, ap length same));
+    }
 named bytes past e short is valid (inr ended) =
     let line = codes "nameof " ++ endpoint_text e in
     let same : bytes ≡ with_newline line = is ∙ ap (λ (r : List ℕ). codes "nameof " ++ r) ended in
-    record { line = line; is = record { unbroken = unbroken_line e valid; text = inr same }; stands = line_of e valid (omega (arith, short, ap length same, length-append line (10 ∷ []))) }
+    record {
+      line = line;
+      is = record { unbroken = unbroken_line e valid; text = inr same };
+      stands =
+          line_of e valid (omega (arith, short, ap length same, length-append line (10 ∷ [])));
+    }
 
 pub of_name : (bytes past : List ℕ) → length bytes ≤ 4096 → bytes ≡ codes "nameof " ++ past → (found : Option EndpointRecord)
     → IfSome found (λ e. IsEndpointAlone e past) → IfSome found (λ e. IsCommandIn bytes (Store (NameOf e)))

@@ -1,5 +1,6 @@
 -- What a table does with the map's change of one label, and what it knows of that change then.
-use Rattle.std.proofs.Common.{◌≡◌, ◌==◌, ◌&&◌, ◌||◌, ℕ, ◌+◌, ◌≤◌, nat_lt, Bool, true, false, not, cond, List, [], ◌∷◌, ◌++◌, Option, Some, None, Ok, refl, ap, sym, ◌∙◌, subst, inl, inr, ◌⊎◌, arith}
+use Rattle.std.proofs.Common.{◌≡◌, ◌==◌, ◌&&◌, ◌||◌, ℕ, ◌+◌, ◌≤◌, nat_lt, Bool, true, false, not, cond, List, [], ◌∷◌, ◌++◌, Option, Some}
+use Rattle.std.proofs.Common.{None, Ok, refl, ap, sym, ◌∙◌, subst, inl, inr, ◌⊎◌, arith}
 use Rattle.std.proofs.lemmas.Bool.Decides.{nat_tests}
 use Rattle.ds_names.specs.Endpoint.{EndpointRecord}
 use Rattle.ds_names.specs.Key.{label_key}
@@ -31,7 +32,8 @@ in_some e = cc
 abbrev pub HasReached : DriverTable → List ℕ → ℕ → Type 0
 HasReached t label n = (h : ℕ) × (newest t.states label ≡ Some h) × (n ≤ h)
 
--- the table knows a label's state of an epoch: it has had the endpoint's generation; or it has no endpoint now, or one of a greater generation
+-- the table knows a label's state of an epoch: it has had the endpoint's generation; or it has no endpoint now, or one of a greater
+-- generation
 abbrev pub Knows : DriverTable → List ℕ → ℕ → Option EndpointRecord → Type 0
 Knows t label epoch (Some e) = HasReached t label e.generation
 Knows t label epoch None = (endpoint_now t.states label ≡ None) ⊎ HasReached t label (epoch + 1)
@@ -46,15 +48,18 @@ less_is m n l = grind (arith, nat_tests)
 not_less : (m n : ℕ) → nat_lt m n ≡ false → n ≤ m
 not_less m n l = grind (arith, nat_tests)
 
-late_known : (x : DriverTable) (label : List ℕ) (epoch : ℕ) (body : Body) → is_old_tombstone (newest x.states label) epoch body ≡ true → Knows x label epoch (endpoint_in body)
+late_known : (x : DriverTable) (label : List ℕ) (epoch : ℕ) (body : Body) → is_old_tombstone (newest x.states label) epoch body ≡ true →
+    Knows x label epoch (endpoint_in body)
 late_known x label epoch (Put value) k = opposed false k refl
 late_known x label epoch Gone k = by (newest x.states label) refl k
   where
-    by : (n : Option ℕ) → newest x.states label ≡ n → is_below_newest n epoch ≡ true → (endpoint_now x.states label ≡ None) ⊎ HasReached x label (epoch + 1)
+    by : (n : Option ℕ) → newest x.states label ≡ n → is_below_newest n epoch ≡ true →
+        (endpoint_now x.states label ≡ None) ⊎ HasReached x label (epoch + 1)
     by None q k = opposed false k refl
     by (Some g) q k = inr (g, q, less_is epoch g k)
 
-old_known : (x : DriverTable) (label : List ℕ) (epoch : ℕ) (state : Option EndpointRecord) → is_old_for x.states label state ≡ true → Knows x label epoch state
+old_known : (x : DriverTable) (label : List ℕ) (epoch : ℕ) (state : Option EndpointRecord) → is_old_for x.states label state ≡ true →
+    Knows x label epoch state
 old_known x label epoch None k = by (newest x.states label) k
   where
     by : (n : Option ℕ) → is_old n (endpoint_now x.states label) None ≡ true → Knows x label epoch None
@@ -76,7 +81,8 @@ old_known x label epoch (Some e) k = by (newest x.states label) refl k
     at g true c q j = less g q
     at g false c q j = same g (e.generation == g) c refl j
 
-    by : (n : Option ℕ) → newest x.states label ≡ n → is_old n (endpoint_now x.states label) (Some e) ≡ true → HasReached x label e.generation
+    by : (n : Option ℕ) → newest x.states label ≡ n → is_old n (endpoint_now x.states label) (Some e) ≡ true →
+        HasReached x label e.generation
     by None q k = opposed false k refl
     by (Some g) q k = (g, q, at g (nat_lt e.generation g) (not (is_same_state (endpoint_now x.states label) (Some e))) refl k)
 
@@ -87,12 +93,15 @@ noted label state = record { label = label; endpoint = state }
 module _ (x y : DriverTable) (l : List ℕ) (state : Option EndpointRecord) (more : y.states ≡ x.states ++ noted l state ∷ []) where
   now_so : (label : List ℕ) (b : Bool) → is_same_name l label ≡ b → endpoint_now y.states label ≡ cond b state (endpoint_now x.states label)
   now_so label b q =
-      ap (λ (s : List LabelState). endpoint_now s label) more ∙ (now_after x.states (noted l state) label ∙ ap (λ (b : Bool). cond b state (endpoint_now x.states label)) q)
+      ap (λ (s : List LabelState). endpoint_now s label) more ∙
+      (now_after x.states (noted l state) label ∙ ap (λ (b : Bool). cond b state (endpoint_now x.states label)) q)
 
-  newest_so : (label : List ℕ) (b : Bool) → is_same_name l label ≡ b → newest y.states label ≡ cond b (newer (newest x.states label) state) (newest x.states label)
+  newest_so : (label : List ℕ) (b : Bool) → is_same_name l label ≡ b →
+      newest y.states label ≡ cond b (newer (newest x.states label) state) (newest x.states label)
   newest_so label b q =
       ap (λ (s : List LabelState). newest s label) more
-      ∙ (newest_after x.states (noted l state) label ∙ ap (λ (b : Bool). cond b (newer (newest x.states label) state) (newest x.states label)) q)
+      ∙ (newest_after x.states (noted l state) label ∙
+      ap (λ (b : Bool). cond b (newer (newest x.states label) state) (newest x.states label)) q)
 
   noted_known : (epoch : ℕ) → Knows y l epoch state
   noted_known epoch = by state (now_so l true (name_itself l)) (newest_so l true (name_itself l))
@@ -109,7 +118,8 @@ module _ (x y : DriverTable) (l : List ℕ) (state : Option EndpointRecord) (mor
       by None now new = inl now
       by (Some e) now new = reached e (newest x.states l) new
 
-  other_known : (label : List ℕ) (epoch : ℕ) (o : Option EndpointRecord) → is_same_name l label ≡ false → Knows x label epoch o → Knows y label epoch o
+  other_known : (label : List ℕ) (epoch : ℕ) (o : Option EndpointRecord) → is_same_name l label ≡ false → Knows x label epoch o →
+      Knows y label epoch o
   other_known label epoch (Some e) q (h, n, m) = (h, newest_so label false q ∙ n, m)
   other_known label epoch None q (inl n) = inl (now_so label false q ∙ n)
   other_known label epoch None q (inr (h, n, m)) = inr (h, newest_so label false q ∙ n, m)
@@ -141,11 +151,13 @@ module _ (held : List Item) (x : DriverTable) (l : List ℕ) where
     passed : taking x l (news_of held x l) ≡ ([], x) → KnowsChange x l c → Passes
     passed past known = record { past = past; knows = λ d q. subst (KnowsChange x l) (in_some (sym there ∙ q)) known }
 
-    news_by : (late : Bool) → is_old_tombstone (newest x.states l) c.version.epoch c.body ≡ late → news_of held x l ≡ cond late None (Some state)
+    news_by : (late : Bool) → is_old_tombstone (newest x.states l) c.version.epoch c.body ≡ late →
+        news_of held x l ≡ cond late None (Some state)
     news_by late q = ap (told (newest x.states l)) there ∙ ap (λ (b : Bool). cond b None (Some state)) q
 
     answer_by : (old : Bool) → is_old_for x.states l state ≡ old → changing x l state ≡ changed_so x l state true old is_same
-    answer_by old q = ap (λ (b : Bool). changed_so x l state b (is_old_for x.states l state) is_same) has ∙ ap (λ (b : Bool). changed_so x l state true b is_same) q
+    answer_by old q = ap (λ (b : Bool). changed_so x l state b (is_old_for x.states l state) is_same) has ∙
+        ap (λ (b : Bool). changed_so x l state true b is_same) q
 
     by_old : news_of held x l ≡ Some state → (old : Bool) → is_old_for x.states l state ≡ old → Passes ⊎ Notes
     by_old news true q = inl (passed (ap (taking x l) news ∙ ap (as_round x) (answer_by true q)) (old_known x l c.version.epoch state q))
@@ -167,7 +179,9 @@ module _ (held : List Item) (x : DriverTable) (l : List ℕ) where
   passes_or_notes has = by (held_at held (label_key l)) refl
     where
       by : (o : Option ChangeRecord) → held_at held (label_key l) ≡ o → Passes ⊎ Notes
-      by None q = inl (record { past = ap (λ (o : Option ChangeRecord). taking x l (told (newest x.states l) o)) q; knows = λ c k. no_some c (sym q ∙ k) })
+      by None q = inl
+          (record
+          { past = ap (λ (o : Option ChangeRecord). taking x l (told (newest x.states l) o)) q; knows = λ c k. no_some c (sym q ∙ k) })
       by (Some c) q = by_late has c q (is_old_tombstone (newest x.states l) c.version.epoch c.body) refl
 
   -- what the table knows of this label then, and that it still knows the others
@@ -181,7 +195,8 @@ module _ (held : List Item) (x : DriverTable) (l : List ℕ) where
           (noted_known x (does (notes x l (endpoint_in n.change.body)) n.moves) l (endpoint_in n.change.body) refl n.change.version.epoch))
     ]
 
-    pub knows_past : (label : List ℕ) (c : ChangeRecord) → held_at held (label_key label) ≡ Some c → KnowsChange x label c → KnowsChange (taking x l (news_of held x l)).1 label c
+    pub knows_past : (label : List ℕ) (c : ChangeRecord) → held_at held (label_key label) ≡ Some c → KnowsChange x label c →
+        KnowsChange (taking x l (news_of held x l)).1 label c
     knows_past label c q k = by (is_same_name l label) refl
       where
         by : (b : Bool) → is_same_name l label ≡ b → KnowsChange (taking x l (news_of held x l)).1 label c
@@ -192,5 +207,6 @@ module _ (held : List Item) (x : DriverTable) (l : List ℕ) where
           | inl p ↦ subst (λ (r : List (List Move) × DriverTable). KnowsChange r.1 label c) (sym p.past) k
           | inr n ↦
               subst (λ (r : List (List Move) × DriverTable). KnowsChange r.1 label c) (sym n.past)
-              (other_known x (does (notes x l (endpoint_in n.change.body)) n.moves) l (endpoint_in n.change.body) refl label c.version.epoch (endpoint_in c.body) e k)
+              (other_known x (does (notes x l (endpoint_in n.change.body)) n.moves) l (endpoint_in n.change.body) refl label
+              c.version.epoch (endpoint_in c.body) e k)
         ]

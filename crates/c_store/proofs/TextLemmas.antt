@@ -32,7 +32,8 @@ pub reply_has_lines : (wording : Wording) (reply : Reply) (limits : LimitsRecord
 reply_has_lines wording reply limits =
     let words = reply_words wording reply in
     let owed = owed_line limits (owed_by reply) in
-    after_any (flat_map item_spelling (shown_by reply)) (with_newline words ++ owed) (before_any (with_newline words) owed (line_has_bytes words))
+    after_any (flat_map item_spelling (shown_by reply)) (with_newline words ++ owed)
+    (before_any (with_newline words) owed (line_has_bytes words))
 
 pub show_has_lines : (items : List Item) → shown_text items ≢ []
 show_has_lines items =

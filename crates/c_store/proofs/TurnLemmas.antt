@@ -1,5 +1,6 @@
 -- Calls on a table from C, as a run of the table.
-use Rattle.std.proofs.Common.{◌≡◌, ◌==◌, ◌≤◌, ℕ, Bool, cond, List, [], ◌∷◌, ◌++◌, Option, Some, None, Result, Ok, Err, refl, ap, sym, ◌∙◌, subst, inl, inr, ◌⊎◌, append-nil}
+use Rattle.std.proofs.Common.{◌≡◌, ◌==◌, ◌≤◌, ℕ, Bool, cond, List, [], ◌∷◌, ◌++◌, Option, Some, None, Result, Ok, Err, refl, ap, sym, ◌∙◌}
+use Rattle.std.proofs.Common.{subst, inl, inr, ◌⊎◌, append-nil}
 use Rattle.std.specs.Prelude.{MatchOption, length}
 use Rattle.std.specs.List.{flat_map, cons_option, AllByRecursion}
 use Rattle.std.specs.Option.{option_map, option_to_list}
@@ -37,9 +38,11 @@ use Rattle.c_store.specs.Calls.{class_for, Declines, AssignsTo, RepliesTo, Table
 use Rattle.c_store.specs.Drivers.{kept, driver_with}
 use Rattle.c_store.specs.Following.{fault_in}
 use Rattle.c_store.specs.NoOlder.{HasNoOlder, GoesToNoneOlder, unit_label}
-use Rattle.c_store.specs.TableTurns.{TableCall, Assign, Follow, Submit, Reply, CallAnswers, AnsweredCall, LeadsByCall, AnsweredCalls, moves_of_turns, accepted_by, accepted}
+use Rattle.c_store.specs.TableTurns.{TableCall, Assign, Follow, Submit, Reply, CallAnswers, AnsweredCall, LeadsByCall, AnsweredCalls}
+use Rattle.c_store.specs.TableTurns.{moves_of_turns, accepted_by, accepted}
 use Rattle.c_store.specs.TableRuns.{IsNoCall, IsOneCall, IsOfMap, HasRequest, IsOfCall, IsPartOfCall, ArePartsOfCalls}
-use Rattle.c_store.specs.TableRuns.{TurnsAreRuns, endings_of, AnsweredOnce, IsKeptBy, IsKeptIn, RequestsAreKept, map_of_call, GoesToNoOlderInstance, NoneGoesToOlderInstance}
+use Rattle.c_store.specs.TableRuns.{TurnsAreRuns, endings_of, AnsweredOnce, IsKeptBy, IsKeptIn, RequestsAreKept, map_of_call}
+use Rattle.c_store.specs.TableRuns.{GoesToNoOlderInstance, NoneGoesToOlderInstance}
 use Rattle.c_store.proofs.NewsLemmas.{in_some}
 use Rattle.c_store.proofs.FollowRunLemmas.{label_in, Goes, labels_have, follow_run, submit_run}
 
@@ -58,8 +61,10 @@ pub record TurnRun (turn : AnsweredCall) (t : DriverTable) (new : ServerTable) :
 abbrev pub CallRun : TableCall → Answer → List Move → DriverTable → ServerTable → Type 0
 CallRun call answer moves t new = TurnRun (record { call = call; answer = answer; moves = moves }) t new
 
-declined_part : (call : TableCall) (old new : ServerTable) (answer : Answer) (moves : List Move) (t : DriverTable) → TableStands (kept old.drivers) t → moves ≡ new.moves → Declines old answer new
-    → (IsNoCall answer [] → IsOfCall call answer []) → [] ≡ option_to_list (accepted_by call answer) → ((held : List Item) → map_of_call call ≡ Some held → ⊥) → CallRun call answer moves t new
+declined_part : (call : TableCall) (old new : ServerTable) (answer : Answer) (moves : List Move) (t : DriverTable) →
+    TableStands (kept old.drivers) t → moves ≡ new.moves → Declines old answer new
+    → (IsNoCall answer [] → IsOfCall call answer []) → [] ≡ option_to_list (accepted_by call answer) →
+    ((held : List Item) → map_of_call call ≡ Some held → ⊥) → CallRun call answer moves t new
 declined_part call old new answer moves t st m d of none other = record {
   part = [];
   is_part = record { of_call = of (record { none = refl; told = d.told }); moves = m ∙ d.none };
@@ -71,7 +76,8 @@ declined_part call old new answer moves t st m d of none other = record {
 }
 
 -- an assignment has no moves
-assigned_none : (t u : DriverTable) (unit : ℕ) (driver : Driver) (said : Result (List Move) TableFault) → TableStep t (calls.Assign unit driver) said u → moves_in said ≡ []
+assigned_none : (t u : DriverTable) (unit : ℕ) (driver : Driver) (said : Result (List Move) TableFault) →
+    TableStep t (calls.Assign unit driver) said u → moves_in said ≡ []
 assigned_none t u unit driver (Err fault) s = refl
 assigned_none t u unit driver (Ok moves) s = by (assigning t unit driver).0 s.answer_is
   where
@@ -79,13 +85,20 @@ assigned_none t u unit driver (Ok moves) s = by (assigning t unit driver).0 s.an
     by (Ok done) e = cc
     by (Err fault) e = absurd (cc)
 
-assign_part : (unit class : ℕ) (label : List ℕ) (old new : ServerTable) (answer : Answer) (moves : List Move) (t : DriverTable) → TableStands (kept old.drivers) t → moves ≡ new.moves → (o : Option Class)
+assign_part : (unit class : ℕ) (label : List ℕ) (old new : ServerTable) (answer : Answer) (moves : List Move) (t : DriverTable) →
+    TableStands (kept old.drivers) t → moves ≡ new.moves → (o : Option Class)
     → MatchOption o (Declines old answer new) (AssignsTo unit label old answer new) → CallRun (Assign unit class label) answer moves t new
-assign_part unit class label old new answer moves t st m None d = declined_part (Assign unit class label) old new answer moves t st m d inl refl (λ held e. (let n : None ≡ Some held = e in cc))
+assign_part unit class label old new answer moves t st m None d =
+    declined_part (Assign unit class label) old new answer moves t st m d inl refl (λ held e. (let n : None ≡ Some held = e in cc))
 assign_part unit class label old new answer moves t st m (Some of) a =
     let s = a.steps.steps t st in record {
       part = record { call = calls.Assign unit (driver_with label of); answer = a.said } ∷ [];
-      is_part = record { of_call = inr (of, record { said = a.said; one = refl; told = a.told }); moves = m ∙ (a.none ∙ (sym (assigned_none t s.0 unit (driver_with label of) a.said s.1) ∙ sym (append-nil (moves_in a.said)))) };
+      is_part =
+          record {
+            of_call = inr (of, record { said = a.said; one = refl; told = a.told });
+            moves =
+                m ∙ (a.none ∙ (sym (assigned_none t s.0 unit (driver_with label of) a.said s.1) ∙ sym (append-nil (moves_in a.said))));
+          };
       table = s.0;
       run = (s.0, s.1, refl);
       stands = s.2;
@@ -93,17 +106,21 @@ assign_part unit class label old new answer moves t st m (Some of) a =
       goes = λ held e. absurd (let n : None ≡ Some held = e in cc);
     }
 
-reply_part : (generation slot id : ℕ) (old new : ServerTable) (answer : Answer) (moves : List Move) (t : DriverTable) → TableStands (kept old.drivers) t → moves ≡ new.moves → (o : Option EndpointRecord) → endpoint_at generation slot ≡ o
+reply_part : (generation slot id : ℕ) (old new : ServerTable) (answer : Answer) (moves : List Move) (t : DriverTable) →
+    TableStands (kept old.drivers) t → moves ≡ new.moves → (o : Option EndpointRecord) → endpoint_at generation slot ≡ o
     → MatchOption o (Declines old answer new) (RepliesTo id old answer new) → CallRun (Reply generation slot id) answer moves t new
 reply_part generation slot id old new answer moves t st m None q d =
     declined_part (Reply generation slot id) old new answer moves t st m d
-    (λ (n : IsNoCall answer []). subst (λ (o : Option EndpointRecord). MatchOption o (IsNoCall answer []) (λ (e : EndpointRecord). IsOneCall (calls.Reply e id) answer [])) (sym q) n)
+    (λ (n : IsNoCall answer []). subst (λ (o : Option EndpointRecord).
+    MatchOption o (IsNoCall answer []) (λ (e : EndpointRecord). IsOneCall (calls.Reply e id) answer [])) (sym q) n)
     refl (λ held e. (let n : None ≡ Some held = e in cc))
 reply_part generation slot id old new answer moves t st m (Some endpoint) q r =
     let s = r.replies.steps.steps t st in record {
       part = part;
       is_part = record {
-        of_call = subst (λ (o : Option EndpointRecord). MatchOption o (IsNoCall answer part) (λ (e : EndpointRecord). IsOneCall (calls.Reply e id) answer part)) (sym q) (record { said = r.said; one = refl; told = r.told });
+        of_call = subst (λ (o : Option EndpointRecord).
+            MatchOption o (IsNoCall answer part) (λ (e : EndpointRecord). IsOneCall (calls.Reply e id) answer part)) (sym q)
+            (record { said = r.said; one = refl; told = r.told });
         moves = m ∙ (r.moves ∙ sym (append-nil (moves_in r.said)));
       };
       table = s.0;
@@ -122,7 +139,8 @@ no_requests held [] all = refl
 no_requests held (entry ∷ entries) ((label, c, there, is), all) =
     ap (λ (call : Call). cons_option (request_in call entry.answer) (requests_in entries)) is ∙ no_requests held entries all
 
-follow_part : (held : List Item) (old new : ServerTable) (answer : Answer) (moves : List Move) (t : DriverTable) → TableStands (kept old.drivers) t → moves ≡ new.moves → TableFollows held old answer new
+follow_part : (held : List Item) (old new : ServerTable) (answer : Answer) (moves : List Move) (t : DriverTable) →
+    TableStands (kept old.drivers) t → moves ≡ new.moves → TableFollows held old answer new
     → CallRun (Follow held) answer moves t new
 follow_part held old new answer moves t st m f =
     let went = f.follows.1 t st in
@@ -134,18 +152,21 @@ follow_part held old new answer moves t st m f =
       run = k.run;
       stands = went.4;
       requests = no_requests held k.entries k.of_map;
-      goes = λ other e. subst (λ (h : List Item). AllByRecursion (Goes h went.0) moves) (in_some e) (subst (AllByRecursion (Goes held went.0)) (sym same) k.goes);
+      goes = λ other e. subst (λ (h : List Item). AllByRecursion (Goes h went.0) moves) (in_some e)
+          (subst (AllByRecursion (Goes held went.0)) (sym same) k.goes);
     }
 
 abbrev pub request_if : ℕ → ℕ → Bool → Option Request
 request_if id unit b = cond b (Some (record { id = id; unit = unit })) None
 
 -- the refusal that C gets says whether the request was accepted
-accepted_so : (held : List Item) (id unit : ℕ) (answer : Answer) (own : Result (List Move) TableFault) → answer.refusal ≡ stop_number (fault_in own)
+accepted_so : (held : List Item) (id unit : ℕ) (answer : Answer) (own : Result (List Move) TableFault) →
+    answer.refusal ≡ stop_number (fault_in own)
     → cons_option (request_in (calls.Submit id unit) own) [] ≡ option_to_list (accepted_by (Submit held id unit) answer)
 accepted_so held id unit answer own is = by own (ap (λ (n : ℕ). n == 0) is)
   where
-    by : (own : Result (List Move) TableFault) → answer.refusal == 0 ≡ stop_number (fault_in own) == 0 → cons_option (request_in (calls.Submit id unit) own) [] ≡ option_to_list (accepted_by (Submit held id unit) answer)
+    by : (own : Result (List Move) TableFault) → answer.refusal == 0 ≡ stop_number (fault_in own) == 0 →
+        cons_option (request_in (calls.Submit id unit) own) [] ≡ option_to_list (accepted_by (Submit held id unit) answer)
     by (Ok moves) e = sym (ap (λ (b : Bool). option_to_list (request_if id unit b)) e)
     by (Err faults.Assigned) e = sym (ap (λ (b : Bool). option_to_list (request_if id unit b)) e)
     by (Err faults.TwoIds) e = sym (ap (λ (b : Bool). option_to_list (request_if id unit b)) e)
@@ -157,44 +178,57 @@ accepted_so held id unit answer own is = by own (ap (λ (n : ℕ). n == 0) is)
 abbrev pub in_entry : Entry → Option Request
 in_entry e = request_in e.call e.answer
 
-submit_part : (held : List Item) (id unit : ℕ) (old new : ServerTable) (answer : Answer) (moves : List Move) (t : DriverTable) → TableStands (kept old.drivers) t → moves ≡ new.moves → TableSubmits held id unit old answer new
+submit_part : (held : List Item) (id unit : ℕ) (old new : ServerTable) (answer : Answer) (moves : List Move) (t : DriverTable) →
+    TableStands (kept old.drivers) t → moves ≡ new.moves → TableSubmits held id unit old answer new
     → CallRun (Submit held id unit) answer moves t new
 submit_part held id unit old new answer moves t st m f =
     let own = f.submits.1 in
     let went = f.submits.2 t st in
     let k = submit_run held id unit t went.1 own went.0 st.reached went.3 in
     let same : moves ≡ all_in went.1 ++ moves_in own = m ∙ (f.submits.3 ∙ ap (λ (r : List (List Move)). all_in r ++ moves_in own) went.2) in
-    let refusal : answer.refusal ≡ stop_number (fault_in own) = ap (λ (a : Answer). a.refusal) f.told ∙ ap stop_number f.submits.4 in record {
+    let refusal : answer.refusal ≡ stop_number (fault_in own) = ap (λ (a : Answer). a.refusal) f.told ∙ ap stop_number f.submits.4 in
+    record {
       part = k.states ++ k.own_part;
       is_part = record {
-        of_call = record { states = k.states; own = k.own_part; part_is = refl; of_map = k.of_map; request = asked own k.own_part refusal k.request };
+        of_call =
+            record
+            { states = k.states; own = k.own_part; part_is = refl; of_map = k.of_map; request = asked own k.own_part refusal k.request };
         moves = same ∙ k.moves;
       };
       table = went.0;
       run = k.run;
       stands = went.4;
-      requests = filter_map-append in_entry k.states k.own_part ∙ (ap (λ (l : List Request). l ++ requests_in k.own_part) (no_requests held k.states k.of_map) ∙ one own k.own_part refusal k.request);
-      goes = λ other e. subst (λ (h : List Item). AllByRecursion (Goes h went.0) moves) (in_some e) (subst (AllByRecursion (Goes held went.0)) (sym same) k.goes);
+      requests = filter_map-append in_entry k.states k.own_part ∙
+          (ap (λ (l : List Request). l ++ requests_in k.own_part) (no_requests held k.states k.of_map) ∙
+          one own k.own_part refusal k.request);
+      goes = λ other e. subst (λ (h : List Item). AllByRecursion (Goes h went.0) moves) (in_some e)
+          (subst (AllByRecursion (Goes held went.0)) (sym same) k.goes);
     }
   where
-    asked : (own : Result (List Move) TableFault) (part : List Entry) → answer.refusal ≡ stop_number (fault_in own) → (part ≡ record { call = calls.Submit id unit; answer = own } ∷ []) ⊎ ((part ≡ []) × (own ≡ Err faults.NoRoom))
+    asked : (own : Result (List Move) TableFault) (part : List Entry) → answer.refusal ≡ stop_number (fault_in own) →
+        (part ≡ record { call = calls.Submit id unit; answer = own } ∷ []) ⊎ ((part ≡ []) × (own ≡ Err faults.NoRoom))
         → HasRequest id unit answer part
     asked own part q (inl e) = inl (own, e, q)
     asked own part q (inr e) = inr (e.0, q ∙ ap (λ (o : Result (List Move) TableFault). stop_number (fault_in o)) e.1)
 
-    one : (own : Result (List Move) TableFault) (part : List Entry) → answer.refusal ≡ stop_number (fault_in own) → (part ≡ record { call = calls.Submit id unit; answer = own } ∷ []) ⊎ ((part ≡ []) × (own ≡ Err faults.NoRoom))
+    one : (own : Result (List Move) TableFault) (part : List Entry) → answer.refusal ≡ stop_number (fault_in own) →
+        (part ≡ record { call = calls.Submit id unit; answer = own } ∷ []) ⊎ ((part ≡ []) × (own ≡ Err faults.NoRoom))
         → requests_in part ≡ option_to_list (accepted_by (Submit held id unit) answer)
     one own part q (inl e) = ap requests_in e ∙ accepted_so held id unit answer own q
-    one own part q (inr e) = ap requests_in e.0 ∙ accepted_so held id unit answer (Err faults.NoRoom) (q ∙ ap (λ (o : Result (List Move) TableFault). stop_number (fault_in o)) e.1)
+    one own part q (inr e) = ap requests_in e.0 ∙
+        accepted_so held id unit answer (Err faults.NoRoom) (q ∙ ap (λ (o : Result (List Move) TableFault). stop_number (fault_in o)) e.1)
 
-pub turn_run : (old new : ServerTable) (turn : AnsweredCall) (t : DriverTable) → TableStands (kept old.drivers) t → LeadsByCall old turn new → TurnRun turn t new
+pub turn_run : (old new : ServerTable) (turn : AnsweredCall) (t : DriverTable) → TableStands (kept old.drivers) t →
+    LeadsByCall old turn new → TurnRun turn t new
 turn_run old new turn t st takes = by turn.call takes.takes
   where
     by : (call : TableCall) → CallAnswers call old turn.answer new → CallRun call turn.answer turn.moves t new
-    by (Assign unit class label) h = assign_part unit class label old new turn.answer turn.moves t st takes.moves (class_for old class label) h
+    by (Assign unit class label) h = assign_part unit class label old new turn.answer turn.moves t st takes.moves
+        (class_for old class label) h
     by (Follow held) h = follow_part held old new turn.answer turn.moves t st takes.moves h
     by (Submit held id unit) h = submit_part held id unit old new turn.answer turn.moves t st takes.moves h
-    by (Reply generation slot id) h = reply_part generation slot id old new turn.answer turn.moves t st takes.moves (endpoint_at generation slot) refl h
+    by (Reply generation slot id) h = reply_part generation slot id old new turn.answer turn.moves t st takes.moves
+        (endpoint_at generation slot) refl h
 
 -- ---- turns in order
 abbrev pub joined : List (List Entry) → List Entry
@@ -216,8 +250,18 @@ listed : {X : Type 0} (o : Option X) (l : List X) → option_to_list o ++ l ≡ 
 listed None l = refl
 listed (Some x) l = refl
 
-pub turns_run : (turns : List AnsweredCall) (first last : ServerTable) (t : DriverTable) → TableStands (kept first.drivers) t → AnsweredCalls first turns last → TurnsRun t turns last
-turns_run [] first last t st path = record { parts = []; each = tt; table = t; run = refl; stands = subst (λ (s : ServerTable). TableStands (kept s.drivers) t) path st; moves = refl; requests = refl }
+pub turns_run : (turns : List AnsweredCall) (first last : ServerTable) (t : DriverTable) → TableStands (kept first.drivers) t →
+    AnsweredCalls first turns last → TurnsRun t turns last
+turns_run [] first last t st path = record {
+  parts = [];
+  each = tt;
+  table = t;
+  run = refl;
+  stands = subst (λ (s : ServerTable). TableStands (kept s.drivers) t) path st;
+  moves =
+      refl;
+  requests = refl;
+}
 turns_run (turn ∷ turns) first last t st path =
     let k = turn_run first path.0 turn t st path.1 in
     let rest = turns_run turns path.0 last k.table k.stands path.2 in record {
@@ -227,16 +271,19 @@ turns_run (turn ∷ turns) first last t st path =
       run = path_join steps_on t k.table rest.table k.part (joined rest.parts) k.run rest.run;
       stands = rest.stands;
       moves = ap (λ (l : List Move). l ++ moves_of_turns turns) k.is_part.moves
-          ∙ (ap (λ (l : List Move). all_moves_in k.part ++ l) rest.moves ∙ sym (flat_map-append (λ (e : Entry). moves_in e.answer) k.part (joined rest.parts)));
+          ∙ (ap (λ (l : List Move). all_moves_in k.part ++ l) rest.moves ∙
+          sym (flat_map-append (λ (e : Entry). moves_in e.answer) k.part (joined rest.parts)));
       requests = filter_map-append in_entry k.part (joined rest.parts)
           ∙ (ap (λ (l : List Request). l ++ requests_in (joined rest.parts)) k.requests
-          ∙ (ap (λ (l : List Request). option_to_list (accepted_by turn.call turn.answer) ++ l) rest.requests ∙ listed (accepted_by turn.call turn.answer) (accepted turns)));
+          ∙ (ap (λ (l : List Request). option_to_list (accepted_by turn.call turn.answer) ++ l) rest.requests ∙
+          listed (accepted_by turn.call turn.answer) (accepted turns)));
     }
 
 -- ---- the laws
 pub turns_are_runs : TurnsAreRuns
 turns_are_runs first last turns t st path =
-    let k = turns_run turns first last t st path in record { parts = k.parts; each = k.each; table = k.table; run = k.run; stands = k.stands }
+    let k = turns_run turns first last t st path in
+    record { parts = k.parts; each = k.each; table = k.table; run = k.run; stands = k.stands }
 
 -- the sends and the answers of the table are those of the moves
 module _ (turns : List AnsweredCall) (last : ServerTable) (k : TurnsRun empty_table turns last) where
@@ -252,17 +299,27 @@ module _ (turns : List AnsweredCall) (last : ServerTable) (k : TurnsRun empty_ta
   once : (id : ℕ) → length (endings_of (moves_of_turns turns) id) ≤ 1
   once id = subst (λ l. length (values_of id l) ≤ 1) answers_are (answers_once (joined k.parts) k.table k.run id)
 
-  one_kept : (r : Request) → IsRequestServed k.table r → ((d : Driver) → driver_of k.table.units r.unit ≡ Some d → d.class ≡ Block → IsRequestKept k.table r d) → IsKeptIn (kept last.drivers).devices (moves_of_turns turns) r
-  one_kept r served keeps = (d, driver_kept (kept last.drivers) k.table r.unit k.stands ∙ ap (option_map (device_of k.table.states)) served.found, λ block. by (keeps served.driver served.found block))
+  one_kept : (r : Request) → IsRequestServed k.table r →
+      ((d : Driver) → driver_of k.table.units r.unit ≡ Some d → d.class ≡ Block → IsRequestKept k.table r d) →
+      IsKeptIn (kept last.drivers).devices (moves_of_turns turns) r
+  one_kept r served keeps = (
+    d,
+    driver_kept (kept last.drivers) k.table r.unit k.stands ∙ ap (option_map (device_of k.table.states)) served.found,
+    λ block.
+        by (keeps served.driver served.found block),
+  )
     where
       d : Device
       d = device_of k.table.states served.driver
 
       by : IsRequestKept k.table r served.driver → IsKeptBy (moves_of_turns turns) r (device_of k.table.states served.driver)
       by (inl e) = inl (ap (values_of r.id) (sym answers_are) ∙ e)
-      by (inr (e, sent)) = inr (ap (values_of r.id) (sym answers_are) ∙ e, λ endpoint q. ap (λ l. last_sent l r.id) (sym sends_are) ∙ sent endpoint q)
+      by (inr (e, sent)) = inr
+          (ap (values_of r.id) (sym answers_are) ∙ e, λ endpoint q. ap (λ l. last_sent l r.id) (sym sends_are) ∙ sent endpoint q)
 
-  each_kept : (requests : List Request) → AllByRecursion (IsRequestServed k.table) requests → AllByRecursion (λ (r : Request). (d : Driver) → driver_of k.table.units r.unit ≡ Some d → d.class ≡ Block → IsRequestKept k.table r d) requests
+  each_kept : (requests : List Request) → AllByRecursion (IsRequestServed k.table) requests →
+      AllByRecursion (λ (r : Request). (d : Driver) → driver_of k.table.units r.unit ≡ Some d → d.class ≡ Block →
+      IsRequestKept k.table r d) requests
       → AllByRecursion (IsKeptIn (kept last.drivers).devices (moves_of_turns turns)) requests
   each_kept [] s h = tt
   each_kept (r ∷ requests) s h = (one_kept r s.0 h.0, each_kept requests s.1 h.1)
@@ -281,7 +338,8 @@ module _ (held : List Item) (t : DriverTable) (v : TableRecord) (stands : TableS
   same_label : (unit : ℕ) → label_in t.units unit ≡ unit_label v unit
   same_label unit = sym (ap (option_map (λ (d : Device). d.label)) (driver_kept v t unit stands) ∙ by (driver_of t.units unit))
     where
-      by : (o : Option Driver) → option_map (λ (d : Device). d.label) (option_map (device_of t.states) o) ≡ option_map (λ (d : Driver). d.label) o
+      by : (o : Option Driver) → option_map (λ (d : Device). d.label) (option_map (device_of t.states) o) ≡ option_map
+          (λ (d : Driver). d.label) o
       by None = refl
       by (Some d) = refl
 
@@ -300,7 +358,8 @@ goes_to_no_older_instance old new turn held t st takes follows =
     let own = turn_run old new turn t st takes in
     let request = accepted_by turn.call turn.answer in
     let one : option_to_list request ≡ accepted (turn ∷ []) = sym (append-nil (option_to_list request)) ∙ listed request [] in
-    let requests : own.table.requests ≡ t.requests ++ accepted (turn ∷ []) = (tells_run t own.table own.part own.run).0 ∙ ap (λ (l : List Request). t.requests ++ l) (own.requests ∙ one) in
+    let requests : own.table.requests ≡ t.requests ++ accepted (turn ∷ []) =
+    (tells_run t own.table own.part own.run).0 ∙ ap (λ (l : List Request). t.requests ++ l) (own.requests ∙ one) in
     subst (λ (l : List Request). AllByRecursion (GoesToNoneOlder held (unit_label (kept new.drivers)) l) turn.moves) requests
     (goes_by held own.table (kept new.drivers) own.stands turn.moves (own.goes held follows))
 
@@ -308,6 +367,7 @@ pub none_goes_to_older_instance : NoneGoesToOlderInstance
 none_goes_to_older_instance server first mid last turns turn held new path takes follows =
     let k = turns_run turns first mid empty_table new.empty path in
     let requests : k.table.requests ++ accepted (turn ∷ []) ≡ accepted (turns ++ turn ∷ []) =
-    ap (λ (l : List Request). l ++ accepted (turn ∷ [])) (requests_are turns mid k) ∙ sym (filter_map-append (λ (x : AnsweredCall). accepted_by x.call x.answer) turns (turn ∷ [])) in
+    ap (λ (l : List Request). l ++ accepted (turn ∷ [])) (requests_are turns mid k) ∙
+    sym (filter_map-append (λ (x : AnsweredCall). accepted_by x.call x.answer) turns (turn ∷ [])) in
     subst (λ (l : List Request). AllByRecursion (GoesToNoneOlder held (unit_label (kept last.drivers)) l) turn.moves) requests
     (goes_to_no_older_instance mid last turn held k.table k.stands takes follows)

@@ -29,7 +29,8 @@ none_of_items r text ten none command (inr merge) = none merge.items merge.lines
 
 -- the result of reading a request that isn't a Merge
 pub of_parts : (r : Request) (text : List ℕ) (result : Result (Option Command) NoRoom) → r.command ≢ 10
-    → IfOk result (λ (command : Option Command). command ≡ command_of r text) → OnErr result (IsTrue (has_text r)) → OnErr result (command_of r text ≢ None)
+    → IfOk result (λ (command : Option Command). command ≡ command_of r text) → OnErr result (IsTrue (has_text r)) →
+    OnErr result (command_of r text ≢ None)
     → ReadsRequest r text result
 of_parts r text (Ok None) other read room fits = none_of_parts r text other (sym read)
 of_parts r text (Ok (Some command)) other read room fits = inl (sym read)
@@ -61,5 +62,6 @@ has_long : (r : Request) → r.command ≡ 0 → IsTrue (is_long (kind_at r.kind
 has_long r zero is = rw zero (or_left (is_long (kind_at r.kinds)) _ is)
 
 -- a Publish of a text or a blob takes memory
-pub publish_takes_memory : (r : Request) (text : List ℕ) → r.command ≡ 0 → IsTrue (is_long (kind_at r.kinds)) → publish_of r text ≢ None → ReadingTakesMemory r text
+pub publish_takes_memory : (r : Request) (text : List ℕ) → r.command ≡ 0 → IsTrue (is_long (kind_at r.kinds)) → publish_of r text ≢ None →
+    ReadingTakesMemory r text
 publish_takes_memory r text zero is some = inl (has_long r zero is, λ none. some (sym (publishes r text zero) ∙ none))

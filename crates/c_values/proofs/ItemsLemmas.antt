@@ -1,5 +1,6 @@
 -- Lines of items, in order.
-use Rattle.std.proofs.Common.{◌≡◌, ℕ, ◌<◌, List, [], ◌∷◌, ◌++◌, length, take, drop, sym, ap, ◌∙◌, append_assoc, append-nil, arith, length-append}
+use Rattle.std.proofs.Common.{◌≡◌, ℕ, ◌<◌, List, [], ◌∷◌, ◌++◌, length, take, drop, sym, ap, ◌∙◌, append_assoc, append-nil, arith}
+use Rattle.std.proofs.Common.{length-append}
 use Rattle.std.specs.List.{All, flat_map}
 use Rattle.std.proofs.lemmas.List.{take-append-drop}
 use Rattle.std.proofs.lemmas.List.Elements.{All-head, All-tail}
@@ -14,7 +15,8 @@ use Rattle.c_values.specs.Lines.{AreLines, BeginsWithItem}
 
 -- an item's line is some bytes
 pub item_some : (i : Item) → IsItem i → 0 < length (item_spelling i)
-item_some i is = let ends : EndsLine (item_spelling i) = item_ends i is in omega (arith, ap length ends.parts, length-append ends.front (10 ∷ []))
+item_some i is = let ends : EndsLine (item_spelling i) = item_ends i is in
+    omega (arith, ap length ends.parts, length-append ends.front (10 ∷ []))
 
 -- one more item is in front of the rest
 pub lines_with : (text rest : List ℕ) (items : List Item) (i : Item) (n : ℕ) → text ≡ flat_map item_spelling items ++ rest
@@ -22,7 +24,8 @@ pub lines_with : (text rest : List ℕ) (items : List Item) (i : Item) (n : ℕ)
 lines_with text rest items i n e t =
     e ∙ ap (λ l. flat_map item_spelling items ++ l) (sym (take-append-drop n rest) ∙ ap (λ l. l ++ drop n rest) t)
     ∙ sym (append_assoc (flat_map item_spelling items) (item_spelling i) (drop n rest))
-    ∙ ap (λ l. l ++ drop n rest) (sym (flat_map-append item_spelling items (i ∷ []) ∙ ap (λ l. flat_map item_spelling items ++ l) (append-nil (item_spelling i))))
+    ∙ ap (λ l. l ++ drop n rest) (sym (flat_map-append item_spelling items (i ∷ []) ∙
+    ap (λ l. flat_map item_spelling items ++ l) (append-nil (item_spelling i))))
 
 -- a text that has the lines of some items, and then of one more, begins with the first of them
 pub begins_with : (text : List ℕ) (items : List Item) (i : Item) (after : List ℕ) → All IsItem items → IsItem i
@@ -41,7 +44,8 @@ left_of : (xs ys : List Item) (r : List ℕ) → All IsItem xs → All IsItem ys
 left_of [] ys r xis yis e = (ys, yis, e)
 left_of (x ∷ xs) [] r xis yis e =
     absurd (let some : 0 < length (item_spelling x) = item_some x (All-head IsItem x xs xis) in
-    omega (arith, ap length e, length-append (flat_map item_spelling (x ∷ xs)) r, length-append (item_spelling x) (flat_map item_spelling xs)))
+    omega
+    (arith, ap length e, length-append (flat_map item_spelling (x ∷ xs)) r, length-append (item_spelling x) (flat_map item_spelling xs)))
 left_of (x ∷ xs) (y ∷ ys) r xis yis e =
     left_of xs ys r (All-tail IsItem x xs xis) (All-tail IsItem y ys yis)
     (items_apart x y (flat_map item_spelling xs ++ r) (flat_map item_spelling ys) (All-head IsItem x xs xis) (All-head IsItem y ys yis)
@@ -52,7 +56,9 @@ none_at rest [] some none is e = omega (arith, ap length e)
 none_at rest (z ∷ zs) some none is e = none z (flat_map item_spelling zs) (All-head IsItem z zs is) e
 
 -- if no item's line comes after the lines of some items, the text isn't the lines of any items
-pub none_after : (text rest : List ℕ) (xs ys : List Item) → All IsItem xs → text ≡ flat_map item_spelling xs ++ rest → 0 < length rest → HasNoItem rest → ¬ AreLines ys text
+pub none_after : (text rest : List ℕ) (xs ys : List Item) → All IsItem xs → text ≡ flat_map item_spelling xs ++ rest → 0 < length rest →
+    HasNoItem rest → ¬ AreLines ys text
 none_after text rest xs ys xis e some none are =
-    let left : (zs : List Item) × All IsItem zs × (rest ≡ flat_map item_spelling zs) = left_of xs ys rest xis are.each (sym e ∙ are.text_is) in
+    let left : (zs : List Item) × All IsItem zs × (rest ≡ flat_map item_spelling zs) =
+    left_of xs ys rest xis are.each (sym e ∙ are.text_is) in
     none_at rest left.0 some none left.1 left.2

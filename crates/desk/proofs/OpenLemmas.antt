@@ -1,5 +1,6 @@
 -- Passes dealt one by one.
-use Rattle.std.proofs.Common.{◌≡◌, ℕ, zero, suc, ◌+◌, ◌-◌, ◌<◌, true, false, List, [], ◌∷◌, ◌++◌, length, drop, take, refl, ap, sym, ◌∙◌, subst, arith, append_assoc, length-append, Option, Some}
+use Rattle.std.proofs.Common.{◌≡◌, ℕ, zero, suc, ◌+◌, ◌-◌, ◌<◌, true, false, List, [], ◌∷◌, ◌++◌, length, drop, take, refl, ap, sym, ◌∙◌}
+use Rattle.std.proofs.Common.{subst, arith, append_assoc, length-append, Option, Some}
 use Rattle.std.specs.Prelude.{is_some}
 use Rattle.std.specs.List.{AllByRecursion}
 use Rattle.atomic_table.specs.Seated.{TableId}
@@ -46,7 +47,8 @@ module _ {M C R : Type 0} where
     no_order = ap (λ (x : View M C R). x.notices) e;
   }
 
-  pub left_others : (opened : M) (first n : ℕ) (v w : View M C R) → 1 < n → w ≡ other_passes v → LeftOver opened first n v → LeftOver opened first (n - 1) w
+  pub left_others : (opened : M) (first n : ℕ) (v w : View M C R) → 1 < n → w ≡ other_passes v → LeftOver opened first n v →
+      LeftOver opened first (n - 1) w
   left_others opened first n v w more e l = record {
     opening = ap (λ (x : View M C R). x.opening) e ∙ l.opening;
     first_is = ap (λ (x : View M C R). x.first) e ∙ l.first_is;
@@ -73,7 +75,8 @@ module _ {M C R : Type 0} where
   pub new_rests : (opened : M) (first n : ℕ) (v : View M C R) → IsNewView opened first n v → rests_of v ≡ true
   new_rests opened first n v e = rests v e.free (ap length e.pass) (ap is_some e.opening)
 
-  pub cut_off : (opened : M) (first n : ℕ) (v w : View M C R) → 0 < n → w ≡ one_pass v → LeftOver opened first n v → IsNewView opened first (n - 1) w
+  pub cut_off : (opened : M) (first n : ℕ) (v w : View M C R) → 0 < n → w ≡ one_pass v → LeftOver opened first n v →
+      IsNewView opened first (n - 1) w
   cut_off opened first n v w more e l = record {
     opening = ap (λ (x : View M C R). x.opening) e ∙ l.opening;
     first_is = ap (λ (x : View M C R). x.first) e ∙ l.first_is;
@@ -94,7 +97,8 @@ module _ {M C R : Type 0} where
   }
 
 module _ {M C R : Type 0} {G : Ghosts (View M C R)} where
-  pub is_new_pass : (id : TableId) (opened : M) (first n : ℕ) (p : Pass M C R G) (seat : SeatOf M C R) → p.seat ≡ seat → p.made ≡ 0 → p.learnt ≡ 0 → seat.table_id ≡ id →
+  pub is_new_pass : (id : TableId) (opened : M) (first n : ℕ) (p : Pass M C R G) (seat : SeatOf M C R) → p.seat ≡ seat → p.made ≡ 0 →
+      p.learnt ≡ 0 → seat.table_id ≡ id →
       IsNewView opened first n seat.me.0 → IsNewPass id (Some opened) first n p
   is_new_pass id opened first n p seat is made learnt table e =
       let same : p.seat.me.0 ≡ seat.me.0 = ap (λ (x : SeatOf M C R). x.me.0) is in record {
@@ -109,12 +113,14 @@ module _ {M C R : Type 0} {G : Ghosts (View M C R)} where
         no_notes = (made, learnt);
       }
 
-  pub length_new : (id : TableId) (opened : Option M) (first n : ℕ) (ps : List (Pass M C R G)) → AreNewPasses id opened first n ps → length ps ≡ n
+  pub length_new : (id : TableId) (opened : Option M) (first n : ℕ) (ps : List (Pass M C R G)) → AreNewPasses id opened first n ps →
+      length ps ≡ n
   length_new id opened first zero ps e = ap length e
   length_new id opened first (suc n) [] e = absurd e
   length_new id opened first (suc n) (p ∷ ps) e = ap suc (length_new id opened first n ps e.1)
 
-  pub new_of_desk : (id : TableId) (opened : Option M) (first n : ℕ) (ps : List (Pass M C R G)) → AreNewPasses id opened first n ps → AllByRecursion (λ p. desk_of p ≡ id) ps
+  pub new_of_desk : (id : TableId) (opened : Option M) (first n : ℕ) (ps : List (Pass M C R G)) → AreNewPasses id opened first n ps →
+      AllByRecursion (λ p. desk_of p ≡ id) ps
   new_of_desk id opened first zero ps e = subst (λ l. AllByRecursion (λ p. desk_of p ≡ id) l) (sym e) tt
   new_of_desk id opened first (suc n) [] e = absurd e
   new_of_desk id opened first (suc n) (p ∷ ps) e = (e.0.desk, new_of_desk id opened first n ps e.1)
@@ -124,10 +130,16 @@ module _ {M C R : Type 0} {G : Ghosts (View M C R)} where
     pub dealt : length ps + n ≡ count
     pub all : (rest : List (Pass M C R G)) → AreNewPasses id opened first n rest → AreNewPasses id opened first count (ps ++ rest)
 
-  pub dealt_none : (id : TableId) (opened : Option M) (first count : ℕ) (ps : List (Pass M C R G)) → ps ≡ [] → Dealt id opened first count count ps
-  dealt_none id opened first count ps e = record { dealt = (let l : length ps ≡ 0 = ap length e in omega arith); all = λ rest new. subst (λ l. AreNewPasses id opened first count (l ++ rest)) (sym e) new }
+  pub dealt_none : (id : TableId) (opened : Option M) (first count : ℕ) (ps : List (Pass M C R G)) → ps ≡ [] →
+      Dealt id opened first count count ps
+  dealt_none id opened first count ps e = record {
+    dealt = (let l : length ps ≡ 0 = ap length e in omega arith);
+    all = λ rest new.
+        subst (λ l. AreNewPasses id opened first count (l ++ rest)) (sym e) new;
+  }
 
-  pub dealt_more : (id : TableId) (opened : Option M) (first count n : ℕ) (ps qs : List (Pass M C R G)) (p : Pass M C R G) → 0 < n → qs ≡ ps ++ p ∷ [] →
+  pub dealt_more : (id : TableId) (opened : Option M) (first count n : ℕ) (ps qs : List (Pass M C R G)) (p : Pass M C R G) → 0 < n →
+      qs ≡ ps ++ p ∷ [] →
       IsNewPass id opened first (n - 1) p → Dealt id opened first count n ps → Dealt id opened first count (n - 1) qs
   dealt_more id opened first count n ps qs p more e new d = record {
     dealt = (let l : length qs ≡ length ps + 1 = ap length e ∙ length-append ps (p ∷ []) in let k = d.dealt in omega arith);
@@ -135,6 +147,9 @@ module _ {M C R : Type 0} {G : Ghosts (View M C R)} where
         (d.all (p ∷ rest) (subst (λ k. AreNewPasses id opened first k (p ∷ rest)) (sym (next_of n more)) (new, is)));
   }
 
-  pub dealt_all : (id : TableId) (opened : Option M) (first count n : ℕ) (ps qs : List (Pass M C R G)) (p : Pass M C R G) → n ≡ 1 → qs ≡ ps ++ p ∷ [] →
+  pub dealt_all : (id : TableId) (opened : Option M) (first count n : ℕ) (ps qs : List (Pass M C R G)) (p : Pass M C R G) → n ≡ 1 →
+      qs ≡ ps ++ p ∷ [] →
       IsNewPass id opened first 0 p → Dealt id opened first count n ps → AreNewPasses id opened first count qs
-  dealt_all id opened first count n ps qs p one e new d = subst (λ l. AreNewPasses id opened first count l) (sym e) (d.all (p ∷ []) (subst (λ k. AreNewPasses id opened first k (p ∷ [])) (sym one) (new, refl)))
+  dealt_all id opened first count n ps qs p one e new d =
+      subst (λ l. AreNewPasses id opened first count l) (sym e)
+      (d.all (p ∷ []) (subst (λ k. AreNewPasses id opened first k (p ∷ [])) (sym one) (new, refl)))

@@ -1,5 +1,6 @@
 -- Sums of rows, and the rows of the account.
-use Rattle.std.proofs.Common.{◌≡◌, ℕ, zero, suc, ◌+◌, ◌*◌, ◌/◌, ◌%◌, ◌^◌, ◌≤◌, ◌<◌, ◌==◌, Bool, List, [], ◌∷◌, ◌++◌, length, set, get_or, take}
+use Rattle.std.proofs.Common.{◌≡◌, ℕ, zero, suc, ◌+◌, ◌*◌, ◌/◌, ◌%◌, ◌^◌, ◌≤◌, ◌<◌, ◌==◌, Bool, List, [], ◌∷◌, ◌++◌, length, set, get_or}
+use Rattle.std.proofs.Common.{take}
 use Rattle.std.proofs.Common.{refl, ap, sym, ◌∙◌, subst, arith, get_or-set_same, get_or-set_other, length-set, length-append, bit_and}
 use Rattle.std.specs.Prelude.{if◌then◌else◌, slice_index}
 use Rattle.std.specs.Int.{bit_at}
@@ -23,7 +24,8 @@ pub record AddedBelow (old rows : List ℕ) (n : ℕ) (new : List ℕ) : Type 0 
 pub added_none : (old rows : List ℕ) → AddedBelow old rows 0 old
 added_none old rows = record { long = refl; done = λ k h. absurd (omega arith); undone = λ k _. refl }
 
-pub added_more : (old rows new : List ℕ) (n n' x : ℕ) → n < 128 → length old ≡ 128 → n' ≡ n + 1 → x ≡ (slice_index new n + slice_index rows n) % 2 ^ 64 → AddedBelow old rows n new → AddedBelow old rows n' (set new n x)
+pub added_more : (old rows new : List ℕ) (n n' x : ℕ) → n < 128 → length old ≡ 128 → n' ≡ n + 1 →
+    x ≡ (slice_index new n + slice_index rows n) % 2 ^ 64 → AddedBelow old rows n new → AddedBelow old rows n' (set new n x)
 added_more old rows new n n' x low long next is a =
     let wide : n < length new = (let e = a.long in omega arith) in record {
       long = length-set new n x ∙ a.long;
@@ -38,7 +40,8 @@ added_more old rows new n n' x low long next is a =
 pub added_all : (old rows new : List ℕ) → AddedBelow old rows 128 new → Sums old rows new
 added_all old rows new a = a.done
 
-pub wraps_more : (rows more rows' : List ℕ) (f g h : ℕ → ℕ → ℕ) → Wraps rows f → Tallies more g → Sums rows more rows' → ((s b : ℕ) → h s b ≡ f s b + g s b) → Wraps rows' h
+pub wraps_more : (rows more rows' : List ℕ) (f g h : ℕ → ℕ → ℕ) → Wraps rows f → Tallies more g → Sums rows more rows' →
+    ((s b : ℕ) → h s b ≡ f s b + g s b) → Wraps rows' h
 wraps_more rows more rows' f g h w t sums is s b hs hb =
     let x : ℕ = f s b in let y : ℕ = g s b in let z : ℕ = h s b in
     let e : z ≡ x + y = is s b in let p : row_at rows s b ≡ x % 2 ^ 64 = w s b hs hb in let q : row_at more s b ≡ y = t s b hs hb in
@@ -65,7 +68,9 @@ pub filled_none : (words raises takes : List ℕ) (rows : List Row) → rows ≡
 filled_none words raises takes rows e = record { long = ap length e; each = λ k h. absurd (omega arith) }
 
 pub filled_more : (words raises takes : List ℕ) (n n' : ℕ) (rows rows' : List Row) → n' ≡ n + 1
-    → rows' ≡ rows ++ record { raises = slice_index raises n; takes = slice_index takes n; pending = bit_and (slice_index words (n / 8) / 2 ^ (n % 8)) 1 == 1 } ∷ [] →
+    → rows' ≡ rows ++ record
+    { raises = slice_index raises n; takes = slice_index takes n; pending = bit_and (slice_index words (n / 8) / 2 ^ (n % 8)) 1 == 1 } ∷ []
+    →
     FilledBelow words raises takes n rows → FilledBelow words raises takes n' rows'
 filled_more words raises takes n n' rows rows' next is f =
     let word : ℕ = slice_index words (n / 8) in
@@ -74,7 +79,8 @@ filled_more words raises takes n n' rows rows' next is f =
       long = ap length is ∙ (length-append rows (r ∷ []) ∙ (let l = f.long in omega arith));
       each = λ k h. dite (ℕ_discrete k n)
           (λ here.
-          let bit : pending_bit r ≡ bit_at word (n % 8) = ap (λ m. if (m == 1) then 1 else 0) (shr_and_one word (n % 8)) ∙ flag (bit_at word (n % 8)) (bit_at-lt word (n % 8)) in
+          let bit : pending_bit r ≡ bit_at word (n % 8) =
+          ap (λ m. if (m == 1) then 1 else 0) (shr_and_one word (n % 8)) ∙ flag (bit_at word (n % 8)) (bit_at-lt word (n % 8)) in
           subst (λ m. IsRow words raises takes rows' m) (sym here)
           (r, ap (λ l. get_elem? l n) is ∙ (ap (λ m. get_elem? (rows ++ r ∷ []) m) (sym f.long) ∙ at_pushed rows r), refl, refl, bit))
           (λ other. let e = f.each k (omega arith) in (e.0, ap (λ l. get_elem? l k) is ∙ at_longer rows (r ∷ []) k e.0 e.1, e.2, e.3, e.4));
@@ -85,7 +91,9 @@ pub total_all : {A : Type 0} (f : A → ℕ) (l : List A) (k : ℕ) → k ≡ le
 total_all f [] k e = ap (λ n. total_of f (take n [])) e
 total_all f (x ∷ xs) k e = ap (λ n. total_of f (take n (x ∷ xs))) e ∙ (let h = total_all f xs (length xs) refl in omega arith)
 
-pub total_next : {A : Type 0} (f : A → ℕ) (l : List A) (k : ℕ) (x : A) → k < length l → x ≡ get_or l k x → total_of f (take (k + 1) l) ≡ total_of f (take k l) + f x
+pub total_next : {A : Type 0} (f : A → ℕ) (l : List A) (k : ℕ) (x : A) → k < length l → x ≡ get_or l k x →
+    total_of f (take (k + 1) l) ≡ total_of f (take k l) + f x
 total_next f [] k x h e = absurd (omega arith)
 total_next f (y ∷ ys) zero x h e = let g : f x ≡ f y = ap f e in omega arith
-total_next f (y ∷ ys) (suc k) x h e = let g = total_next f ys k x (omega arith) e in let n : suc k + 1 ≡ suc (k + 1) = omega arith in ap (λ j. total_of f (take j (y ∷ ys))) n ∙ omega arith
+total_next f (y ∷ ys) (suc k) x h e = let g = total_next f ys k x (omega arith) e in let n : suc k + 1 ≡ suc (k + 1) = omega arith in
+    ap (λ j. total_of f (take j (y ∷ ys))) n ∙ omega arith

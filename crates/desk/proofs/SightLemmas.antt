@@ -7,4 +7,5 @@ use Rattle.std.proofs.lemmas.Bool.{and_parts, not-true}
 
 module _ {M C R : Type 0} where
   pub listens_facts : (v : View M C R) → listens_of v ≡ true → (v.passes ≡ []) × (v.holding ≡ false)
-  listens_facts v e = let a = and_parts (not v.holding) (length v.passes == 0) e in (nil_of v.passes (eqb-true (length v.passes) 0 a.1), not-true v.holding a.0)
+  listens_facts v e = let a = and_parts (not v.holding) (length v.passes == 0) e in
+      (nil_of v.passes (eqb-true (length v.passes) 0 a.1), not-true v.holding a.0)

@@ -1,5 +1,6 @@
 -- Prefixes of lists, elements at an index, facts of every element, and sums.
-use Rattle.std.proofs.Common.{◌≡◌, ◌⊎◌, ℕ, zero, suc, ◌+◌, ◌≤◌, ◌<◌, true, All, List, [], ◌∷◌, ◌++◌, length, set, get_or, Option, Some, None}
+use Rattle.std.proofs.Common.{◌≡◌, ◌⊎◌, ℕ, zero, suc, ◌+◌, ◌≤◌, ◌<◌, true, All, List, [], ◌∷◌, ◌++◌, length, set, get_or, Option, Some}
+use Rattle.std.proofs.Common.{None}
 use Rattle.std.proofs.Common.{refl, ap, sym, ◌∙◌, inl, inr, subst, arith, add-one, append_assoc}
 use Rattle.std.specs.Prelude.{is_some}
 use Rattle.std.specs.List.{AllByRecursion}
@@ -34,7 +35,8 @@ module _ {A : Type 0} where
       let same : x ≡ y = cc in
       let tail_p : (xs ++ p.0) ≡ zs = cc in
       let tail_q : (ys ++ q.0) ≡ zs = cc in
-      elim (prefixes_agree xs ys zs (p.0, tail_p) (q.0, tail_q)) [ inl r ↦ inl (r.0, (λ i. same i ∷ r.1 i)) | inr r ↦ inr (r.0, (λ i. sym same i ∷ r.1 i)) ]
+      elim (prefixes_agree xs ys zs (p.0, tail_p) (q.0, tail_q))
+      [ inl r ↦ inl (r.0, (λ i. same i ∷ r.1 i)) | inr r ↦ inr (r.0, (λ i. sym same i ∷ r.1 i)) ]
 
   pub at_inside : (l : List A) (a : A) (j : ℕ) → get_elem? l j ≡ some a → j < length l
   at_inside [] a j e = absurd (some-ne-none a (sym e))
@@ -75,8 +77,11 @@ module _ {A : Type 0} where
   -- two forms of a fact of every element
   all_by_shape : (P : A → Type 0) (l : List A) → All P l → AllByRecursion P l
   all_by_shape P [] each = tt
-  all_by_shape P (x ∷ xs) each =
-      (each 0 x (omega arith), all_by_shape P xs (λ i d below. subst (λ k. P (get_or (x ∷ xs) k d)) (add-one i) (each (i + 1) d (omega arith))))
+  all_by_shape P (x ∷ xs) each = (
+    each 0 x (omega arith),
+    all_by_shape P xs
+        (λ i d below. subst (λ k. P (get_or (x ∷ xs) k d)) (add-one i) (each (i + 1) d (omega arith))),
+  )
 
   all_by_index : (P : A → Type 0) (l : List A) → AllByRecursion P l → All P l
   all_by_index P [] all i d below = absurd (omega arith)
@@ -111,12 +116,15 @@ module _ {A : Type 0} where
   total_le f g (x ∷ xs) le = let here = le 0 x refl in let rest = total_le f g xs (λ j a e. le (suc j) a e) in omega arith
 
   -- if f totals 0, and g is 0 at each element where f is, g totals 0
-  pub total_none : (f g : A → ℕ) (l : List A) → ((j : ℕ) (a : A) → get_elem? l j ≡ some a → f a ≡ 0 → g a ≡ 0) → total_of f l ≡ 0 → total_of g l ≡ 0
+  pub total_none : (f g : A → ℕ) (l : List A) → ((j : ℕ) (a : A) → get_elem? l j ≡ some a → f a ≡ 0 → g a ≡ 0) → total_of f l ≡ 0 →
+      total_of g l ≡ 0
   total_none f g [] zeros e = refl
-  total_none f g (x ∷ xs) zeros e = let here = zeros 0 x refl (omega arith) in let rest = total_none f g xs (λ j a. zeros (suc j) a) (omega arith) in omega arith
+  total_none f g (x ∷ xs) zeros e = let here = zeros 0 x refl (omega arith) in let rest =
+      total_none f g xs (λ j a. zeros (suc j) a) (omega arith) in omega arith
 
   -- if one element has the whole total of f, and g is 0 wherever f is, it has the whole total of g
-  pub total_only : (f g : A → ℕ) (l : List A) (i : ℕ) (a : A) → get_elem? l i ≡ some a → total_of f l ≡ f a → ((j : ℕ) (b : A) → get_elem? l j ≡ some b → f b ≡ 0 → g b ≡ 0) → total_of g l ≡ g a
+  pub total_only : (f g : A → ℕ) (l : List A) (i : ℕ) (a : A) → get_elem? l i ≡ some a → total_of f l ≡ f a →
+      ((j : ℕ) (b : A) → get_elem? l j ≡ some b → f b ≡ 0 → g b ≡ 0) → total_of g l ≡ g a
   total_only f g [] i a e all zeros = absurd (some-ne-none a (sym e))
   total_only f g (x ∷ xs) zero a e all zeros =
       let same_f : f x ≡ f a = ap f (some-injective x a e) in let same_g : g x ≡ g a = ap g (some-injective x a e) in

@@ -9,7 +9,8 @@ use lib.ListN.{get_elem?}
 use Rattle.desk_rule.specs.declared.notice.Act.{Act}
 use Rattle.desk_rule.specs.declared.notice.Act.TheVariants.{Post, Take}
 use Rattle.desk_rule.specs.declared.notice.Notice.{Notice}
-use Rattle.desk_rule.specs.Notices.{after_notice, AreFound, given_by, IsOrder, IsPost, left_of, none_pending, NoTakes, pending_after, posted_at, raised_at, raised_in, set_by, taken_at, taken_in, Words, words_after}
+use Rattle.desk_rule.specs.Notices.{after_notice, AreFound, given_by, IsOrder, IsPost, left_of, none_pending, NoTakes, pending_after}
+use Rattle.desk_rule.specs.Notices.{posted_at, raised_at, raised_in, set_by, taken_at, taken_in, Words, words_after}
 use Rattle.desk_rule.proofs.ListLemmas.{total_some}
 
 -- what one notice sets, raises and takes, at its own server and at another
@@ -43,7 +44,8 @@ words_append words [] more = refl
 words_append words (n ∷ ns) more = words_append (after_notice words n) ns more
 
 -- one more notice, which found its word as the earlier ones left it
-pub found_push : (words : Words) (ns : List Notice) (n : Notice) → AreFound words ns → n.found ≡ words_after words ns n.server → AreFound words (ns ++ n ∷ [])
+pub found_push : (words : Words) (ns : List Notice) (n : Notice) → AreFound words ns → n.found ≡ words_after words ns n.server →
+    AreFound words (ns ++ n ∷ [])
 found_push words [] n found is = (is, tt)
 found_push words (k ∷ ns) n found is = (found.0, found_push (after_notice words k) ns n found.1 is)
 
@@ -56,11 +58,13 @@ found_back words [] more found = found
 found_back words (n ∷ ns) more found = found_back (after_notice words n) ns more found.1
 
 -- one step balances: raised and found before are taken and left
-act_balanced : (found b : ℕ) (act : Act) → (bit_at (set_by act) b - bit_at found b) + bit_at found b ≡ bit_at (given_by found act) b + bit_at (left_of found act) b
+act_balanced : (found b : ℕ) (act : Act) →
+    (bit_at (set_by act) b - bit_at found b) + bit_at found b ≡ bit_at (given_by found act) b + bit_at (left_of found act) b
 act_balanced found b (Post bits place) = let o = bit_at_or found bits b in let z = bit_at-zero b in omega arith
 act_balanced found b Take = let z = bit_at-zero b in omega arith
 
-one_balanced : (words : Words) (n : Notice) (s b : ℕ) → n.found ≡ words n.server → raised_at s b n + bit_at (words s) b ≡ taken_at s b n + bit_at (after_notice words n s) b
+one_balanced : (words : Words) (n : Notice) (s b : ℕ) → n.found ≡ words n.server →
+    raised_at s b n + bit_at (words s) b ≡ taken_at s b n + bit_at (after_notice words n s) b
 one_balanced words n s b found = dite (ℕ_discrete n.server s)
     (λ here.
     let a = act_balanced n.found b n.act in
@@ -76,9 +80,11 @@ one_balanced words n s b found = dite (ℕ_discrete n.server s)
     omega arith)
 
 -- an order balances for each bit: raises, plus one if it was set before, are takes, plus one if it is set after
-pub balanced : (words : Words) (ns : List Notice) (s b : ℕ) → AreFound words ns → raised_in ns s b + bit_at (words s) b ≡ taken_in ns s b + bit_at (words_after words ns s) b
+pub balanced : (words : Words) (ns : List Notice) (s b : ℕ) → AreFound words ns →
+    raised_in ns s b + bit_at (words s) b ≡ taken_in ns s b + bit_at (words_after words ns s) b
 balanced words [] s b found = omega arith
-balanced words (n ∷ ns) s b found = let one = one_balanced words n s b found.0 in let rest = balanced (after_notice words n) ns s b found.1 in omega arith
+balanced words (n ∷ ns) s b found = let one = one_balanced words n s b found.0 in let rest =
+    balanced (after_notice words n) ns s b found.1 in omega arith
 
 pub order_balanced : (ns : List Notice) (s b : ℕ) → IsOrder ns → raised_in ns s b ≡ taken_in ns s b + bit_at (pending_after ns s) b
 order_balanced ns s b order = let z = bit_at-zero b in let e = balanced none_pending ns s b order in omega arith
@@ -96,10 +102,12 @@ pending_notice ns s b order is =
     (one.0, n, one.2, both.0, both.1)
 
 -- a set bit stays set while nothing takes its word
-bit_stays : (words : Words) (ns : List Notice) (s b : ℕ) → AreFound words ns → NoTakes s ns → bit_at (words s) b ≡ 1 → bit_at (words_after words ns s) b ≡ 1
+bit_stays : (words : Words) (ns : List Notice) (s b : ℕ) → AreFound words ns → NoTakes s ns → bit_at (words s) b ≡ 1 →
+    bit_at (words_after words ns s) b ≡ 1
 bit_stays words [] s b found none is = is
 bit_stays words (n ∷ ns) s b found none is = bit_stays (after_notice words n) ns s b found.1 none.1 (dite (ℕ_discrete n.server s)
-    (λ here. ap (λ w. bit_at w b) (left_here words n s here) ∙ act_keeps n.found n.act b (none.0 here) (ap (λ w. bit_at w b) found.0 ∙ (ap (λ k. bit_at (words k) b) here ∙ is)))
+    (λ here. ap (λ w. bit_at w b) (left_here words n s here) ∙
+    act_keeps n.found n.act b (none.0 here) (ap (λ w. bit_at w b) found.0 ∙ (ap (λ k. bit_at (words k) b) here ∙ is)))
     (λ other. ap (λ w. bit_at w b) (left_elsewhere words n s other) ∙ is))
   where
     act_keeps : (found : ℕ) (act : Act) (b : ℕ) → IsPost act → bit_at found b ≡ 1 → bit_at (left_of found act) b ≡ 1
@@ -111,13 +119,15 @@ act_sets found (Post bits place) b set = let o = bit_at_or found bits b in let b
 act_sets found Take b set = let z = bit_at-zero b in absurd (omega arith)
 
 -- a bit that a notice set stays pending until a later one takes its server's word
-pub posted_stays : (before : List Notice) (n : Notice) (after : List Notice) (b : ℕ) → IsOrder (before ++ n ∷ after) → bit_at (set_by n.act) b ≡ 1 → NoTakes n.server after
+pub posted_stays : (before : List Notice) (n : Notice) (after : List Notice) (b : ℕ) → IsOrder (before ++ n ∷ after) →
+    bit_at (set_by n.act) b ≡ 1 → NoTakes n.server after
     → bit_at (pending_after (before ++ n ∷ after) n.server) b ≡ 1
 posted_stays before n after b order set none =
     let words : Words = pending_after before in
     let found = found_back none_pending before (n ∷ after) order in
     ap (λ (w : Words). bit_at (w n.server) b) (words_append none_pending before (n ∷ after))
-    ∙ bit_stays (after_notice words n) after n.server b found.1 none (ap (λ w. bit_at w b) (left_here words n n.server refl) ∙ act_sets n.found n.act b set)
+    ∙ bit_stays (after_notice words n) after n.server b found.1 none
+    (ap (λ w. bit_at w b) (left_here words n n.server refl) ∙ act_sets n.found n.act b set)
 
 -- an order's notices take no more than they raise
 pub order_taken : (ns : List Notice) (s b : ℕ) → IsOrder ns → taken_in ns s b ≤ raised_in ns s b

@@ -1,6 +1,8 @@
 -- The rule holds of a new table, and what it says of a table that is closed.
-use Rattle.std.proofs.Common.{◌≡◌, ℕ, zero, suc, ◌+◌, ◌*◌, ◌^◌, ◌≤◌, ◌<◌, Bool, true, false, true≢false, List, [], ◌∷◌, length, get_or, replicate}
-use Rattle.std.proofs.Common.{refl, ap, sym, ◌∙◌, subst, arith, add-one, cond, set, length-set, get_or-set_same, get_or-set_other, Option, Some, None}
+use Rattle.std.proofs.Common.{◌≡◌, ℕ, zero, suc, ◌+◌, ◌*◌, ◌^◌, ◌≤◌, ◌<◌, Bool, true, false, true≢false, List, [], ◌∷◌, length, get_or}
+use Rattle.std.proofs.Common.{replicate}
+use Rattle.std.proofs.Common.{refl, ap, sym, ◌∙◌, subst, arith, add-one, cond, set, length-set, get_or-set_same, get_or-set_other, Option}
+use Rattle.std.proofs.Common.{Some, None}
 use Rattle.std.specs.Prelude.{IfSome, slice_index}
 use Rattle.std.specs.Int.{bit_at}
 use Rattle.std.specs.List.{AllByRecursion}
@@ -47,7 +49,8 @@ module _ {M C R : Type 0} (steps : M → C → R → M → Type 0) (owes : R →
   only_view v u zero F here e = subst (λ x. F 0 x) (some-injective v u e) here
   only_view v u (suc j) F here e = absurd (some-ne-none u (sym e))
 
-  holds_at_first : (l : Option (LastCall C R)) (words : List ℕ) → length words ≡ 17 → get_or words 0 0 ≡ 2 * first → ((k : ℕ) → k < 16 → get_or words (k + 1) 0 ≡ 0) → first ≤ 2 ^ 62
+  holds_at_first : (l : Option (LastCall C R)) (words : List ℕ) → length words ≡ 17 → get_or words 0 0 ≡ 2 * first →
+      ((k : ℕ) → k < 16 → get_or words (k + 1) 0 ≡ 0) → first ≤ 2 ^ 62
       → Holds (opening_state words (Some record { machine = opening; last = l } ∷ []) (opening_view opening first passes))
   holds_at_first l words long word zeros small = record {
     history = [];
@@ -104,7 +107,8 @@ module _ {M C R : Type 0} (steps : M → C → R → M → Type 0) (owes : R →
       go false = refl
 
   -- if the one seat with all passes doesn't hold the turn, nobody does
-  nobody_holds : (s : State S V) (r : Holds s) (id : ℕ) (v : V) → get_elem? s.views id ≡ some v → v.holding ≡ false → length v.passes ≡ passes → (turn : maybe.Option ℕ) → r.turn ≡ turn → turn ≡ none
+  nobody_holds : (s : State S V) (r : Holds s) (id : ℕ) (v : V) → get_elem? s.views id ≡ some v → v.holding ≡ false →
+      length v.passes ≡ passes → (turn : maybe.Option ℕ) → r.turn ≡ turn → turn ≡ none
   unfolding held_passes
   nobody_holds s r id v at free all none is = refl
   nobody_holds s r id v at free all (some j) is =
@@ -116,16 +120,20 @@ module _ {M C R : Type 0} (steps : M → C → R → M → Type 0) (owes : R →
       let some_pass = h.3 in
       absurd (omega arith)
 
-  all_here : (s : State S V) (r : Holds s) (id : ℕ) (v : V) → get_elem? s.views id ≡ some v → passes ≤ length v.passes → length v.passes ≡ passes
+  all_here : (s : State S V) (r : Holds s) (id : ℕ) (v : V) → get_elem? s.views id ≡ some v → passes ≤ length v.passes →
+      length v.passes ≡ passes
   all_here s r id v at enough = let part = total_part pass_count s.views id v at in let all = r.all_passes in omega arith
 
   -- if all passes sit at one seat, its notices are all notices
-  all_its_notices : (s : State S V) (r : Holds s) (id : ℕ) (v : V) → get_elem? s.views id ≡ some v → passes ≤ length v.passes → (weigh : Notice → ℕ) → total_of weigh r.order ≡ weigh_notices weigh v.passes
+  all_its_notices : (s : State S V) (r : Holds s) (id : ℕ) (v : V) → get_elem? s.views id ≡ some v → passes ≤ length v.passes →
+      (weigh : Notice → ℕ) → total_of weigh r.order ≡ weigh_notices weigh v.passes
   all_its_notices s r id v at enough weigh =
       let all : total_of pass_count s.views ≡ pass_count v = r.all_passes ∙ sym (all_here s r id v at enough) in
-      sym (r.all_notices weigh) ∙ total_only pass_count (notice_weight_of weigh) s.views id v at all (λ j u _ e. no_notices weigh u.passes e)
+      sym (r.all_notices weigh) ∙ total_only pass_count (notice_weight_of weigh) s.views id v at all
+      (λ j u _ e. no_notices weigh u.passes e)
 
-  pub notices_at_end : (s : State S V) (r : Holds s) (id : ℕ) (v : V) → get_elem? s.views id ≡ some v → passes ≤ length v.passes → (t b : ℕ) → t < 16
+  pub notices_at_end : (s : State S V) (r : Holds s) (id : ℕ) (v : V) → get_elem? s.views id ≡ some v → passes ≤ length v.passes →
+      (t b : ℕ) → t < 16
       → (raised_by v.passes t b ≡ taken_by v.passes t b + bit_at (get_or s.words (t + 1) 0) b) × (raised_by v.passes t b ≤ 2 ^ 62)
   notices_at_end s r id v at enough t b small =
       let raised = all_its_notices s r id v at enough (raised_at t b) in
@@ -136,7 +144,8 @@ module _ {M C R : Type 0} (steps : M → C → R → M → Type 0) (owes : R →
       (omega arith, omega arith)
 
   -- if all passes sit at one seat, the machine is in the slot
-  pub machine_at_end : (s : State S V) (r : Holds s) (id : ℕ) (v : V) → get_elem? s.views id ≡ some v → v.holding ≡ false → passes ≤ length v.passes
+  pub machine_at_end : (s : State S V) (r : Holds s) (id : ℕ) (v : V) → get_elem? s.views id ≡ some v → v.holding ≡ false →
+      passes ≤ length v.passes
       → (words : List ℕ) → ((t : ℕ) → t < 16 → slice_index words t ≡ get_or s.words (t + 1) 0)
       → (h : Home M C R) × (s.homes ≡ some (Some h) ∷ []) × IsClosed steps owes opening first v h.machine words
   machine_at_end s r id v at free enough words same =
@@ -151,7 +160,8 @@ module _ {M C R : Type 0} (steps : M → C → R → M → Type 0) (owes : R →
           legal = r.legal;
           seen = f.seen;
           own = all_map _ _ (λ p h. h.0) v.passes f.own;
-          no_others = λ weigh. sym (r.all_calls weigh) ∙ total_only pass_count (weight_of weigh) s.views id v at (r.all_passes ∙ sym all) (λ j u _ e. no_calls weigh u.passes e);
+          no_others = λ weigh. sym (r.all_calls weigh) ∙
+              total_only pass_count (weight_of weigh) s.views id v at (r.all_passes ∙ sym all) (λ j u _ e. no_calls weigh u.passes e);
           order = r.order;
           found = r.found;
           owed = r.owed;
@@ -163,23 +173,31 @@ module _ {M C R : Type 0} (steps : M → C → R → M → Type 0) (owes : R →
       )
 
   -- the same for what is left of the table
-  pub final_machine : (words pending : List ℕ) (slots : List S) (id : ℕ) (v : V) (slot : S) → Final (Seen Holds id v) words slots → v.holding ≡ false → passes ≤ length v.passes → get_elem? slots 0 ≡ some slot
-      → ((t : ℕ) → t < 16 → slice_index pending t ≡ slice_index words (t + 1)) → (h : Home M C R) × (slot ≡ Some h) × IsClosed steps owes opening first v h.machine pending
+  pub final_machine : (words pending : List ℕ) (slots : List S) (id : ℕ) (v : V) (slot : S) → Final (Seen Holds id v) words slots →
+      v.holding ≡ false → passes ≤ length v.passes → get_elem? slots 0 ≡ some slot
+      → ((t : ℕ) → t < 16 → slice_index pending t ≡ slice_index words (t + 1)) →
+      (h : Home M C R) × (slot ≡ Some h) × IsClosed steps owes opening first v h.machine pending
   final_machine words pending slots id v slot final free enough at same =
-      let e = machine_at_end final.0 final.1.0 id v final.1.1 free enough pending (λ t small. same t small ∙ ap (λ l. slice_index l (t + 1)) (sym final.2)) in
+      let e = machine_at_end final.0 final.1.0 id v final.1.1 free enough pending
+      (λ t small. same t small ∙ ap (λ l. slice_index l (t + 1)) (sym final.2)) in
       (e.0, some-injective slot (Some e.0) (sym at ∙ final.4 0 (Some e.0) (ap (λ l. get_elem? l 0) e.1)), e.2)
 
-  pub final_notices : (words : List ℕ) (slots : List S) (id : ℕ) (v : V) → Final (Seen Holds id v) words slots → passes ≤ length v.passes → (t b : ℕ) → t < 16
+  pub final_notices : (words : List ℕ) (slots : List S) (id : ℕ) (v : V) → Final (Seen Holds id v) words slots → passes ≤ length v.passes →
+      (t b : ℕ) → t < 16
       → (raised_by v.passes t b ≡ taken_by v.passes t b + bit_at (slice_index words (t + 1)) b) × (raised_by v.passes t b ≤ 2 ^ 62)
   final_notices words slots id v final enough t b small =
-      subst (λ l. (raised_by v.passes t b ≡ taken_by v.passes t b + bit_at (slice_index l (t + 1)) b) × (raised_by v.passes t b ≤ 2 ^ 62)) final.2
+      subst (λ l. (raised_by v.passes t b ≡ taken_by v.passes t b + bit_at (slice_index l (t + 1)) b) × (raised_by v.passes t b ≤ 2 ^ 62))
+      final.2
       (notices_at_end final.0 final.1.0 id v final.1.1 enough t b small)
 
-pub new_holds : {M C R : Type 0} (steps : M → C → R → M → Type 0) (owes : R → ℕ) (opening m : M) (l : Option (LastCall C R)) (first passes : ℕ) (words : List ℕ) (slots : List (Option (Home M C R))) → opening ≡ m
-    → slots ≡ Some record { machine = m; last = l } ∷ [] → length words ≡ 17 → get_or words 0 0 ≡ 2 * first → ((k : ℕ) → k < 16 → get_or words (k + 1) 0 ≡ 0) → first ≤ 2 ^ 62
+pub new_holds : {M C R : Type 0} (steps : M → C → R → M → Type 0) (owes : R → ℕ) (opening m : M) (l : Option (LastCall C R))
+    (first passes : ℕ) (words : List ℕ) (slots : List (Option (Home M C R))) → opening ≡ m
+    → slots ≡ Some record { machine = m; last = l } ∷ [] → length words ≡ 17 → get_or words 0 0 ≡ 2 * first →
+    ((k : ℕ) → k < 16 → get_or words (k + 1) 0 ≡ 0) → first ≤ 2 ^ 62
     → RuleHolds steps owes opening first passes (opening_state words slots (opening_view opening first passes))
 new_holds {M} {C} {R} steps owes opening m l first passes words slots same is long word zeros small =
-    subst (λ (s : List (Option (Home M C R))). RuleHolds steps owes opening first passes (opening_state words s (opening_view opening first passes)))
+    subst (λ (s : List (Option (Home M C R))).
+    RuleHolds steps owes opening first passes (opening_state words s (opening_view opening first passes)))
     (sym (is ∙ (λ i. Some record { machine = sym same i; last = l } ∷ [])))
     (holds_at_first steps owes opening first passes l words long word zeros small)
 
@@ -197,20 +215,25 @@ at_index (y ∷ ys) zero x e = some-injective y x e
 at_index (y ∷ ys) (suc k) x e = at_index ys k x e
 
 -- one more pending word is read
-pub words_more : (words pending : List ℕ) (n n' word : ℕ) → n < 16 → n' ≡ n + 1 → length pending ≡ 16 → get_elem? words (n + 1) ≡ some word → ((s : ℕ) → s < n → slice_index pending s ≡ slice_index words (s + 1))
+pub words_more : (words pending : List ℕ) (n n' word : ℕ) → n < 16 → n' ≡ n + 1 → length pending ≡ 16 →
+    get_elem? words (n + 1) ≡ some word → ((s : ℕ) → s < n → slice_index pending s ≡ slice_index words (s + 1))
     → (length (set pending n word) ≡ 16) × ((s : ℕ) → s < n' → slice_index (set pending n word) s ≡ slice_index words (s + 1))
 words_more words pending n n' word small next long at read = (
   length-set pending n word ∙ long,
   λ s below. dite (ℕ_discrete s n)
-      (λ here. ap (λ k. get_or (set pending n word) k 0) here ∙ (get_or-set_same pending n word 0 (omega arith) ∙ (sym (at_index words (n + 1) word at) ∙ ap (λ k. slice_index words (k + 1)) (sym here))))
+      (λ here. ap (λ k. get_or (set pending n word) k 0) here ∙
+      (get_or-set_same pending n word 0 (omega arith) ∙
+      (sym (at_index words (n + 1) word at) ∙ ap (λ k. slice_index words (k + 1)) (sym here))))
       (λ other. get_or-set_other pending n s word 0 (λ e. other (omega arith)) ∙ read s (omega arith)),
 )
 
 -- the machine from the slot
-pub closed_machine : {M C R : Type 0} (steps : M → C → R → M → Type 0) (owes : R → ℕ) (opening : M) (first : ℕ) (v : View M C R) (slot : Option (Home M C R)) (m : M)
+pub closed_machine : {M C R : Type 0} (steps : M → C → R → M → Type 0) (owes : R → ℕ) (opening : M) (first : ℕ) (v : View M C R)
+    (slot : Option (Home M C R)) (m : M)
     (pending : List ℕ) → ((h : Home M C R) × (slot ≡ Some h) × IsClosed steps owes opening first v h.machine pending)
     → IfSome slot (λ h. m ≡ h.machine) → IsClosed steps owes opening first v m pending
-closed_machine steps owes opening first v (Some k) m pending e is = let same : e.0 ≡ k = cc in subst (λ x. IsClosed steps owes opening first v x pending) (ap (λ h. h.machine) same ∙ sym is) e.2
+closed_machine steps owes opening first v (Some k) m pending e is = let same : e.0 ≡ k = cc in
+    subst (λ x. IsClosed steps owes opening first v x pending) (ap (λ h. h.machine) same ∙ sym is) e.2
 closed_machine steps owes opening first v None m pending e is = absurd (cc)
 
 pub some_is : {A : Type 0} (x : Option A) (a : A) → x ≡ Some a → Rattle.std.specs.Prelude.is_some x ≡ true

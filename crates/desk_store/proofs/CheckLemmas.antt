@@ -28,8 +28,10 @@ use Rattle.desk_store.specs.Refresh.{EndsBy}
 use Rattle.desk_store.proofs.StandLemmas.{checked_current, checked_in, checked_stands, subscribed_stands}
 
 -- ---- a lost follower emptied its map and subscribed, by a query that is the map's
-pub subscribe_stands : (p q : PassRecord) (sub : ℕ) (query asked : Query) (map : SubMapRecord) (stamp place : ℕ) (reply : Reply) → map ≡ empty_map query → asked ≡ query →
-    MadeCall p q (subscribe_anew sub asked) reply place → (owed : ℕ) × (reply ≡ Subscribed stamp owed) → StandsForFront q sub map.query stamp (held_items map.held)
+pub subscribe_stands : (p q : PassRecord) (sub : ℕ) (query asked : Query) (map : SubMapRecord) (stamp place : ℕ) (reply : Reply) →
+    map ≡ empty_map query → asked ≡ query →
+    MadeCall p q (subscribe_anew sub asked) reply place → (owed : ℕ) × (reply ≡ Subscribed stamp owed) →
+    StandsForFront q sub map.query stamp (held_items map.held)
 subscribe_stands p q sub query asked map stamp place reply empty same called told =
     let asks = subst (λ (x : Query). MadeCall p q (subscribe_anew sub x) reply place) same called in
     let made = subst (λ (r : Reply). MadeCall p q (subscribe_anew sub query) r place) told.1 asks in
@@ -38,7 +40,8 @@ subscribe_stands p q sub query asked map stamp place reply empty same called tol
     (subst (λ (l : List Item). StandsForFront q sub query stamp l) (sym (nothing_is_held larger)) stands)
 
 -- ---- a follower with this last stamp checked
-module _ (p q : PassRecord) (f : FollowerRecord) (stamp before after place : ℕ) (items : List Item) (reply : Reply) (stamped : f.stamp ≡ Some stamp) (keeps : KeepsUpWith p f)
+module _ (p q : PassRecord) (f : FollowerRecord) (stamp before after place : ℕ) (items : List Item) (reply : Reply)
+    (stamped : f.stamp ≡ Some stamp) (keeps : KeepsUpWith p f)
     (called : MadeCall p q (Check f.sub most_items) reply place) (told : reply ≡ Checked items before after) where
   check_called : MadeCall p q (Check f.sub most_items) (Checked items before after) place
   check_called = subst (λ (r : Reply). MadeCall p q (Check f.sub most_items) r place) told called
@@ -76,22 +79,27 @@ module _ (p q : PassRecord) (f : FollowerRecord) (stamp before after place : ℕ
       }
 
     -- or it stopped, only because memory ran out
-    pub never_stops : (new : SubMapRecord) (stop : Stop) → IsMap new → IsTop (held_items new.held) (mapped f ++ under (is_under f.map.query) (take stop.done items)) →
+    pub never_stops : (new : SubMapRecord) (stop : Stop) → IsMap new →
+        IsTop (held_items new.held) (mapped f ++ under (is_under f.map.query) (take stop.done items)) →
         IsTakeStopped f.map.query f.map.held items new.held stop → stop.fault ≡ NoRoom
     never_stops new stop map top stopped =
         let legal = called.legal in
         let run = legal.legal legal.begun legal.stood in
-        let at = checked_in p q f.sub f.map.query stamp after place items (mapped f) stood own_called legal.content legal.opened_with legal.begun run.0 legal.stood run.1 in
+        let at = checked_in p q f.sub f.map.query stamp after place items (mapped f) stood own_called legal.content legal.opened_with
+        legal.begun run.0 legal.stood run.1 in
         elim stopped.refused [
           | inl r ↦
-              checks_fit at.mid run.0 f.sub f.map.query stamp most_items stamp after items f.map.held new.held stop.done r.0 stop.fault at.reached at.within at.follows at.step
+              checks_fit at.mid run.0 f.sub f.map.query stamp most_items stamp after items f.map.held new.held stop.done r.0 stop.fault
+              at.reached at.within at.follows at.step
               (record { sound = map.sound; limits = map.limits; top = top }) r.1 r.2.1
           | inr u ↦ u.noroom
         ]
 
 -- ---- likewise for a follower by its parts, and for the map that took the items
-module _ (p q : PassRecord) (f : FollowerRecord) (sub : ℕ) (o : Option ℕ) (old new : SubMapRecord) (stamp before after place : ℕ) (items : List Item) (reply : Reply)
-    (parts : f ≡ follower_of sub o old) (stamped : f.stamp ≡ Some stamp) (keeps : KeepsUpWith p f) (called : MadeCall p q (Check sub most_items) reply place)
+module _ (p q : PassRecord) (f : FollowerRecord) (sub : ℕ) (o : Option ℕ) (old new : SubMapRecord) (stamp before after place : ℕ)
+    (items : List Item) (reply : Reply)
+    (parts : f ≡ follower_of sub o old) (stamped : f.stamp ≡ Some stamp) (keeps : KeepsUpWith p f)
+    (called : MadeCall p q (Check sub most_items) reply place)
     (told : reply ≡ Checked items before after) (same : before ≡ stamp) where
   kept : KeepsUpWith p (follower_of sub o old)
   kept = subst (λ (x : FollowerRecord). KeepsUpWith p x) parts keeps
@@ -99,18 +107,22 @@ module _ (p q : PassRecord) (f : FollowerRecord) (sub : ℕ) (o : Option ℕ) (o
   has_stamp : o ≡ Some stamp
   has_stamp = sym (ap (λ (x : FollowerRecord). x.stamp) parts) ∙ stamped
 
-  module _ (query : new.query ≡ old.query) (top : IsTop (held_items new.held) (held_items old.held ++ under (is_under old.query) items)) where
-    pub map_stands : StandsForFront q sub new.query after (held_items new.held)
-    map_stands =
-        subst (λ (x : Query). StandsForFront q sub x after (held_items new.held)) (sym query)
-        (check_keeps p q (follower_of sub o old) stamp before after place items reply has_stamp kept called told same new.held top)
+  module _ (query : new.query ≡ old.query) (top : IsTop (held_items new.held) (held_items old.held ++ under (is_under old.query) items))
+    where
+      pub map_stands : StandsForFront q sub new.query after (held_items new.held)
+      map_stands =
+          subst (λ (x : Query). StandsForFront q sub x after (held_items new.held)) (sym query)
+          (check_keeps p q (follower_of sub o old) stamp before after place items reply has_stamp kept called told same new.held top)
 
-    pub map_ends : length items < most_items → EndsBy p q f (follower_of sub (Some after) new) (place + 1)
-    map_ends few =
-        subst (λ (x : FollowerRecord). EndsBy p q x (follower_of sub (Some after) new) (place + 1)) (sym parts)
-        (subst (λ (x : Query). EndsBy p q (follower_of sub o old) (follower_of sub (Some after) (map_of x new.held)) (place + 1)) (sym query)
-        (check_ends p q (follower_of sub o old) stamp before after place items reply has_stamp kept called told same new.held top few))
+      pub map_ends : length items < most_items → EndsBy p q f (follower_of sub (Some after) new) (place + 1)
+      map_ends few =
+          subst (λ (x : FollowerRecord). EndsBy p q x (follower_of sub (Some after) new) (place + 1)) (sym parts)
+          (subst (λ (x : Query). EndsBy p q (follower_of sub o old) (follower_of sub (Some after) (map_of x new.held)) (place + 1))
+          (sym query)
+          (check_ends p q (follower_of sub o old) stamp before after place items reply has_stamp kept called told same new.held top few))
 
-  pub map_never_stops : (stop : Stop) → IsMap new → IsTop (held_items new.held) (held_items old.held ++ under (is_under old.query) (take stop.done items)) →
+  pub map_never_stops : (stop : Stop) → IsMap new →
+      IsTop (held_items new.held) (held_items old.held ++ under (is_under old.query) (take stop.done items)) →
       IsTakeStopped old.query old.held items new.held stop → stop.fault ≡ NoRoom
-  map_never_stops stop map top stopped = never_stops p q (follower_of sub o old) stamp before after place items reply has_stamp kept called told same new stop map top stopped
+  map_never_stops stop map top stopped = never_stops p q (follower_of sub o old) stamp before after place items reply has_stamp kept called
+      told same new stop map top stopped

@@ -1,5 +1,6 @@
 -- Two sorted lists, where each item of one has its match in the other, and the items in front of an item.
-use Rattle.std.proofs.Common.{◌≡◌, ◌⊎◌, ℕ, zero, suc, ◌+◌, ◌≤◌, Bool, not, List, [], ◌∷◌, take, filter, Some, Contains, refl, ap, sym, ◌∙◌, subst, inl, inr, arith}
+use Rattle.std.proofs.Common.{◌≡◌, ◌⊎◌, ℕ, zero, suc, ◌+◌, ◌≤◌, Bool, not, List, [], ◌∷◌, take, filter, Some, Contains, refl, ap, sym, ◌∙◌}
+use Rattle.std.proofs.Common.{subst, inl, inr, arith}
 use Rattle.std.specs.Prelude.{slice_get}
 use Rattle.std.specs.List.Sorted.{IsStrictlySortedBy}
 use Rattle.std.specs.Ordering.{is_eq}
@@ -41,7 +42,8 @@ module _ (w : Item → ℕ) where
   none_ties x y v z tie l (inr k) t = less_not_tied x v (items_total.trans x z v k (items_total.congr z y v t ∙ l)) tie
 
   -- so they count for no more
-  no_heavier : (xs ys : List Item) → IsStrictlySortedBy item_cmp xs → IsStrictlySortedBy item_cmp ys → ((x : Item) → In x xs → IsMatched x ys) → total w xs ≤ total w ys
+  no_heavier : (xs ys : List Item) → IsStrictlySortedBy item_cmp xs → IsStrictlySortedBy item_cmp ys →
+      ((x : Item) → In x xs → IsMatched x ys) → total w xs ≤ total w ys
   unfolding total IsStrictlySortedBy
   no_heavier [] ys s t f = omega arith
   no_heavier (x ∷ xs) [] s t f = by_match (f x (inl refl)) (no_heavier xs [] s.1 t (λ z h. f z (inr h)))
@@ -51,8 +53,10 @@ module _ (w : Item → ℕ) where
       by_match (inr m) rest = absurd m.1
   no_heavier (x ∷ xs) (y ∷ ys) s t f =
       by_match (f x (inl refl)) (no_heavier xs (y ∷ ys) s.1 t (λ z h. f z (inr h)))
-      (λ tie. no_heavier xs ys s.1 t.1 (λ z h. matched_later z y ys (f z (inr h)) (no_later_ties x y z tie (from_along (λ i. item_cmp x i ≡ Less) xs z s.0 h))))
-      (λ v h tie. no_heavier (x ∷ xs) ys s t.1 (λ z k. matched_later z y ys (f z k) (none_ties x y v z tie (from_along (λ i. item_cmp y i ≡ Less) ys v t.0 h) (above z k))))
+      (λ tie. no_heavier xs ys s.1 t.1 (λ z h. matched_later z y ys (f z (inr h))
+      (no_later_ties x y z tie (from_along (λ i. item_cmp x i ≡ Less) xs z s.0 h))))
+      (λ v h tie. no_heavier (x ∷ xs) ys s t.1 (λ z k.
+      matched_later z y ys (f z k) (none_ties x y v z tie (from_along (λ i. item_cmp y i ≡ Less) ys v t.0 h) (above z k))))
     where
       above : (z : Item) → In z (x ∷ xs) → (z ≡ x) ⊎ (item_cmp x z ≡ Less)
       above z (inl e) = inl e
@@ -80,10 +84,21 @@ module _ (w : Item → ℕ) where
         there : Contains ones x
         there = Contains-from_In x ones k
 
-        by_order : (y : Item) → Contains others y → item_cmp x y ≡ Equal → w x ≤ w y → (o : Ordering) → item_cmp y c ≡ o → IsMatched x (filter apart others)
+        by_order : (y : Item) → Contains others y → item_cmp x y ≡ Equal → w x ≤ w y → (o : Ordering) → item_cmp y c ≡ o →
+            IsMatched x (filter apart others)
         by_order y m tie le Equal e = inl (never x there (items_total.congr x y c tie ∙ e))
-        by_order y m tie le Less e = inr (y, In-from_Contains y (filter apart others) (Contains-filter apart others y m (ap (λ (o : Ordering). not (is_eq o)) e)), tie, le)
-        by_order y m tie le Greater e = inr (y, In-from_Contains y (filter apart others) (Contains-filter apart others y m (ap (λ (o : Ordering). not (is_eq o)) e)), tie, le)
+        by_order y m tie le Less e = inr (
+          y,
+          In-from_Contains y (filter apart others) (Contains-filter apart others y m (ap (λ (o : Ordering). not (is_eq o)) e)),
+          tie,
+          le,
+        )
+        by_order y m tie le Greater e = inr (
+          y,
+          In-from_Contains y (filter apart others) (Contains-filter apart others y m (ap (λ (o : Ordering). not (is_eq o)) e)),
+          tie,
+          le,
+        )
 
         by_match : (w x ≡ 0) ⊎ ((y : Item) × Contains others y × (item_cmp x y ≡ Equal) × (w x ≤ w y)) → IsMatched x (filter apart others)
         by_match (inl e) = inl e
@@ -96,7 +111,8 @@ module _ (w : Item → ℕ) where
         omega (arith, without, dropped)
 
 -- ---- items less than an item are in front of it, in each prefix of the list
-in_front : (m n : ℕ) (xs : List Item) (x y : Item) → IsStrictlySortedBy item_cmp xs → In x xs → slice_get (take m xs) n ≡ Some y → item_cmp x y ≡ Less → In x (take n (take m xs))
+in_front : (m n : ℕ) (xs : List Item) (x y : Item) → IsStrictlySortedBy item_cmp xs → In x xs → slice_get (take m xs) n ≡ Some y →
+    item_cmp x y ≡ Less → In x (take n (take m xs))
 unfolding IsStrictlySortedBy
 in_front m n [] x y s h e l = absurd h
 in_front zero n (z ∷ xs) x y s h e l = absurd (cc)
@@ -110,6 +126,7 @@ in_front (suc m) zero (z ∷ xs) x y s (inr h) e l =
 in_front (suc m) (suc n) (z ∷ xs) x y s (inl q) e l = inl q
 in_front (suc m) (suc n) (z ∷ xs) x y s (inr h) e l = inr (in_front m n xs x y s.1 h e l)
 
-pub stands_in_front : (m n : ℕ) (xs : List Item) (x y : Item) → IsStrictlySortedBy item_cmp xs → Contains xs x → slice_get (take m xs) n ≡ Some y → item_cmp x y ≡ Less →
+pub stands_in_front : (m n : ℕ) (xs : List Item) (x y : Item) → IsStrictlySortedBy item_cmp xs → Contains xs x →
+    slice_get (take m xs) n ≡ Some y → item_cmp x y ≡ Less →
     Contains (take n (take m xs)) x
 stands_in_front m n xs x y s h e l = Contains-from_In x (take n (take m xs)) (in_front m n xs x y s (In-from_Contains x xs h) e l)

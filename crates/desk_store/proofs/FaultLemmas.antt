@@ -14,7 +14,8 @@ use Rattle.desk_store.specs.declared.call_fault.CallFault.{CallFault}
 use Rattle.desk_store.specs.declared.call_fault.CallFault.TheVariants as faults
 use Rattle.desk_store.proofs.RecordLemmas.{made_more}
 
-pub refused_for_room : (refusal : Refusal) (fault : CallFault) → fault ≡ faults.NoRoom → TellsRefusal refusal fault → refusal ≡ refusals.NoRoom
+pub refused_for_room : (refusal : Refusal) (fault : CallFault) → fault ≡ faults.NoRoom → TellsRefusal refusal fault →
+    refusal ≡ refusals.NoRoom
 refused_for_room refusal fault none (inl told) = told.0
 refused_for_room refusal fault none (inr told) = absurd (let same : faults.NoRoom ≡ faults.Refused refusal = sym none ∙ told.1 in cc)
 
@@ -49,12 +50,14 @@ ends_later own more refusal e = record {
   refused = e.refused;
 }
 
-fault_later : (q : PassRecord) (own more : List (Entry Command Reply)) (fault : CallFault) → IsFaultAfter q more fault → IsFaultAfter q (own ++ more) fault
+fault_later : (q : PassRecord) (own more : List (Entry Command Reply)) (fault : CallFault) → IsFaultAfter q more fault →
+    IsFaultAfter q (own ++ more) fault
 fault_later q own more (faults.Desk fault) cause = cause
 fault_later q own more (faults.Refused refusal) cause = (cause.0, ends_later own more refusal cause.1)
 fault_later q own more faults.NoRoom cause = tt
 
-pub fails_later : (p q r : PassRecord) (own : List (Entry Command Reply)) (fault : CallFault) → Made p q own → FailsBy q r fault → FailsBy p r fault
+pub fails_later : (p q r : PassRecord) (own : List (Entry Command Reply)) (fault : CallFault) → Made p q own → FailsBy q r fault →
+    FailsBy p r fault
 fails_later p q r own fault made by = record {
   own = own ++ by.own;
   made = made_more p q r own by.own made by.made;

@@ -1,5 +1,6 @@
 -- The items of a check fit into a map that follows.
-use Rattle.std.proofs.Common.{◌≡◌, ◌≢◌, ◌⊎◌, ℕ, ◌+◌, ◌<◌, ◌≤◌, Bool, true, false, List, ◌++◌, take, Option, Some, None, Ok, Err, Contains, refl, ap, sym, ◌∙◌, subst, inl, inr, arith}
+use Rattle.std.proofs.Common.{◌≡◌, ◌≢◌, ◌⊎◌, ℕ, ◌+◌, ◌<◌, ◌≤◌, Bool, true, false, List, ◌++◌, take, Option, Some, None, Ok, Err, Contains}
+use Rattle.std.proofs.Common.{refl, ap, sym, ◌∙◌, subst, inl, inr, arith}
 use Rattle.std.specs.Prelude.{slice_get}
 use Rattle.std.specs.declared.cmp.Ordering.TheVariants.{Equal}
 use Rattle.std.proofs.lemmas.Cmp.{tied_itself}
@@ -55,8 +56,10 @@ abbrev body_or : Body → Item → Body
 body_or b (Changed c) = c.body
 body_or b (Floored f) = b
 
-module _ (s t : State) (sub : ℕ) (query : Query) (stamp max before after : ℕ) (items : List Item) (old new : Holding) (n : ℕ) (next : Item) (reached : IsReached s) (within : IsWithin s)
-    (follows : FollowsStore s sub query stamp (held_items old)) (step : Step s (Check sub max) (Checked items before after) t) (took : TookFirst query old new items n) (at : slice_get items n ≡ Some next) where
+module _ (s t : State) (sub : ℕ) (query : Query) (stamp max before after : ℕ) (items : List Item) (old new : Holding) (n : ℕ) (next : Item)
+    (reached : IsReached s) (within : IsWithin s)
+    (follows : FollowsStore s sub query stamp (held_items old)) (step : Step s (Check sub max) (Checked items before after) t)
+    (took : TookFirst query old new items n) (at : slice_get items n ≡ Some next) where
   all : IsTop (held s) s.feed.accepted
   all = held_is_top s reached
 
@@ -65,7 +68,8 @@ module _ (s t : State) (sub : ℕ) (query : Query) (stamp max before after : ℕ
 
   item_held : (i : Item) → Contains items i → Contains (held s) i
   item_held i h =
-      (Contains-from_filter (is_unseen follows.seer.query follows.seer.shown) (held s) i (Contains-from_take max (unseen s follows.seer) i (subst (λ (l : List Item). Contains l i) items_are h))).0
+      (Contains-from_filter (is_unseen follows.seer.query follows.seer.shown) (held s) i
+      (Contains-from_take max (unseen s follows.seer) i (subst (λ (l : List Item). Contains l i) items_are h))).0
 
   next_held : Contains (held s) next
   next_held = item_held next (n, slice_get_within items n next at, get_or_from_slice_get items n next next at)
@@ -73,28 +77,40 @@ module _ (s t : State) (sub : ℕ) (query : Query) (stamp max before after : ℕ
   accepted : (i : Item) → Contains (held_items new) i → Contains s.feed.accepted i
   accepted i h = elim (Contains-append_cases (held_items old) (under (is_under query) (take n items)) i (took.top.among i h)) [
     | inl k ↦ (Contains-from_filter (passes (is_under query)) s.feed.accepted i (follows.given i k)).0
-    | inr k ↦ all.among i (item_held i (Contains-from_take n items i ((Contains-from_filter (passes (is_under query)) (take n items) i k).0)))
+    | inr k ↦ all.among i (item_held i (Contains-from_take n items i
+        ((Contains-from_filter (passes (is_under query)) (take n items) i k).0)))
   ]
 
   covered : (i : Item) → Contains (held_items new) i → (j : Item) × Contains (held s) j × (covers j i ≡ true)
   covered i h = all.greatest i (accepted i h)
 
   -- ---- a floor: those in the map are fewer than those held
-  floor_match : (x : Item) → Contains (held_items new) x → (floor_weight x ≡ 0) ⊎ ((y : Item) × Contains (held s) y × (item_cmp x y ≡ Equal) × (floor_weight x ≤ floor_weight y))
+  floor_match : (x : Item) → Contains (held_items new) x →
+      (floor_weight x ≡ 0) ⊎ ((y : Item) × Contains (held s) y × (item_cmp x y ≡ Equal) × (floor_weight x ≤ floor_weight y))
   unfolding floor_weight
   floor_match (Changed c) h = inl refl
   floor_match (Floored f) h = by_cover (covered (Floored f) h)
     where
-      by_cover : (j : Item) × Contains (held s) j × (covers j (Floored f) ≡ true) → (floor_weight (Floored f) ≡ 0) ⊎ ((y : Item) × Contains (held s) y × (item_cmp (Floored f) y ≡ Equal) × (floor_weight (Floored f) ≤ floor_weight y))
+      by_cover : (j : Item) × Contains (held s) j × (covers j (Floored f) ≡ true) →
+          (floor_weight (Floored f) ≡ 0) ⊎ ((y : Item) × Contains (held s) y × (item_cmp (Floored f) y ≡ Equal) ×
+          (floor_weight (Floored f) ≤ floor_weight y))
       by_cover (Changed d, k, q) = absurd (let no : false ≡ true = q in cc)
-      by_cover (Floored g, k, q) = inr (Floored g, k, covers-tied (Floored g) (Floored f) (λ z c e r. absurd (let no : floor_weight (Floored f) ≡ floor_weight (Changed c) = ap floor_weight r in let v : 1 ≡ 0 = no in cc)) q, omega arith)
+      by_cover (Floored g, k, q) = inr (
+        Floored g,
+        k,
+        covers-tied (Floored g) (Floored f)
+            (λ z c e r. absurd (let no : floor_weight (Floored f) ≡ floor_weight (Changed c) = ap floor_weight r in let v : 1 ≡ 0 = no in
+            cc)) q,
+        omega arith,
+      )
 
   module _ (f : Floor) (next_is : next ≡ Floored f) where
     floor_room : floor_for new f.owner ≡ None → floor_count new < 64
     unfolding floor_weight
     floor_room none =
         let few : total floor_weight (held_items new) + 1 ≤ total floor_weight (held s) =
-        lighter floor_weight (held_items new) (held s) (Floored f) took.top.in_order all.in_order floor_match (subst (λ (i : Item). Contains (held s) i) next_is next_held) never in
+        lighter floor_weight (held_items new) (held s) (Floored f) took.top.in_order all.in_order floor_match
+        (subst (λ (i : Item). Contains (held s) i) next_is next_held) never in
         omega (arith, few, within.floors, floors_total (held s), floors_total (held_items new), floors_counted new)
       where
         never : (x : Item) → Contains (held_items new) x → item_cmp x (Floored f) ≡ Equal → floor_weight x ≡ 0
@@ -105,7 +121,8 @@ module _ (s t : State) (sub : ℕ) (query : Query) (stamp max before after : ℕ
             let v : None ≡ Some g.generation = sym none ∙ ap (λ (o : List ℕ). floor_for new o) (sym same) ∙ here in
             absurd (cc)
 
-    floor_fits : (fault : JoinFault) (o : Option ℕ) → floor_for new f.owner ≡ o → AnswersFloor o (floor_count new) f.generation (Err fault) → fault ≡ NoRoom
+    floor_fits : (fault : JoinFault) (o : Option ℕ) → floor_for new f.owner ≡ o →
+        AnswersFloor o (floor_count new) f.generation (Err fault) → fault ≡ NoRoom
     floor_fits fault (Some g) is a = absurd a
     floor_fits NotOwner None is a = absurd a
     floor_fits (Clash v) None is a = absurd a
@@ -120,7 +137,8 @@ module _ (s t : State) (sub : ℕ) (query : Query) (stamp max before after : ℕ
     in_both : (f : Floor) → Contains (held s) (Floored f) → Contains (held_items old ++ under (is_under query) (take n items)) (Floored f)
     in_both f h = by_test (is_unseen follows.seer.query follows.seer.shown (Floored f)) refl
       where
-        by_test : (b : Bool) → is_unseen follows.seer.query follows.seer.shown (Floored f) ≡ b → Contains (held_items old ++ under (is_under query) (take n items)) (Floored f)
+        by_test : (b : Bool) → is_unseen follows.seer.query follows.seer.shown (Floored f) ≡ b →
+            Contains (held_items old ++ under (is_under query) (take n items)) (Floored f)
         by_test false e =
             Contains-append_left (held_items old) (under (is_under query) (take n items)) (Floored f)
             (follows.has (Floored f) h refl (subst (λ (q : Query). is_unseen q follows.seer.shown (Floored f) ≡ false) follows.query_is e))
@@ -130,9 +148,11 @@ module _ (s t : State) (sub : ℕ) (query : Query) (stamp max before after : ℕ
             let front = stands_in_front max n (unseen s follows.seer) (Floored f) (Changed c) sorted there
             (subst (λ (l : List Item). slice_get l n ≡ Some (Changed c)) items_are (at ∙ ap (λ (i : Item). Some i) next_is)) refl in
             Contains-append_right (held_items old) (under (is_under query) (take n items)) (Floored f)
-            (Contains-filter (passes (is_under query)) (take n items) (Floored f) (subst (λ (l : List Item). Contains (take n l) (Floored f)) (sym items_are) front) refl)
+            (Contains-filter (passes (is_under query)) (take n items) (Floored f)
+            (subst (λ (l : List Item). Contains (take n l) (Floored f)) (sym items_are) front) refl)
 
-    not_void : (d : ChangeRecord) → Contains (held_items new) (Changed d) → (f : Floor) → Contains (held s) (Floored f) → voids f d ≡ true → ⊥
+    not_void : (d : ChangeRecord) → Contains (held_items new) (Changed d) → (f : Floor) → Contains (held s) (Floored f) →
+        voids f d ≡ true → ⊥
     not_void d h f k v = by_cover (took.top.greatest (Floored f) (in_both f k))
       where
         by_cover : (j : Item) × Contains (held_items new) j × (covers j (Floored f) ≡ true) → ⊥
@@ -143,10 +163,12 @@ module _ (s t : State) (sub : ℕ) (query : Query) (stamp max before after : ℕ
             absurd (let no : false ≡ true = sym isnt ∙ is in cc)
 
     -- so each is covered by a held change
-    held_above : (d : ChangeRecord) → Contains (held_items new) (Changed d) → (e : ChangeRecord) × Contains (held s) (Changed e) × (covers (Changed e) (Changed d) ≡ true)
+    held_above : (d : ChangeRecord) → Contains (held_items new) (Changed d) →
+        (e : ChangeRecord) × Contains (held s) (Changed e) × (covers (Changed e) (Changed d) ≡ true)
     held_above d h = by_cover (covered (Changed d) h)
       where
-        by_cover : (j : Item) × Contains (held s) j × (covers j (Changed d) ≡ true) → (e : ChangeRecord) × Contains (held s) (Changed e) × (covers (Changed e) (Changed d) ≡ true)
+        by_cover : (j : Item) × Contains (held s) j × (covers j (Changed d) ≡ true) →
+            (e : ChangeRecord) × Contains (held s) (Changed e) × (covers (Changed e) (Changed d) ≡ true)
         by_cover (Changed e, k, q) = (e, k, q)
         by_cover (Floored f, k, q) = absurd (not_void d h f k q)
 
@@ -155,11 +177,13 @@ module _ (s t : State) (sub : ℕ) (query : Query) (stamp max before after : ℕ
     covers_it d h key =
         let e = held_above d h in
         let same_key : e.0.key ≡ c.key = sym (covers-key e.0 d e.2) ∙ key in
-        let tie : item_cmp (Changed e.0) (Changed c) ≡ Equal = subst (λ (k : Key). key_cmp e.0.key k ≡ Equal) same_key (tied_itself keys_total e.0.key) in
+        let tie : item_cmp (Changed e.0) (Changed c) ≡ Equal =
+        subst (λ (k : Key). key_cmp e.0.key k ≡ Equal) same_key (tied_itself keys_total e.0.key) in
         let same : Changed e.0 ≡ Changed c = tied_once item_cmp items_total (held s) (Changed e.0) (Changed c) all.in_order e.1 here tie in
         subst (λ (i : Item). covers i (Changed d) ≡ true) same e.2
 
-    change_match : (x : Item) → Contains (held_items new) x → (change_weight x ≡ 0) ⊎ ((y : Item) × Contains (held s) y × (item_cmp x y ≡ Equal) × (change_weight x ≤ change_weight y))
+    change_match : (x : Item) → Contains (held_items new) x →
+        (change_weight x ≡ 0) ⊎ ((y : Item) × Contains (held s) y × (item_cmp x y ≡ Equal) × (change_weight x ≤ change_weight y))
     unfolding change_weight
     change_match (Floored f) h = inl refl
     change_match (Changed d) h = let m = held_above d h in inr (Changed m.0, m.1, change_tied m.0 d m.2, omega arith)
@@ -199,17 +223,21 @@ module _ (s t : State) (sub : ℕ) (query : Query) (stamp max before after : ℕ
       same_body : d.version ≡ c.version → d.body ≡ c.body
       same_body version =
           let back : covers (Changed d) (Changed c) ≡ true =
-          covers-make d c (sym (took.sound.own c.key d is)) (sym owned) (subst (λ v. is_at_most v d.version ≡ true) version (is_at_most-refl d.version)) in
-          let same : Changed d ≡ Changed c = reached.exact (Changed d) (Changed c) (accepted (Changed d) there) (all.among (Changed c) here) above back in
+          covers-make d c (sym (took.sound.own c.key d is)) (sym owned)
+          (subst (λ v. is_at_most v d.version ≡ true) version (is_at_most-refl d.version)) in
+          let same : Changed d ≡ Changed c = reached.exact (Changed d) (Changed c) (accepted (Changed d) there)
+          (all.among (Changed c) here) above back in
           ap (body_or d.body) same
 
     -- so out-of-memory is the only refusal
-    no_answer : (fault : JoinFault) → fault ≢ NoRoom → (o : Option ChangeRecord) (void : Bool) → held_for new c.key ≡ o → AnswersFor o void (held_count new) new.limits.keys c (Err fault) → ⊥
+    no_answer : (fault : JoinFault) → fault ≢ NoRoom → (o : Option ChangeRecord) (void : Bool) → held_for new c.key ≡ o →
+        AnswersFor o void (held_count new) new.limits.keys c (Err fault) → ⊥
     no_answer fault never None true is a = let no : Err fault ≡ Ok Stale = a in cc
     no_answer NotOwner never None false is a = a
     no_answer (Clash v) never None false is a = a
     no_answer Full never None false is a =
-        let room = change_room is in let count : held_count new ≡ new.limits.keys = a in omega (arith, room, count, ap (λ (l : LimitsRecord). l.keys) took.limits)
+        let room = change_room is in let count : held_count new ≡ new.limits.keys = a in
+        omega (arith, room, count, ap (λ (l : LimitsRecord). l.keys) took.limits)
     no_answer NoRoom never None false is a = never refl
     no_answer fault never (Some d) true is (inr a) = let no : Err fault ≡ Ok Stale = a.1 in cc
     no_answer fault never (Some d) void is (inl a) = a.0 (owned d is)
@@ -225,6 +253,8 @@ module _ (s t : State) (sub : ℕ) (query : Query) (stamp max before after : ℕ
     change_fits NoRoom a = refl
 
 pub checks_fit : ChecksFit
-checks_fit s t sub query stamp max before after items old new n (Changed c) fault r w f step took at refused = change_fits s t sub query stamp max before after items old new n (Changed c) r w f step took at c refl fault refused
+checks_fit s t sub query stamp max before after items old new n (Changed c) fault r w f step took at refused =
+    change_fits s t sub query stamp max before after items old new n (Changed c) r w f step took at c refl fault refused
 checks_fit s t sub query stamp max before after items old new n (Floored g) fault r w f step took at refused =
-    floor_fits s t sub query stamp max before after items old new n (Floored g) r w f step took at g refl fault (floor_for new g.owner) refl refused
+    floor_fits s t sub query stamp max before after items old new n (Floored g) r w f step took at g refl fault (floor_for new g.owner)
+    refl refused

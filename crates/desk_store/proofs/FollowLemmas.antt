@@ -1,5 +1,6 @@
 -- Maps that continue to follow a store.
-use Rattle.std.proofs.Common.{◌≡◌, ◌⊎◌, ℕ, ◌<◌, Bool, true, false, List, [], ◌++◌, length, take, Option, Some, None, Contains, refl, sym, ◌∙◌, subst, inl, inr, arith}
+use Rattle.std.proofs.Common.{◌≡◌, ◌⊎◌, ℕ, ◌<◌, Bool, true, false, List, [], ◌++◌, length, take, Option, Some, None, Contains, refl, sym}
+use Rattle.std.proofs.Common.{◌∙◌, subst, inl, inr, arith}
 use Rattle.std.specs.List.{list_any}
 use Rattle.std.proofs.lemmas.List.Elements.{Contains-append_left, Contains-append_cases}
 use Rattle.history.specs.declared.entry.Entry.{Entry}
@@ -8,7 +9,8 @@ use Rattle.ds_entry.specs.Item.{passes}
 use Rattle.ds_entry.specs.ItemCovers.{covers}
 use Rattle.ds_entry.specs.Under.{under}
 use Rattle.ds_entry.specs.declared.item.Item.{Item}
-use Rattle.ds_entry.proofs.Members.{Contains-nil, Contains-filter, Contains-from_filter, Contains-from_take, Contains-from_list_any, Contains-from_map}
+use Rattle.ds_entry.proofs.Members.{Contains-nil, Contains-filter, Contains-from_filter, Contains-from_take, Contains-from_list_any}
+use Rattle.ds_entry.proofs.Members.{Contains-from_map}
 use Rattle.ds_feed.specs.Feed.{Feed}
 use Rattle.ds_join.specs.ItemTop.{IsTop, IsPartOf, tops}
 use Rattle.ds_pattern.specs.declared.query.Query.{Query}
@@ -42,21 +44,25 @@ pub later : (es : List (Entry Command Reply)) (s t : State) → IsReached s → 
 later es s t r run = runs_go_on s t (commands_of es) (replies_of es) r (histories_run es s t run)
 
 -- a later store, in which the subscription is unchanged
-module _ (s t : State) (sub : ℕ) (query : Query) (stamp : ℕ) (map : List Item) (r : IsReached s) (q : IsReached t) (goes : GoesOn s t) (same : subscription_at t sub ≡ subscription_at s sub)
+module _ (s t : State) (sub : ℕ) (query : Query) (stamp : ℕ) (map : List Item) (r : IsReached s) (q : IsReached t) (goes : GoesOn s t)
+    (same : subscription_at t sub ≡ subscription_at s sub)
     (f : FollowsStore s sub query stamp map) where
   accepted_stays : IsPartOf s.feed.accepted t.feed.accepted
   accepted_stays i h = subst (λ (l : List Item). Contains l i) (sym goes.grown.2) (Contains-append_left s.feed.accepted goes.grown.0 i h)
 
   -- what is held then and was shown was held before: nothing new is covered by what was shown
   was_held : (i j : Item) → Contains (held t) i → Contains f.seer.shown j → covers j i ≡ true → Contains (held s) i
-  was_held i j h k c = by_age (Contains-append_cases s.feed.accepted goes.grown.0 i (subst (λ (l : List Item). Contains l i) goes.grown.2 ((held_is_top t q).among i h)))
+  was_held i j h k c = by_age (Contains-append_cases s.feed.accepted goes.grown.0 i
+      (subst (λ (l : List Item). Contains l i) goes.grown.2 ((held_is_top t q).among i h)))
     where
       by_age : Contains s.feed.accepted i ⊎ Contains goes.grown.0 i → Contains (held s) i
       by_age (inl old) =
           let e = (held_is_top s r).greatest i old in
           let there = accepted_stays e.0 ((held_is_top s r).among e.0 e.1) in
-          subst (λ (x : Item). Contains (held s) x) (sym (covers_held t.feed.accepted (held t) q.exact (held_is_top t q) i e.0 h there e.2)) e.1
-      by_age (inr new) = absurd (none_covers_news s.feed.accepted goes.grown.0 goes.grown.1 i j new ((r.served sub f.seer f.here).shown j k) c)
+          subst (λ (x : Item). Contains (held s) x)
+          (sym (covers_held t.feed.accepted (held t) q.exact (held_is_top t q) i e.0 h there e.2)) e.1
+      by_age (inr new) = absurd (none_covers_news s.feed.accepted goes.grown.0 goes.grown.1 i j new
+          ((r.served sub f.seer f.here).shown j k) c)
 
   follows_as_it_was : FollowsStore t sub query stamp map
   follows_as_it_was = record {
@@ -68,7 +74,8 @@ module _ (s t : State) (sub : ℕ) (query : Query) (stamp : ℕ) (map : List Ite
     given = λ i h. under_part query s.feed.accepted t.feed.accepted accepted_stays i (f.given i h);
   }
 
-taken_over : (s t : State) (sub : ℕ) (query : Query) (stamp : ℕ) (map : List Item) → IsReached s → FollowsStore s sub query stamp map → (o : Option Subscription) →
+taken_over : (s t : State) (sub : ℕ) (query : Query) (stamp : ℕ) (map : List Item) → IsReached s → FollowsStore s sub query stamp map →
+    (o : Option Subscription) →
     subscription_at t sub ≡ o → HasNewStamp s o → IsTakenOver t sub stamp
 taken_over s t sub query stamp map r f None e h = absurd h
 taken_over s t sub query stamp map r f (Some seer) e h =
@@ -81,7 +88,8 @@ follows_on es s t sub query stamp map r run f = elim (run_stamps s t (commands_o
 ]
 
 -- some call was for the subscription, or none
-used_or_not : (sub : ℕ) (es : List (Entry Command Reply)) → ((e : Entry Command Reply) × Contains es e × (uses sub e.command ≡ true)) ⊎ (list_any (uses sub) (commands_of es) ≡ false)
+used_or_not : (sub : ℕ) (es : List (Entry Command Reply)) →
+    ((e : Entry Command Reply) × Contains es e × (uses sub e.command ≡ true)) ⊎ (list_any (uses sub) (commands_of es) ≡ false)
 used_or_not sub es = by_test (list_any (uses sub) (commands_of es)) refl
   where
     by_test : (b : Bool) → list_any (uses sub) (commands_of es) ≡ b →
@@ -92,7 +100,8 @@ used_or_not sub es = by_test (list_any (uses sub) (commands_of es)) refl
         let x = Contains-from_map (λ (y : Entry Command Reply). y.command) es c.0 c.1 in
         inl (x.0, x.1, subst (λ (y : Command). uses sub y ≡ true) (sym x.2) c.2)
 
-follows_unused : (es : List (Entry Command Reply)) (s t : State) (sub : ℕ) (query : Query) (stamp : ℕ) (map : List Item) → IsReached s → Run Answered s es t →
+follows_unused : (es : List (Entry Command Reply)) (s t : State) (sub : ℕ) (query : Query) (stamp : ℕ) (map : List Item) → IsReached s →
+    Run Answered s es t →
     list_any (uses sub) (commands_of es) ≡ false → FollowsStore s sub query stamp map → FollowsStore t sub query stamp map
 follows_unused es s t sub query stamp map r run none f =
     follows_as_it_was s t sub query stamp map r (stays_reached es s t r run) (later es s t r run)
@@ -119,19 +128,23 @@ follows_first s t sub query stamp owed r step =
 
 -- a check of a subscription with this record
 module _ (s t : State) (sub max before after : ℕ) (items old new : List Item) (seer : Subscription) (r : IsReached s)
-    (has : (i : Item) → Contains (held s) i → passes (is_under seer.query) i ≡ true → is_unseen seer.query seer.shown i ≡ false → Contains old i)
+    (has : (i : Item) → Contains (held s) i → passes (is_under seer.query) i ≡ true → is_unseen seer.query seer.shown i ≡ false →
+    Contains old i)
     (given : IsPartOf old (under (is_under seer.query) s.feed.accepted)) (checked : IsCheckedOn s sub max seer items before after t)
     (top : IsTop new (old ++ under (is_under seer.query) items)) where
   feed : t.feed ≡ s.feed
   feed = checked.placed.feed_is
 
   part : IsPartOf items (held s)
-  part i h = (Contains-from_filter (is_unseen seer.query seer.shown) (held s) i (Contains-from_take max (unseen s seer) i (subst (λ (l : List Item). Contains l i) checked.items_are h))).0
+  part i h = (Contains-from_filter (is_unseen seer.query seer.shown) (held s) i
+      (Contains-from_take max (unseen s seer) i (subst (λ (l : List Item). Contains l i) checked.items_are h))).0
 
   all_came : length items < max → (i : Item) → Contains (held s) i → is_unseen seer.query seer.shown i ≡ true → Contains items i
   all_came few i h u =
-      let all : take max (unseen s seer) ≡ unseen s seer = few_are_all max (unseen s seer) (subst (λ (ys : List Item). length ys < max) checked.items_are few) in
-      subst (λ (l : List Item). Contains l i) (sym (checked.items_are ∙ all)) (Contains-filter (is_unseen seer.query seer.shown) (held s) i h u)
+      let all : take max (unseen s seer) ≡ unseen s seer =
+      few_are_all max (unseen s seer) (subst (λ (ys : List Item). length ys < max) checked.items_are few) in
+      subst (λ (l : List Item). Contains l i) (sym (checked.items_are ∙ all))
+      (Contains-filter (is_unseen seer.query seer.shown) (held s) i h u)
 
   refreshed : IsRefreshed t sub seer.query max after items new
   refreshed = record {
@@ -146,20 +159,23 @@ module _ (s t : State) (sub max before after : ℕ) (items old new : List Item) 
           (new_given s.feed.accepted (held s) r.exact (held_is_top s r) seer.query seer.shown old items new has given part top);
     };
     current = λ few. subst (λ (f : Feed). new ≡ under (is_under seer.query) (tops f.accepted)) (sym feed)
-        (new_is_all s.feed.accepted (held s) r.exact (held_is_top s r) seer.query seer.shown old items new has given part top (all_came few));
+        (new_is_all s.feed.accepted (held s) r.exact (held_is_top s r) seer.query seer.shown old items new has given part top
+        (all_came few));
   }
 
 pub follows_check : FollowsCheck
 follows_check s t sub query stamp max before after items old new r f step top =
     subst (λ (q : Query). IsRefreshed t sub q max after items new) f.query_is
     (refreshed s t sub max before after items old new f.seer r
-    (subst (λ (q : Query). (i : Item) → Contains (held s) i → passes (is_under q) i ≡ true → is_unseen q f.seer.shown i ≡ false → Contains old i) (sym f.query_is) f.has)
+    (subst (λ (q : Query). (i : Item) → Contains (held s) i → passes (is_under q) i ≡ true → is_unseen q f.seer.shown i ≡ false →
+    Contains old i) (sym f.query_is) f.has)
     (subst (λ (q : Query). IsPartOf old (under (is_under q) s.feed.accepted)) (sym f.query_is) f.given)
     (checked_leaves s t sub max f.seer items before after r f.here step)
     (subst (λ (q : Query). IsTop new (old ++ under (is_under q) items)) (sym f.query_is) top))
 
 -- ---- what the stamp of a check tells
-stamp_told : (m t : State) (sub max before after : ℕ) (items : List Item) (seer : Subscription) → IsReached m → subscription_at m sub ≡ Some seer →
+stamp_told : (m t : State) (sub max before after : ℕ) (items : List Item) (seer : Subscription) → IsReached m →
+    subscription_at m sub ≡ Some seer →
     Step m (Check sub max) (Checked items before after) t → before ≡ seer.stamp
 stamp_told m t sub max before after items seer r here step = (checked_leaves m t sub max seer items before after r here step).before_is
 

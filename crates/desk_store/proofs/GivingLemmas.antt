@@ -1,5 +1,6 @@
 -- The items of Merges, in order.
-use Rattle.std.proofs.Common.{◌≡◌, ◌⊎◌, ℕ, ◌+◌, ◌-◌, ◌<◌, ◌≤◌, List, [], ◌∷◌, ◌++◌, length, take, drop, refl, ap, sym, ◌∙◌, subst, inl, inr, arith, append-nil, append_assoc, length-append, length-drop}
+use Rattle.std.proofs.Common.{◌≡◌, ◌⊎◌, ℕ, ◌+◌, ◌-◌, ◌<◌, ◌≤◌, List, [], ◌∷◌, ◌++◌, length, take, drop, refl, ap, sym, ◌∙◌, subst, inl, inr}
+use Rattle.std.proofs.Common.{arith, append-nil, append_assoc, length-append, length-drop}
 use Rattle.std.specs.List.{AllByRecursion}
 use Rattle.std.proofs.lemmas.List.{take-append-drop}
 use Rattle.std.proofs.lemmas.List.Concat.{flat_map-append}
@@ -50,18 +51,23 @@ merges_after : (own more : List (Entry Command Reply)) → AllByRecursion IsWhol
 merges_after [] more all merges = merges
 merges_after (e ∷ own) more all merges = (all.0.0, inr (all.0.1, merges_after own more all.1 merges))
 
-whole_both : (own more : List (Entry Command Reply)) → AllByRecursion IsWholeMerge own → AllByRecursion IsWholeMerge more → AllByRecursion IsWholeMerge (own ++ more)
+whole_both : (own more : List (Entry Command Reply)) → AllByRecursion IsWholeMerge own → AllByRecursion IsWholeMerge more →
+    AllByRecursion IsWholeMerge (own ++ more)
 whole_both [] more all rest = rest
 whole_both (e ∷ own) more all rest = (all.0, whole_both own more all.1 rest)
 
 -- ---- what is held stays held
-held_later : (p q : PassRecord) (own : List (Entry Command Reply)) (items : List Item) → Made p q own → AfterEach p p.history (λ t. HoldsAll t items) → AfterEach q q.history (λ t. HoldsAll t items)
+held_later : (p q : PassRecord) (own : List (Entry Command Reply)) (items : List Item) → Made p q own →
+    AfterEach p p.history (λ t. HoldsAll t items) → AfterEach q q.history (λ t. HoldsAll t items)
 held_later p q own items made held content opened s t at run =
     let cut = run_cut Answered s t p.history made.between (subst (λ (l : List (Entry Command Reply)). Run Answered s l t) made.seen run) in
-    held_stays made.between cut.0 t items (stays_reached p.history s cut.0 at.reached cut.1) cut.2 (held content (sym made.same_opening ∙ opened) s cut.0 at cut.1)
+    held_stays made.between cut.0 t items (stays_reached p.history s cut.0 at.reached cut.1) cut.2
+    (held content (sym made.same_opening ∙ opened) s cut.0 at cut.1)
 
-held_both : (q : PassRecord) (xs ys : List Item) → AfterEach q q.history (λ t. HoldsAll t xs) → AfterEach q q.history (λ t. HoldsAll t ys) → AfterEach q q.history (λ t. HoldsAll t (xs ++ ys))
-held_both q xs ys a b content opened s t at run i h = elim (Contains-append_cases xs ys i h) [ inl k ↦ a content opened s t at run i k | inr k ↦ b content opened s t at run i k ]
+held_both : (q : PassRecord) (xs ys : List Item) → AfterEach q q.history (λ t. HoldsAll t xs) →
+    AfterEach q q.history (λ t. HoldsAll t ys) → AfterEach q q.history (λ t. HoldsAll t (xs ++ ys))
+held_both q xs ys a b content opened s t at run i h =
+    elim (Contains-append_cases xs ys i h) [ inl k ↦ a content opened s t at run i k | inr k ↦ b content opened s t at run i k ]
 
 legal_later : (p q r : PassRecord) → (q ≡ p) ⊎ HasLegalHistory q → (r ≡ q) ⊎ HasLegalHistory r → (r ≡ p) ⊎ HasLegalHistory r
 legal_later p q r a (inr legal) = inr legal
@@ -81,13 +87,15 @@ gives_none p = record {
   held = λ content opened s t at run i h. absurd (Contains-nil i h);
 }
 
-pub gives_both : (p q r : PassRecord) (xs ys : List Item) (m n : ℕ) → GivesAll p q xs m → GivesAll q r ys n → GivesAll p r (xs ++ ys) (m + n)
+pub gives_both : (p q r : PassRecord) (xs ys : List Item) (m n : ℕ) → GivesAll p q xs m → GivesAll q r ys n →
+    GivesAll p r (xs ++ ys) (m + n)
 gives_both p q r xs ys m n a b = record {
   own = a.own ++ b.own;
   made = made_more p q r a.own b.own a.made b.made;
   legal = legal_later p q r a.legal b.legal;
   merges = whole_both a.own b.own a.merges b.merges;
-  items_are = given_both a.own b.own ∙ ap (λ (l : List Item). l ++ all_given b.own) a.items_are ∙ ap (λ (l : List Item). xs ++ l) b.items_are;
+  items_are = given_both a.own b.own ∙ ap (λ (l : List Item). l ++ all_given b.own) a.items_are ∙
+      ap (λ (l : List Item). xs ++ l) b.items_are;
   taken_is = omega (arith, a.taken_is, b.taken_is, taken_both a.own b.own);
   within = omega (arith, a.within, b.within, length-append xs ys);
   held = held_both r xs ys (held_later q r b.own xs b.made a.held) b.held;
@@ -98,7 +106,9 @@ pub only_none : (p : PassRecord) (items : List Item) → GivesOnly p p items
 only_none p items = record { own = []; made = made_none p; merges = tt; in_order = prefix_nil items }
 
 pub only_all : (p q : PassRecord) (xs ys : List Item) (m : ℕ) → GivesAll p q xs m → GivesOnly p q (xs ++ ys)
-only_all p q xs ys m a = record { own = a.own; made = a.made; merges = whole_merges a.own a.merges; in_order = (ys, ap (λ (l : List Item). l ++ ys) a.items_are) }
+only_all p q xs ys m a =
+    record
+    { own = a.own; made = a.made; merges = whole_merges a.own a.merges; in_order = (ys, ap (λ (l : List Item). l ++ ys) a.items_are) }
 
 pub only_after : (p q r : PassRecord) (xs ys : List Item) (m : ℕ) → GivesAll p q xs m → GivesOnly q r ys → GivesOnly p r (xs ++ ys)
 only_after p q r xs ys m a o = record {
@@ -113,15 +123,18 @@ only_after p q r xs ys m a o = record {
 }
 
 pub only_more : (p q : PassRecord) (xs ys : List Item) → GivesOnly p q xs → GivesOnly p q (xs ++ ys)
-only_more p q xs ys o = record { own = o.own; made = o.made; merges = o.merges; in_order = prefix_append (all_given o.own) xs ys o.in_order }
+only_more p q xs ys o =
+    record { own = o.own; made = o.made; merges = o.merges; in_order = prefix_append (all_given o.own) xs ys o.in_order }
 
 -- ---- some items are left
-pub leaves_rest : (p q : PassRecord) (items front rest : List Item) (m : ℕ) → GivesAll p q front m → front ++ rest ≡ items → most_items < length rest → LeavesSome p q items
+pub leaves_rest : (p q : PassRecord) (items front rest : List Item) (m : ℕ) → GivesAll p q front m → front ++ rest ≡ items →
+    most_items < length rest → LeavesSome p q items
 leaves_rest p q items front rest m g whole many = record {
   own = g.own;
   made = g.made;
   merges = g.merges;
-  left = omega (arith, many, ap (λ (l : List Item). length l) g.items_are, ap (λ (l : List Item). length l) whole, length-append front rest);
+  left =
+      omega (arith, many, ap (λ (l : List Item). length l) g.items_are, ap (λ (l : List Item). length l) whole, length-append front rest);
 }
 
 pub leaves_after : (p q r : PassRecord) (xs ys : List Item) (m : ℕ) → GivesAll p q xs m → LeavesSome q r ys → LeavesSome p r (xs ++ ys)
@@ -129,11 +142,21 @@ leaves_after p q r xs ys m a o = record {
   own = a.own ++ o.own;
   made = made_more p q r a.own o.own a.made o.made;
   merges = whole_both a.own o.own a.merges o.merges;
-  left = omega (arith, o.left, ap (λ (l : List Item). length l) (given_both a.own o.own), length-append (all_given a.own) (all_given o.own), ap (λ (l : List Item). length l) a.items_are, length-append xs ys);
+  left =
+      omega (
+        arith,
+        o.left,
+        ap (λ (l : List Item). length l) (given_both a.own o.own),
+        length-append (all_given a.own) (all_given o.own),
+        ap
+            (λ (l : List Item). length l) a.items_are,
+        length-append xs ys,
+      );
 }
 
 -- ---- one Merge
-module _ (p q : PassRecord) (items : List Item) (reply : Reply) (place : ℕ) (some : 0 < length items) (few : length items ≤ most_items) (c : MadeCall p q (Merge items) reply place) where
+module _ (p q : PassRecord) (items : List Item) (reply : Reply) (place : ℕ) (some : 0 < length items) (few : length items ≤ most_items)
+    (c : MadeCall p q (Merge items) reply place) where
   call : Entry Command Reply
   call = entry p.origin.number (Merge items) reply
 
@@ -146,7 +169,8 @@ module _ (p q : PassRecord) (items : List Item) (reply : Reply) (place : ℕ) (s
     in_order = ([], append-nil (items ++ []) ∙ append-nil items);
   }
 
-module _ (p q : PassRecord) (items : List Item) (done taken stale owed place : ℕ) (some : 0 < length items) (few : length items ≤ most_items)
+module _ (p q : PassRecord) (items : List Item) (done taken stale owed place : ℕ) (some : 0 < length items)
+    (few : length items ≤ most_items)
     (c : MadeCall p q (Merge items) (Merged done taken stale owed) place) where
   -- in each state to which what the pass has seen leads
   says : (s t : State) → IsReached s → Run Answered s q.history t → IsMerged items done taken stale t
@@ -162,7 +186,14 @@ module _ (p q : PassRecord) (items : List Item) (done taken stale owed place : �
         own = entry p.origin.number (Merge items) (Merged done taken stale owed) ∷ [];
         made = c.made;
         legal = inr c.legal;
-        merges = ((record { part = items; command = refl; some = some; few = few }, record { done = done; taken = taken; stale = stale; owed = owed; reply = refl }), tt);
+        merges = (
+          (
+            record { part = items; command = refl; some = some; few = few },
+            record
+                { done = done; taken = taken; stale = stale; owed = owed; reply = refl },
+          ),
+          tt,
+        );
         items_are = append-nil items;
         taken_is = omega arith;
         within = omega (arith, m.within, m.all);
@@ -197,7 +228,8 @@ module _ (rest part : List Item) (is : part ≡ take most_items rest) where
   both_are = ap (λ (l : List Item). l ++ drop most_items rest) is ∙ take-append-drop most_items rest
 
   part_and_rest : length part + (length rest - most_items) ≡ length rest
-  part_and_rest = omega (arith, ap (λ (l : List Item). length l) both_are, length-append part (drop most_items rest), length-drop most_items rest)
+  part_and_rest =
+      omega (arith, ap (λ (l : List Item). length l) both_are, length-append part (drop most_items rest), length-drop most_items rest)
 
   pub part_has_some : 0 < length rest → 0 < length part
   part_has_some l = omega (arith, part_and_rest, l)
@@ -210,12 +242,15 @@ module _ (rest part : List Item) (is : part ≡ take most_items rest) where
 
   module _ (past items front : List Item) (left : past ≡ drop most_items rest) (whole : front ++ rest ≡ items) where
     pub parts_more : (front ++ part) ++ past ≡ items
-    parts_more = append_assoc front part past ∙ ap (λ (l : List Item). front ++ l) (ap (λ (l : List Item). part ++ l) left ∙ both_are) ∙ whole
+    parts_more = append_assoc front part past ∙ ap (λ (l : List Item). front ++ l) (ap (λ (l : List Item). part ++ l) left ∙ both_are) ∙
+        whole
 
     pub only_part : (p q r : PassRecord) (m : ℕ) → GivesAll p q front m → GivesOnly q r part → GivesOnly p r items
-    only_part p q r m g o = subst (λ (l : List Item). GivesOnly p r l) parts_more (only_more p r (front ++ part) past (only_after p q r front part m g o))
+    only_part p q r m g o = subst (λ (l : List Item). GivesOnly p r l) parts_more
+        (only_more p r (front ++ part) past (only_after p q r front part m g o))
 
-pub gives_end : (p q : PassRecord) (items front rest : List Item) (m : ℕ) → GivesAll p q front m → front ++ rest ≡ items → length rest ≡ 0 → GivesAll p q items m
+pub gives_end : (p q : PassRecord) (items front rest : List Item) (m : ℕ) → GivesAll p q front m → front ++ rest ≡ items →
+    length rest ≡ 0 → GivesAll p q items m
 gives_end p q items front [] m g whole none = subst (λ (l : List Item). GivesAll p q l m) (sym (append-nil front) ∙ whole) g
 gives_end p q items front (x ∷ rest) m g whole none = absurd (omega (arith, none))
 
@@ -227,5 +262,6 @@ module _ (p q r : PassRecord) (items front rest : List Item) (m : ℕ) (g : Give
   pub only_rest : GivesOnly q r rest → GivesOnly p r items
   only_rest o = subst (λ (l : List Item). GivesOnly p r l) whole (only_after p q r front rest m g o)
 
-pub only_front : (p q : PassRecord) (items front rest : List Item) (m : ℕ) → GivesAll p q front m → front ++ rest ≡ items → GivesOnly p q items
+pub only_front : (p q : PassRecord) (items front rest : List Item) (m : ℕ) → GivesAll p q front m → front ++ rest ≡ items →
+    GivesOnly p q items
 only_front p q items front rest m g whole = subst (λ (l : List Item). GivesOnly p q l) whole (only_all p q front rest m g)

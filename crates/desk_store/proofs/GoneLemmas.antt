@@ -13,7 +13,8 @@ use Rattle.desk_store.specs.FollowerCalls.{AreOpenCalls, ChecksLast, IsOpenCall}
 use Rattle.desk_store.specs.KeepsUp.{KeepsUpWith}
 use Rattle.desk_store.specs.Refresh.{CallsOnly, EndsBy, GoesOnBy, HasGone, KeepsMap, Refreshes}
 
-open_more : (sub : ℕ) (query : Query) (old mid new : Option ℕ) (own : List (Entry Command Reply)) (e : Entry Command Reply) → AreOpenCalls sub query old own mid →
+open_more : (sub : ℕ) (query : Query) (old mid new : Option ℕ) (own : List (Entry Command Reply)) (e : Entry Command Reply) →
+    AreOpenCalls sub query old own mid →
     IsOpenCall sub query mid e new → AreOpenCalls sub query old (own ++ e ∷ []) new
 open_more sub query old mid new [] e run call = (new, subst (λ (o : Option ℕ). IsOpenCall sub query o e new) run call, refl)
 open_more sub query old mid new (x ∷ own) e run call = (run.0, run.1, open_more sub query run.0 mid new own e run.2 call)
@@ -36,7 +37,8 @@ module _ (p q r : PassRecord) (f g h : FollowerRecord) (count : ℕ) (gone : Has
   pub gone_on : IsSameFollower g h → GoesOnBy q r g h → KeepsUpWith r h → HasGone p r f h (count + 1)
   gone_on same by keeps =
       let call : IsOpenCall f.sub f.map.query g.stamp by.call h.stamp =
-      subst (λ (s : ℕ). IsOpenCall s f.map.query g.stamp by.call h.stamp) gone.same.sub (subst (λ (x : Query). IsOpenCall g.sub x g.stamp by.call h.stamp) gone.same.query by.is_open) in
+      subst (λ (s : ℕ). IsOpenCall s f.map.query g.stamp by.call h.stamp) gone.same.sub
+      (subst (λ (x : Query). IsOpenCall g.sub x g.stamp by.call h.stamp) gone.same.query by.is_open) in
       record {
         own = gone.own ++ by.call ∷ [];
         made = made_more p q r gone.own (by.call ∷ []) gone.made by.made;
@@ -66,21 +68,32 @@ module _ (p q r : PassRecord) (f g h : FollowerRecord) (count : ℕ) (gone : Has
       }
 
 pub gone_all : (p q : PassRecord) (f g : FollowerRecord) (limit : ℕ) → 0 < limit → HasGone p q f g limit → Refreshes p q f g limit More
-gone_all p q f g limit some gone = record { own = gone.own; made = gone.made; legal = gone.legal some; all = gone.all; open_calls = gone.open_calls }
+gone_all p q f g limit some gone =
+    record { own = gone.own; made = gone.made; legal = gone.legal some; all = gone.all; open_calls = gone.open_calls }
 
 -- ---- what becomes of the map
-open_accepted : (sub : ℕ) (query : Query) (old new : Option ℕ) (e : Entry Command Reply) → IsOpenCall sub query old e new → IsAccepted e.reply
+open_accepted : (sub : ℕ) (query : Query) (old new : Option ℕ) (e : Entry Command Reply) → IsOpenCall sub query old e new →
+    IsAccepted e.reply
 open_accepted sub query None None e t = absurd t
 open_accepted sub query None (Some new) e t = subst (λ (r : Reply). IsAccepted r) (sym t.reply) tt
 open_accepted sub query (Some stamp) (Some new) e t = subst (λ (r : Reply). IsAccepted r) (sym t.checks.reply) tt
 open_accepted sub query (Some stamp) None e t = subst (λ (r : Reply). IsAccepted r) (sym t.checks.reply) tt
 
-pub goes_on_accepted : (p q r : PassRecord) (f g h : FollowerRecord) (count : ℕ) → HasGone p q f g count → GoesOnBy q r g h → HadAccepted p r
+pub goes_on_accepted : (p q r : PassRecord) (f g h : FollowerRecord) (count : ℕ) → HasGone p q f g count → GoesOnBy q r g h →
+    HadAccepted p r
 goes_on_accepted p q r f g h count gone by =
     accepted_last p q r gone.own gone.made
-    (record { front = []; call = by.call; back = []; made = by.made; accepted = open_accepted g.sub g.map.query g.stamp h.stamp by.call by.is_open })
+    (record {
+      front = [];
+      call = by.call;
+      back = [];
+      made = by.made;
+      accepted =
+          open_accepted g.sub g.map.query g.stamp h.stamp by.call by.is_open;
+    })
 
-pub map_kept : (p q r : PassRecord) (f g h : FollowerRecord) (count limit : ℕ) → HasGone p q f g count → KeepsMap p q f g → CallsOnly q r g limit → KeepsMap q r g h →
+pub map_kept : (p q r : PassRecord) (f g h : FollowerRecord) (count limit : ℕ) → HasGone p q f g count → KeepsMap p q f g →
+    CallsOnly q r g limit → KeepsMap q r g h →
     KeepsMap p r f h
 map_kept p q r f g h count limit gone (inl same) only (inl still) = inl (still ∙ same)
 map_kept p q r f g h count limit gone kept only (inr had) = inr (accepted_last p q r gone.own gone.made had)

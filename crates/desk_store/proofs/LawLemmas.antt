@@ -1,5 +1,6 @@
 -- What holds of followers at a desk.
-use Rattle.std.proofs.Common.{◌≡◌, ℕ, List, ◌++◌, length, Option, Some, None, sym, ap, ◌∙◌, subst, inl, inr, arith, append-nil, length-append}
+use Rattle.std.proofs.Common.{◌≡◌, ℕ, List, ◌++◌, length, Option, Some, None, sym, ap, ◌∙◌, subst, inl, inr, arith, append-nil}
+use Rattle.std.proofs.Common.{length-append}
 use Rattle.std.specs.List.{flat_map}
 use mathlib.Core.List.{IsPrefix}
 use Rattle.desk_rule.specs.History.{OneBegins}
@@ -20,7 +21,8 @@ use Rattle.desk_store.specs.Follower.{mapped}
 use Rattle.desk_store.specs.KeepsUp.{StandsIfStamped}
 use Rattle.desk_store.specs.RefreshLaws.{KeepsUpLater, LostKeepsUp, RefreshedAlike}
 
-stands_later : (p q : PassRecord) (sub : ℕ) (query : Query) (o : Option ℕ) (map : List Item) → HasSeenMore p q → StandsIfStamped p sub query o map → StandsIfStamped q sub query o map
+stands_later : (p q : PassRecord) (sub : ℕ) (query : Query) (o : Option ℕ) (map : List Item) → HasSeenMore p q →
+    StandsIfStamped p sub query o map → StandsIfStamped q sub query o map
 stands_later p q sub query None map more k = tt
 stands_later p q sub query (Some stamp) map more k = record {
   front = k.front;
@@ -28,7 +30,8 @@ stands_later p q sub query (Some stamp) map more k = record {
   follows = λ content opened. k.follows content (sym more.same_opening ∙ opened);
 }
 
-stands_unstamped : (p : PassRecord) (sub : ℕ) (query : Query) (o : Option ℕ) (map : List Item) → o ≡ None → StandsIfStamped p sub query o map
+stands_unstamped : (p : PassRecord) (sub : ℕ) (query : Query) (o : Option ℕ) (map : List Item) → o ≡ None →
+    StandsIfStamped p sub query o map
 stands_unstamped p sub query o map none = subst (λ (x : Option ℕ). StandsIfStamped p sub query x map) (sym none) tt
 
 pub lost_keeps_up : LostKeepsUp
@@ -52,9 +55,12 @@ pub alike : RefreshedAlike
 alike p q f g place desk legal query a b =
     let turns : p.turns ≡ q.turns = same_turns p.turns q.turns desk.agree (omega (arith, a.at, b.at, desk.first)) in
     let same : p.history ≡ q.history =
-    sym legal.in_turns ∙ ap (λ (l : List (List (Entry Command Reply))). flat_map (λ (es : List (Entry Command Reply)). es) l) turns ∙ desk.in_turns in
+    sym legal.in_turns ∙ ap (λ (l : List (List (Entry Command Reply))). flat_map (λ (es : List (Entry Command Reply)). es) l) turns ∙
+    desk.in_turns in
     let run = legal.legal legal.begun legal.stood in
-    let mine : mapped f ≡ under (is_under f.map.query) (held run.0) = a.current legal.content legal.opened_with legal.begun run.0 legal.stood run.1 in
+    let mine : mapped f ≡ under (is_under f.map.query) (held run.0) =
+    a.current legal.content legal.opened_with legal.begun run.0 legal.stood run.1 in
     let theirs : mapped g ≡ under (is_under g.map.query) (held run.0) =
-    b.current legal.content (desk.opened ∙ legal.opened_with) legal.begun run.0 legal.stood (subst (λ (es : List (Entry Command Reply)). Run Answered legal.begun es run.0) same run.1) in
+    b.current legal.content (desk.opened ∙ legal.opened_with) legal.begun run.0 legal.stood
+    (subst (λ (es : List (Entry Command Reply)). Run Answered legal.begun es run.0) same run.1) in
     mine ∙ sym (theirs ∙ ap (λ (x : Query). under (is_under x) (held run.0)) query)

@@ -9,7 +9,7 @@ pub mod FitLemmas
 pub mod MergedLemmas
 mod StandLemmas
 mod CheckLemmas
-mod OnlyLemmas
+pub mod OnlyLemmas
 mod GoneLemmas
 mod RoomLemmas
 pub mod LawLemmas

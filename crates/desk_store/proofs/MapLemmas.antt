@@ -18,16 +18,19 @@ use Rattle.ds_machine.specs.Reached.{AreExact}
 use Rattle.desk_store.proofs.ShownLemmas.{shown_for, no_more_unseen, under_part}
 
 -- an accepted item that covers a held one is that one
-pub covers_held : (accepted held : List Item) → AreExact accepted → IsTop held accepted → (i j : Item) → Contains held i → Contains accepted j → covers j i ≡ true → i ≡ j
+pub covers_held : (accepted held : List Item) → AreExact accepted → IsTop held accepted → (i j : Item) → Contains held i →
+    Contains accepted j → covers j i ≡ true → i ≡ j
 covers_held accepted held exact t i j h k q =
     let e = t.greatest j k in
     let same : e.0 ≡ i = held_apart held accepted t i e.0 h e.1 (covers-trans e.0 j i e.2 q) in
     exact i j (t.among i h) k q (subst (λ (z : Item). covers z j ≡ true) same e.2)
 
 -- of what is held, `old` had what was shown; `items` are some of the rest, and `new` is the top of both
-module _ (accepted held : List Item) (exact : AreExact accepted) (top : IsTop held accepted) (query : Query) (shown old items new : List Item)
+module _ (accepted held : List Item) (exact : AreExact accepted) (top : IsTop held accepted) (query : Query)
+    (shown old items new : List Item)
     (has : (i : Item) → Contains held i → passes (is_under query) i ≡ true → is_unseen query shown i ≡ false → Contains old i)
-    (given : IsPartOf old (under (is_under query) accepted)) (part : IsPartOf items held) (t : IsTop new (old ++ under (is_under query) items)) where
+    (given : IsPartOf old (under (is_under query) accepted)) (part : IsPartOf items held)
+    (t : IsTop new (old ++ under (is_under query) items)) where
   from_accepted : IsPartOf (old ++ under (is_under query) items) (under (is_under query) accepted)
   from_accepted i h = elim (Contains-append_cases old (under (is_under query) items) i h) [
     | inl k ↦ given i k
@@ -45,9 +48,11 @@ module _ (accepted held : List Item) (exact : AreExact accepted) (top : IsTop he
   old_stays i h u e = stays i h (Contains-append_left old (under (is_under query) items) i (has i h u e))
 
   item_stays : (i : Item) → Contains held i → passes (is_under query) i ≡ true → Contains items i → Contains new i
-  item_stays i h u k = stays i h (Contains-append_right old (under (is_under query) items) i (Contains-filter (passes (is_under query)) items i k u))
+  item_stays i h u k = stays i h (Contains-append_right old (under (is_under query) items) i
+      (Contains-filter (passes (is_under query)) items i k u))
 
-  pub new_has : (i : Item) → Contains held i → passes (is_under query) i ≡ true → is_unseen query (shown ++ items) i ≡ false → Contains new i
+  pub new_has : (i : Item) → Contains held i → passes (is_under query) i ≡ true → is_unseen query (shown ++ items) i ≡ false →
+      Contains new i
   new_has i h u e =
       let d = shown_for query (shown ++ items) i u e in
       elim (Contains-append_cases shown items d.0 d.1) [

@@ -1,5 +1,6 @@
 -- The questions to a store, by one call or page by page, and the merging of their items.
-use Rattle.std.proofs.Common.{◌≡◌, ℕ, ◌+◌, ◌^◌, ◌<◌, ◌≤◌, true, false, List, [], ◌∷◌, ◌++◌, length, nat_le, Option, Some, None, refl, ap, sym, ◌∙◌, subst, inl, inr, arith, append-nil, append_assoc, length-append}
+use Rattle.std.proofs.Common.{◌≡◌, ℕ, ◌+◌, ◌^◌, ◌<◌, ◌≤◌, true, false, List, [], ◌∷◌, ◌++◌, length, nat_le, Option, Some, None, refl, ap}
+use Rattle.std.proofs.Common.{sym, ◌∙◌, subst, inl, inr, arith, append-nil, append_assoc, length-append}
 use Rattle.std.specs.Option.{unwrap_or}
 use Rattle.std.proofs.lemmas.List.Concat.{flat_map-append}
 use Rattle.history.specs.declared.entry.Entry.{Entry}
@@ -29,7 +30,8 @@ use Rattle.desk_store.specs.ExchangeFaults.{IsExchangeFault, IsGivingFault, Leav
 use Rattle.desk_store.specs.declared.exchange_fault.ExchangeFault.{ExchangeFault}
 use Rattle.desk_store.specs.declared.exchange_fault.ExchangeFault.TheVariants.{Call, Stopped}
 use Rattle.desk_store.specs.Giving.{GivesAll, GivesOnly}
-use Rattle.desk_store.specs.Telling.{AsksInTurn, AsksPages, IsOpenPage, all_told, cursor_told, first_told, items_told, page_asked, since_asked}
+use Rattle.desk_store.specs.Telling.{AsksInTurn, AsksPages, IsOpenPage, all_told, cursor_told, first_told, items_told, page_asked}
+use Rattle.desk_store.specs.Telling.{since_asked}
 use Rattle.desk_store.proofs.GivingLemmas.{gives_both, gives_none, leaves_after, only_all, only_after, only_none}
 
 -- ---- the items of replies
@@ -52,10 +54,12 @@ record AsksOnce (p q : PassRecord) (command : Command) : Type 0 where
 
 asked_once : (p q : PassRecord) (command : Command) (fault : CallFault) → FailsAsking p q command fault → AsksOnce p q command
 asked_once p q command fault (inl t) = record { own = []; made = t.1.made; once = tt }
-asked_once p q command fault (inr t) = record { own = entry p.origin.number command (replies.Refused t.0) ∷ []; made = t.2.made; once = (refl, refl) }
+asked_once p q command fault (inr t) = record
+    { own = entry p.origin.number command (replies.Refused t.0) ∷ []; made = t.2.made; once = (refl, refl) }
 
 -- after the items of the replies were merged
-module _ (p q next r s : PassRecord) (own : List (Entry Command Reply)) (taken : ℕ) (made : Made p q own) (gives : GivesAll r s (all_told own) taken) where
+module _ (p q next r s : PassRecord) (own : List (Entry Command Reply)) (taken : ℕ) (made : Made p q own)
+    (gives : GivesAll r s (all_told own) taken) where
   pub asking_fails : (command : Command) (fault : CallFault) → FailsAsking q next command fault → IsExchangeFault p next r s (Call fault)
   asking_fails command fault (inl t) =
       subst (λ (f : CallFault). IsExchangeFault p next r s (Call f)) (sym t.2)
@@ -73,7 +77,8 @@ module _ (p q next r s : PassRecord) (own : List (Entry Command Reply)) (taken :
         })))
     | inr other ↦
         subst (λ (f : CallFault). IsExchangeFault p next r s (Call f)) (sym other.1)
-        (fails_later p q next own (calls.Refused t.0) made (fails_by q next command (calls.Refused t.0) (inr (t.0, t.1, t.2, inr (other.0, refl)))))
+        (fails_later p q next own (calls.Refused t.0) made
+        (fails_by q next command (calls.Refused t.0) (inr (t.0, t.1, t.2, inr (other.0, refl)))))
   ]
 
 -- ---- the items of the replies couldn't be merged
@@ -130,7 +135,8 @@ module _ (p q : PassRecord) (from : Cursor) where
     since_stops fault by = giving_fails p q r r s asked t.1.made [] since.items 0 (gives_none r) journal_told fault by
 
     pub since_ends : (taken : ℕ) → GivesAll r s since.items taken →
-        Exchanges p q r s (Some from) (record { cursor = since.cursor; done = length since.items; taken = taken; more = nat_le most_items (length since.items) })
+        Exchanges p q r s (Some from)
+        (record { cursor = since.cursor; done = length since.items; taken = taken; more = nat_le most_items (length since.items) })
     unfolding asked
     since_ends taken g = record {
       own = asked;
@@ -149,32 +155,40 @@ module _ (p q : PassRecord) (from : Cursor) where
     }
 
 -- ---- pages
-asks_more : (after next : Option Key) (own more : List (Entry Command Reply)) → AsksOpenPages after own next → IsAtMostOne more (page_asked next) → AsksPages after (own ++ more)
+asks_more : (after next : Option Key) (own more : List (Entry Command Reply)) → AsksOpenPages after own next →
+    IsAtMostOne more (page_asked next) → AsksPages after (own ++ more)
 asks_more after next [] [] a once = tt
 asks_more after next [] (e ∷ es) a once = (once.0 ∙ ap page_asked a, inl once.1)
 asks_more after next (x ∷ own) more a once = (a.0, inr (a.1.0, a.1.1, asks_more (last_key after a.1.0.items) next own more a.1.2 once))
 
-open_more : (after next : Option Key) (own : List (Entry Command Reply)) (e : Entry Command Reply) (page : Leaf) → AsksOpenPages after own next → e.command ≡ page_asked next → IsOpenPage e page →
+open_more : (after next : Option Key) (own : List (Entry Command Reply)) (e : Entry Command Reply) (page : Leaf) →
+    AsksOpenPages after own next → e.command ≡ page_asked next → IsOpenPage e page →
     AsksOpenPages after (own ++ e ∷ []) (last_key next page.items)
 open_more after next [] e page a asked is = (asked ∙ ap page_asked a, (page, is, ap (λ (k : Option Key). last_key k page.items) a))
-open_more after next (x ∷ own) e page a asked is = (a.0, (a.1.0, a.1.1, open_more (last_key after a.1.0.items) next own e page a.1.2 asked is))
+open_more after next (x ∷ own) e page a asked is =
+    (a.0, (a.1.0, a.1.1, open_more (last_key after a.1.0.items) next own e page a.1.2 asked is))
 
-first_more : (after next : Option Key) (own : List (Entry Command Reply)) (e : Entry Command Reply) (page : Leaf) → AsksOpenPages after own next → e.reply ≡ Paged page →
+first_more : (after next : Option Key) (own : List (Entry Command Reply)) (e : Entry Command Reply) (page : Leaf) →
+    AsksOpenPages after own next → e.reply ≡ Paged page →
     first_told (own ++ e ∷ []) ≡ Some (unwrap_or (first_told own) page.cursor)
 first_more after next [] e page a is = ap cursor_told is
-first_more after next (x ∷ own) e page a is = subst (λ (z : Reply). cursor_told z ≡ Some (unwrap_or (cursor_told z) page.cursor)) (sym a.1.1.reply) refl
+first_more after next (x ∷ own) e page a is =
+    subst (λ (z : Reply). cursor_told z ≡ Some (unwrap_or (cursor_told z) page.cursor)) (sym a.1.1.reply) refl
 
 pub pages_none : (p r : PassRecord) → GoesByPages p p r r None None 0 0
-pages_none p r = record { own = []; made = made_none p; asks = refl; gives = gives_none r; done_is = refl; bound = omega arith; first_is = refl }
+pages_none p r =
+    record { own = []; made = made_none p; asks = refl; gives = gives_none r; done_is = refl; bound = omega arith; first_is = refl }
 
-module _ (p q r s next : PassRecord) (after : Option Key) (first : Option Cursor) (done taken : ℕ) (k : GoesByPages p q r s after first done taken) where
+module _ (p q r s next : PassRecord) (after : Option Key) (first : Option Cursor) (done taken : ℕ)
+    (k : GoesByPages p q r s after first done taken) where
   -- the next page wasn't told
   pub page_fails : (fault : CallFault) → FailsAsking q next (page_asked after) fault → ExchangesOnly p next r s None
   page_fails fault by = let o = asked_once q next (page_asked after) fault by in record {
     own = k.own ++ o.own;
     made = made_more p q next k.own o.own k.made o.made;
     asks = asks_more None after k.own o.own k.asks o.once;
-    gives = subst (λ (l : List Item). GivesOnly r s l) (sym (told_both k.own o.own)) (only_all r s (all_told k.own) (all_told o.own) taken k.gives);
+    gives = subst (λ (l : List Item). GivesOnly r s l) (sym (told_both k.own o.own))
+        (only_all r s (all_told k.own) (all_told o.own) taken k.gives);
   }
 
   pub page_fault : (fault : CallFault) → FailsAsking q next (page_asked after) fault → IsExchangeFault p next r s (Call fault)
@@ -206,7 +220,8 @@ module _ (p q r s next : PassRecord) (after : Option Key) (first : Option Cursor
     }
 
     pub page_stops : (fault : ExchangeFault) → IsGivingFault s new page.items fault → IsExchangeFault p next r new fault
-    page_stops fault by = giving_fails p next r s new (k.own ++ asked_page ∷ []) made_page (all_told k.own) page.items taken k.gives page_told fault by
+    page_stops fault by = giving_fails p next r s new (k.own ++ asked_page ∷ []) made_page (all_told k.own) page.items taken k.gives
+        page_told fault by
 
     -- a desk has places for so few pages that they have fewer items than 2^127
     pub told_few : place_after next ≤ 2 ^ 62 → length page.items < 2 ^ 64 → done + length page.items < 2 ^ 127
@@ -218,7 +233,8 @@ module _ (p q r s next : PassRecord) (after : Option Key) (first : Option Cursor
       taken_few at few = omega (arith, told_few at few, k.done_is, k.gives.within, g.within)
 
       gives_page : GivesAll r new (all_told (k.own ++ asked_page ∷ [])) (taken + n)
-      gives_page = subst (λ (l : List Item). GivesAll r new l (taken + n)) (sym page_told) (gives_both r s new (all_told k.own) page.items taken n k.gives g)
+      gives_page = subst (λ (l : List Item). GivesAll r new l (taken + n)) (sym page_told)
+          (gives_both r s new (all_told k.own) page.items taken n k.gives g)
 
       page_done : done + length page.items ≡ length (all_told (k.own ++ asked_page ∷ []))
       page_done = omega (arith, k.done_is, ap (λ (l : List Item). length l) page_told, length-append (all_told k.own) page.items)
@@ -226,7 +242,8 @@ module _ (p q r s next : PassRecord) (after : Option Key) (first : Option Cursor
       page_first : first_told (k.own ++ asked_page ∷ []) ≡ Some (unwrap_or first page.cursor)
       unfolding asked_page
       page_first =
-          first_more None after k.own asked_page page k.asks refl ∙ ap (λ (o : Option Cursor). Some (unwrap_or o page.cursor)) (sym k.first_is)
+          first_more None after k.own asked_page page k.asks refl ∙
+          ap (λ (o : Option Cursor). Some (unwrap_or o page.cursor)) (sym k.first_is)
 
       pub pages_more : page.last ≡ false → length page.items < 2 ^ 64 →
           GoesByPages p next r new (last_key after page.items) (Some (unwrap_or first page.cursor)) (done + length page.items) (taken + n)
@@ -242,7 +259,8 @@ module _ (p q r s next : PassRecord) (after : Option Key) (first : Option Cursor
       }
 
       pub pages_end : page.last ≡ true →
-          Exchanges p next r new None (record { cursor = unwrap_or first page.cursor; done = done + length page.items; taken = taken + n; more = false })
+          Exchanges p next r new None
+          (record { cursor = unwrap_or first page.cursor; done = done + length page.items; taken = taken + n; more = false })
       unfolding asked_page
       pages_end last = record {
         own = k.own ++ asked_page ∷ [];

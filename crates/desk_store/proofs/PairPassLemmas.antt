@@ -1,5 +1,6 @@
 -- What a desk's calls say of a pass, by the store's part.
-use Rattle.std.proofs.Common.{◌≡◌, ℕ, ◌+◌, true, false, List, [], ◌∷◌, ◌++◌, length, Option, Some, None, refl, ap, sym, ◌∙◌, subst, inr, arith, append-nil, append_assoc, length-append}
+use Rattle.std.proofs.Common.{◌≡◌, ℕ, ◌+◌, true, false, List, [], ◌∷◌, ◌++◌, length, Option, Some, None, refl, ap, sym, ◌∙◌, subst, inr}
+use Rattle.std.proofs.Common.{arith, append-nil, append_assoc, length-append}
 use Rattle.std.specs.Prelude.{is_some}
 use Rattle.std.specs.Option.{option_map}
 use Rattle.history.specs.declared.entry.Entry.{Entry}
@@ -39,7 +40,8 @@ in_rs_name : (services : Option RsRecord) (command : Command) → passes_for_rs 
 in_rs_name None command passes other = absurd (cc)
 in_rs_name (Some rs) command passes other = absurd (cc)
 
-replied_by : (services : Option RsRecord) (command : Command) (reply : RsReply) (old new : ContentRecord) → ClientTurn services old command reply new →
+replied_by : (services : Option RsRecord) (command : Command) (reply : RsReply) (old new : ContentRecord) →
+    ClientTurn services old command reply new →
     is_by_rs command ≡ false → (r : Reply) × (reply ≡ Replied r)
 replied_by services command (Replied r) old new turn other = (r, refl)
 replied_by services command NotAllowed old new turn other = absurd (in_rs_name services command turn.0 other)
@@ -84,7 +86,8 @@ module _ {Z : Type 0} {G : Ghosts (View (BoxedPair Z) RsCommand RsReply)} (p q :
     just = inr (just_own s.same s.own);
   }
 
-  pub found_worn : (fault : DeskFault) → SameNotes p q → FindsNoPlace is_pair RsTurn fault p q → FoundWorn (pair_record p) (pair_record q) fault
+  pub found_worn : (fault : DeskFault) → SameNotes p q → FindsNoPlace is_pair RsTurn fault p q →
+      FoundWorn (pair_record p) (pair_record q) fault
   found_worn fault notes f = record { fault_is = f.0; made = sees_made f.1 notes; full = after_is q ∙ f.3 }
 
   -- ---- it called
@@ -97,11 +100,13 @@ module _ {Z : Type 0} {G : Ghosts (View (BoxedPair Z) RsCommand RsReply)} (p q :
       (subst (λ (es : List (Entry RsCommand RsReply)). Run RsTurn m.value es run.0) c.ends run.1) in
       replied_by ends.0.services command reply ends.0.store run.0.store ends.2.0 other
 
-  pub replied : is_some (opening p) ≡ true → (command : Command) (reply : RsReply) (place : ℕ) → Calls is_pair RsTurn p q (Ask command) reply place →
+  pub replied : is_some (opening p) ≡ true → (command : Command) (reply : RsReply) (place : ℕ) →
+      Calls is_pair RsTurn p q (Ask command) reply place →
       is_by_rs command ≡ false → (r : Reply) × (reply ≡ Replied r)
   replied some command reply place c other = replied_from (opening p) refl some command reply place c other
 
-  module _ (says : StoreTurnsRun) (command : Command) (reply : Reply) (place : ℕ) (c : Calls is_pair RsTurn p q (Ask command) (Replied reply) place) where
+  module _ (says : StoreTurnsRun) (command : Command) (reply : Reply) (place : ℕ)
+      (c : Calls is_pair RsTurn p q (Ask command) (Replied reply) place) where
     abbrev asked : Entry RsCommand RsReply
     asked = entry (number p) (Ask command) (Replied reply)
 
@@ -126,13 +131,15 @@ module _ {Z : Type 0} {G : Ghosts (View (BoxedPair Z) RsCommand RsReply)} (p q :
     legal_from None e some = absurd (cc)
     legal_from (Some m) e some =
         let run = c.legal m e m.value refl in
-        let stood = first_stood (store_entries (history p) ++ store_entries c.between) new m.value.store run.0.store (store_run m run.0 run.1) in
+        let stood = first_stood (store_entries (history p) ++ store_entries c.between) new m.value.store run.0.store
+        (store_run m run.0 run.1) in
         record {
           content = m.value.store;
           opened_with = same_opened c.same.same_opening ∙ ap (λ (x : Option (BoxedPair Z)). option_map boxed_store x) e;
           begun = stood.0;
           stood = stood.1;
-          legal = λ s at. (let all = turns_run (store_entries (history q)) m.value.store run.0.store (says (history q) m.value run.0 run.1) s at in (all.0, all.1));
+          legal = λ s at. (let all = turns_run (store_entries (history q)) m.value.store run.0.store (says (history q) m.value run.0 run.1)
+              s at in (all.0, all.1));
           own = just_own c.same c.own;
           in_turns = turns_join (history q);
         }
@@ -155,7 +162,9 @@ module _ {Z : Type 0} {G : Ghosts (View (BoxedPair Z) RsCommand RsReply)} (p q :
       ends = ends;
       turned = store_turns c.between;
       turns_end = turns_end;
-      at = c.at ∙ ap (λ (n : ℕ). first_place p + n) (sym (turns_many (history p ++ c.between)) ∙ ap (λ (l : List (List (Entry Command Reply))). length l) (turns_both (history p) c.between));
+      at = c.at ∙ ap (λ (n : ℕ). first_place p + n)
+          (sym (turns_many (history p ++ c.between)) ∙
+          ap (λ (l : List (List (Entry Command Reply))). length l) (turns_both (history p) c.between));
       legal = legal_from (opening p) refl some;
     }
 
@@ -163,7 +172,8 @@ module _ {Z : Type 0} {G : Ghosts (View (BoxedPair Z) RsCommand RsReply)} (p q :
     fits_from None e some = absurd (cc)
     fits_from (Some m) e some =
         let run = c.legal m e m.value refl in
-        let a = turns_answer (store_entries (history p) ++ store_entries c.between) new m.value.store run.0.store (store_run m run.0 run.1) in
+        let a = turns_answer (store_entries (history p) ++ store_entries c.between) new m.value.store run.0.store
+        (store_run m run.0 run.1) in
         replies_fit a.before a.after command reply a.answered.step
 
     -- the reply is one to the command
@@ -177,18 +187,24 @@ module _ {Z : Type 0} {G : Ghosts (View (BoxedPair Z) RsCommand RsReply)} (p : P
     begins = (
       store_entries (c.between ++ entry (number p) command reply ∷ []),
       sym (part_both (history p) (c.between ++ entry (number p) command reply ∷ []))
-          ∙ ap (λ (l : List (Entry RsCommand RsReply)). store_entries l) (sym (append_assoc (history p) c.between (entry (number p) command reply ∷ [])) ∙ sym c.ends),
+          ∙ ap (λ (l : List (Entry RsCommand RsReply)). store_entries l)
+          (sym (append_assoc (history p) c.between (entry (number p) command reply ∷ [])) ∙ sym c.ends),
     );
   }
 
   pub sees_by_looks : PairSeesMoreByLooks p
   sees_by_looks q s = record {
     same_opening = same_opened p q s.same.same_opening;
-    begins = (store_entries s.begins.0, sym (part_both (history p) s.begins.0) ∙ ap (λ (l : List (Entry RsCommand RsReply)). store_entries l) s.begins.1);
+    begins = (
+      store_entries s.begins.0,
+      sym (part_both (history p) s.begins.0) ∙
+          ap (λ (l : List (Entry RsCommand RsReply)). store_entries l) s.begins.1,
+    );
   }
 
   pub sees_by_notes : PairSeesMoreByNotes p
   sees_by_notes q k = record {
     same_opening = same_opened p q k.same.same_opening;
-    begins = ([], append-nil (store_entries (history p)) ∙ ap (λ (l : List (Entry RsCommand RsReply)). store_entries l) (sym k.same_history));
+    begins =
+        ([], append-nil (store_entries (history p)) ∙ ap (λ (l : List (Entry RsCommand RsReply)). store_entries l) (sym k.same_history));
   }

@@ -28,7 +28,8 @@ turns_both xs ys = map-append store_turn xs ys
 pub turns_many : (es : List (Entry RsCommand RsReply)) → length (store_turns es) ≡ length es
 turns_many es = length-map es store_turn
 
-pub turns_join : (es : List (Entry RsCommand RsReply)) → flat_map (λ (xs : List (Entry Command Reply)). xs) (store_turns es) ≡ store_entries es
+pub turns_join : (es : List (Entry RsCommand RsReply)) →
+    flat_map (λ (xs : List (Entry Command Reply)). xs) (store_turns es) ≡ store_entries es
 turns_join [] = refl
 turns_join (e ∷ es) = ap (λ (l : List (Entry Command Reply)). store_turn e ++ l) (turns_join es)
 
@@ -40,7 +41,8 @@ none_of : (n : ℕ) (b : Bool) → calls_by n no_part ≡ cond b no_part []
 none_of n true = refl
 none_of n false = refl
 
-one_of : (n m : ℕ) (b : Bool) → (m == n) ≡ b → (o : Option Command) (r : Option Reply) → calls_by n (entry_if m o r) ≡ cond b (entry_if m o r) []
+one_of : (n m : ℕ) (b : Bool) → (m == n) ≡ b → (o : Option Command) (r : Option Reply) →
+    calls_by n (entry_if m o r) ≡ cond b (entry_if m o r) []
 one_of n m b is (Some command) (Some reply) = ap (λ (x : Bool). cond x (entry m command reply ∷ []) []) is
 one_of n m b is (Some command) None = none_of n b
 one_of n m b is None (Some reply) = none_of n b
@@ -50,7 +52,8 @@ both_of : (b : Bool) (xs ys : List (Entry Command Reply)) → cond b xs [] ++ co
 both_of true xs ys = refl
 both_of false xs ys = refl
 
-all_of : (n m : ℕ) (b : Bool) → (m == n) ≡ b → (actions : List Action) (replies : List (Option Reply)) → calls_by n (entries_for m actions replies) ≡ cond b (entries_for m actions replies) []
+all_of : (n m : ℕ) (b : Bool) → (m == n) ≡ b → (actions : List Action) (replies : List (Option Reply)) →
+    calls_by n (entries_for m actions replies) ≡ cond b (entries_for m actions replies) []
 all_of n m b is (x ∷ actions) (r ∷ replies) =
     filter-append (λ (e : Entry Command Reply). e.pass == n) (entry_if m (command_of x) r) (entries_for m actions replies)
     ∙ ap (λ (l : List (Entry Command Reply)). l ++ calls_by n (entries_for m actions replies)) (one_of n m b is (command_of x) r)
@@ -60,7 +63,8 @@ all_of n m b is (x ∷ actions) [] = none_of n b
 all_of n m b is [] (r ∷ replies) = none_of n b
 all_of n m b is [] [] = none_of n b
 
-turn_of : (n m : ℕ) (b : Bool) → (m == n) ≡ b → (command : RsCommand) (reply : RsReply) → calls_by n (entries_by m command reply) ≡ cond b (entries_by m command reply) []
+turn_of : (n m : ℕ) (b : Bool) → (m == n) ≡ b → (command : RsCommand) (reply : RsReply) →
+    calls_by n (entries_by m command reply) ≡ cond b (entries_by m command reply) []
 turn_of n m b is (Ask command) (Replied reply) = ap (λ (x : Bool). cond x (entry m command reply ∷ []) []) is
 turn_of n m b is (Ask command) NotAllowed = none_of n b
 turn_of n m b is (Ask command) (Begun services slots) = none_of n b
@@ -83,7 +87,8 @@ turn_of n m b is (Tell event tick) (NotBegun fault) = none_of n b
 turn_of n m b is (Tell event tick) (Acted actions replies given) = all_of n m b is actions replies
 turn_of n m b is (Tell event tick) (Refused fault) = none_of n b
 
-kept_of : (b : Bool) (e : Entry RsCommand RsReply) (es : List (Entry RsCommand RsReply)) → cond b (store_turn e) [] ++ store_entries es ≡ store_entries (cond b (e ∷ es) es)
+kept_of : (b : Bool) (e : Entry RsCommand RsReply) (es : List (Entry RsCommand RsReply)) →
+    cond b (store_turn e) [] ++ store_entries es ≡ store_entries (cond b (e ∷ es) es)
 kept_of true e es = refl
 kept_of false e es = refl
 

@@ -1,5 +1,6 @@
 -- What a desk's calls say of a pass by plain values.
-use Rattle.std.proofs.Common.{◌≡◌, ℕ, ◌+◌, true, List, [], ◌∷◌, ◌++◌, length, Option, Some, None, refl, ap, sym, ◌∙◌, subst, inr, arith, append-nil, append_assoc, length-append}
+use Rattle.std.proofs.Common.{◌≡◌, ℕ, ◌+◌, true, List, [], ◌∷◌, ◌++◌, length, Option, Some, None, refl, ap, sym, ◌∙◌, subst, inr, arith}
+use Rattle.std.proofs.Common.{append-nil, append_assoc, length-append}
 use Rattle.std.proofs.lemmas.List.{length-map, map-append}
 use Rattle.std.specs.List.{flat_map}
 use Rattle.std.specs.Prelude.{is_some}
@@ -22,7 +23,8 @@ use Rattle.ds_store.specs.Turns.{Turn}
 use Rattle.ds_store.proofs.TurnLemmas.{turns_answer, turns_run}
 use Rattle.desk_store.specs.Called.{FoundWorn, Made, MadeCall}
 use Rattle.desk_store.specs.Later.{SeesMoreByCalls, SeesMoreByLooks, SeesMoreByNotes}
-use Rattle.desk_store.specs.Record.{Boxed, HasJustItsCalls, HasLegalHistory, IsInTurns, boxed_content, is_content, pass_origin, pass_record, place_after, turn_by_turn}
+use Rattle.desk_store.specs.Record.{Boxed, HasJustItsCalls, HasLegalHistory, IsInTurns, boxed_content, is_content, pass_origin, pass_record}
+use Rattle.desk_store.specs.Record.{place_after, turn_by_turn}
 
 -- ---- a turn for each entry
 turns_both : (xs ys : List (Entry Command Reply)) → turn_by_turn (xs ++ ys) ≡ turn_by_turn xs ++ turn_by_turn ys
@@ -36,7 +38,8 @@ turns_join [] = refl
 turns_join (e ∷ es) = ap (λ (l : List (Entry Command Reply)). e ∷ l) (turns_join es)
 
 -- the first of some turns was one of a content that stood for some state
-pub first_stood : (es : List (Entry Command Reply)) (e : Entry Command Reply) (old new : ContentRecord) → Run Turn old (es ++ e ∷ []) new → (s : State) × ContentStands old s
+pub first_stood : (es : List (Entry Command Reply)) (e : Entry Command Reply) (old new : ContentRecord) → Run Turn old (es ++ e ∷ []) new →
+    (s : State) × ContentStands old s
 first_stood [] e old new run = run.1.stood
 first_stood (x ∷ es) e old new run = run.1.stood
 
@@ -70,7 +73,8 @@ module _ {Z : Type 0} {G : Ghosts (View (Boxed Z) Command Reply)} (p q : Pass (B
     just = inr (subst (λ (n : ℕ). calls_by n (history q) ≡ calls q) (sym s.same.same_number) s.own);
   }
 
-  pub found_worn : (fault : DeskFault) → SameNotes p q → FindsNoPlace is_content Turn fault p q → FoundWorn (pass_record p) (pass_record q) fault
+  pub found_worn : (fault : DeskFault) → SameNotes p q → FindsNoPlace is_content Turn fault p q →
+      FoundWorn (pass_record p) (pass_record q) fault
   found_worn fault notes f = record { fault_is = f.0; made = sees_made f.1 notes; full = after_is q ∙ f.3 }
 
   -- ---- it called
@@ -120,7 +124,9 @@ module _ {Z : Type 0} {G : Ghosts (View (Boxed Z) Command Reply)} (p q : Pass (B
       ends = c.ends;
       turned = turn_by_turn c.between;
       turns_end = turns_end;
-      at = c.at ∙ ap (λ (n : ℕ). first_place p + n) (sym (turns_many (history p ++ c.between)) ∙ ap (λ (l : List (List (Entry Command Reply))). length l) (turns_both (history p) c.between));
+      at = c.at ∙ ap (λ (n : ℕ). first_place p + n)
+          (sym (turns_many (history p ++ c.between)) ∙
+          ap (λ (l : List (List (Entry Command Reply))). length l) (turns_both (history p) c.between));
       legal = legal_from (opening p) refl some;
     }
 
@@ -140,11 +146,16 @@ module _ {Z : Type 0} {G : Ghosts (View (Boxed Z) Command Reply)} (p : Pass (Box
   pub sees_by_calls : SeesMoreByCalls p
   sees_by_calls q command reply place c = record {
     same_opening = same_opened p q c.same.same_opening;
-    begins = (c.between ++ entry (number p) command reply ∷ [], sym (append_assoc (history p) c.between (entry (number p) command reply ∷ [])) ∙ sym c.ends);
+    begins = (
+      c.between ++ entry (number p) command reply ∷ [],
+      sym (append_assoc (history p) c.between (entry (number p) command reply ∷ [])) ∙
+          sym c.ends,
+    );
   }
 
   pub sees_by_looks : SeesMoreByLooks p
   sees_by_looks q s = record { same_opening = same_opened p q s.same.same_opening; begins = s.begins }
 
   pub sees_by_notes : SeesMoreByNotes p
-  sees_by_notes q k = record { same_opening = same_opened p q k.same.same_opening; begins = ([], append-nil (history p) ∙ sym k.same_history) }
+  sees_by_notes q k =
+      record { same_opening = same_opened p q k.same.same_opening; begins = ([], append-nil (history p) ∙ sym k.same_history) }

@@ -1,12 +1,14 @@
 -- What was shown to a subscription, and what is still to come.
-use Rattle.std.proofs.Common.{◌≡◌, ℕ, zero, suc, ◌<◌, Bool, true, false, not, ◌&&◌, List, [], ◌∷◌, ◌++◌, length, take, Contains, refl, ap, sym, ◌∙◌, subst, inl, inr, ◌⊎◌, arith}
+use Rattle.std.proofs.Common.{◌≡◌, ℕ, zero, suc, ◌<◌, Bool, true, false, not, ◌&&◌, List, [], ◌∷◌, ◌++◌, length, take, Contains, refl, ap}
+use Rattle.std.proofs.Common.{sym, ◌∙◌, subst, inl, inr, ◌⊎◌, arith}
 use Rattle.std.specs.List.{list_any}
 use Rattle.std.proofs.lemmas.List.Elements.{Contains-append_left}
 use Rattle.ds_entry.specs.Item.{passes}
 use Rattle.ds_entry.specs.ItemCovers.{covers}
 use Rattle.ds_entry.specs.Under.{under}
 use Rattle.ds_entry.specs.declared.item.Item.{Item}
-use Rattle.ds_entry.proofs.Members.{Contains-nil, Contains-cons, Contains-filter, Contains-from_filter, Contains-from_list_any, list_any-from_Contains}
+use Rattle.ds_entry.proofs.Members.{Contains-nil, Contains-cons, Contains-filter, Contains-from_filter, Contains-from_list_any}
+use Rattle.ds_entry.proofs.Members.{list_any-from_Contains}
 use Rattle.ds_join.specs.ItemTop.{IsPartOf}
 use Rattle.ds_pattern.specs.declared.query.Query.{Query}
 use Rattle.ds_pattern.specs.Under.{is_under}
@@ -25,9 +27,11 @@ shown_for query shown i u e =
     negated false e = absurd (cc)
 
 -- and what is covered by what was shown isn't unseen
-pub no_more_unseen : (query : Query) (shown : List Item) (i j : Item) → Contains shown j → covers j i ≡ true → is_unseen query shown i ≡ false
+pub no_more_unseen : (query : Query) (shown : List Item) (i j : Item) → Contains shown j → covers j i ≡ true →
+    is_unseen query shown i ≡ false
 no_more_unseen query shown i j h q =
-    ap (λ b. passes (is_under query) i && not b) (list_any-from_Contains (λ (x : Item). covers x i) shown j h q) ∙ and_false (passes (is_under query) i)
+    ap (λ b. passes (is_under query) i && not b) (list_any-from_Contains (λ (x : Item). covers x i) shown j h q) ∙
+    and_false (passes (is_under query) i)
   where
     and_false : (b : Bool) → b && false ≡ false
     and_false true = refl
@@ -40,10 +44,12 @@ few_are_all (suc n) [] l = refl
 few_are_all (suc n) (x ∷ xs) l = ap (λ (ys : List Item). x ∷ ys) (few_are_all n xs (omega (arith, l)))
 
 -- what came before news covers none of it
-pub none_covers_news : (accepted news : List Item) → AreNews accepted news → (i j : Item) → Contains news i → Contains accepted j → covers j i ≡ true → ⊥
+pub none_covers_news : (accepted news : List Item) → AreNews accepted news → (i j : Item) → Contains news i → Contains accepted j →
+    covers j i ≡ true → ⊥
 none_covers_news accepted [] a i j h k q = Contains-nil i h
 none_covers_news accepted (x ∷ news) a i j h k q =
-    by_place (Contains-cons x news i h) (λ m. none_covers_news (accepted ++ x ∷ []) news a.1 i j m (Contains-append_left accepted (x ∷ []) j k) q)
+    by_place (Contains-cons x news i h) (λ m.
+    none_covers_news (accepted ++ x ∷ []) news a.1 i j m (Contains-append_left accepted (x ∷ []) j k) q)
   where
     by_place : (i ≡ x) ⊎ Contains news i → (Contains news i → ⊥) → ⊥
     by_place (inl e) later = let no : false ≡ true = sym (a.0.newer j k) ∙ subst (λ (y : Item). covers j y ≡ true) e q in absurd (cc)

@@ -31,17 +31,20 @@ use Rattle.ds_reader.specs.Asked.{subscribe_anew}
 use Rattle.desk_store.specs.KeepsUp.{StandsForFront}
 
 module _ (p q : PassRecord) (sub : ℕ) (query : Query) where
-  stands_now : (stamp : ℕ) (map : List Item) → AfterEach q q.history (λ t. FollowsStore t sub query stamp map) → StandsForFront q sub query stamp map
+  stands_now : (stamp : ℕ) (map : List Item) → AfterEach q q.history (λ t. FollowsStore t sub query stamp map) →
+      StandsForFront q sub query stamp map
   stands_now stamp map f = record { front = q.history; begins = prefix_refl q.history; follows = f }
 
   -- a Subscribe: the empty map follows
-  pub subscribed_stands : (stamp owed place : ℕ) → MadeCall p q (subscribe_anew sub query) (Subscribed stamp owed) place → StandsForFront q sub query stamp []
+  pub subscribed_stands : (stamp owed place : ℕ) → MadeCall p q (subscribe_anew sub query) (Subscribed stamp owed) place →
+      StandsForFront q sub query stamp []
   subscribed_stands stamp owed place c = stands_now stamp [] (λ content opened s t at run.
       (let last = call_last p q (subscribe_anew sub query) (Subscribed stamp owed) place c s t run in
       follows_first last.0 t sub query stamp owed (stays_reached (p.history ++ c.between) s last.0 at.reached last.1) last.2.step))
 
   -- a Check that returned the follower's own stamp, when the map followed
-  module _ (stamp after place : ℕ) (items old : List Item) (k : StandsForFront p sub query stamp old) (c : MadeCall p q (Check sub most_items) (Checked items stamp after) place) where
+  module _ (stamp after place : ℕ) (items old : List Item) (k : StandsForFront p sub query stamp old)
+      (c : MadeCall p q (Check sub most_items) (Checked items stamp after) place) where
     -- the state in which the Check was answered, in which the map followed
     pub record CheckedIn (t : State) : Type 0 where
       pub mid : State

@@ -1,5 +1,6 @@
 -- That all pages of a store that nobody changes tell all that it holds, and what Merges add to a store.
-use Rattle.std.proofs.Common.{◌≡◌, ℕ, ◌-◌, ◌≤◌, true, false, List, [], ◌∷◌, ◌++◌, length, take, Contains, Option, None, refl, ap, sym, ◌∙◌, subst, inl, inr, arith, append-nil}
+use Rattle.std.proofs.Common.{◌≡◌, ℕ, ◌-◌, ◌≤◌, true, false, List, [], ◌∷◌, ◌++◌, length, take, Contains, Option, None, refl, ap, sym, ◌∙◌}
+use Rattle.std.proofs.Common.{subst, inl, inr, arith, append-nil}
 use Rattle.std.specs.List.{AllByRecursion}
 use Rattle.std.specs.Option.{unwrap_or}
 use Rattle.std.proofs.lemmas.List.{take_all}
@@ -51,7 +52,8 @@ use Rattle.desk_store.proofs.GivingLemmas.{given_both}
 use Rattle.desk_store.proofs.PageLemmas.{told_both, told_once}
 
 -- ---- pages up to the last
-split_pages : (after : Option Key) (front : List (Entry Command Reply)) (last : Entry Command Reply) → AsksPages after (front ++ last ∷ []) →
+split_pages : (after : Option Key) (front : List (Entry Command Reply)) (last : Entry Command Reply) →
+    AsksPages after (front ++ last ∷ []) →
     (next : Option Key) × AsksOpenPages after front next × (last.command ≡ page_asked next)
 split_pages after [] last a = (after, refl, a.0)
 split_pages after (x ∷ front) last a = elim a.1 [
@@ -101,9 +103,11 @@ module _ (paged_says : PagedSays) (s : State) (r : IsReached s) where
     at_most : position_after p turns ≤ next_position s
     first : (c : Cursor) → c ≡ cursor s → unwrap_or (first_cursor turns) c ≡ cursor s
 
-  open_turns : (own : List (Entry Command Reply)) (t : State) (after next : Option Key) (p : ℕ) → Run Answered s own t → AsksOpenPages after own next → p ≤ next_position s → OpenTurns after own next p t
+  open_turns : (own : List (Entry Command Reply)) (t : State) (after next : Option Key) (p : ℕ) → Run Answered s own t →
+      AsksOpenPages after own next → p ≤ next_position s → OpenTurns after own next p t
   unfolding turn is_turn
-  open_turns [] t after next p run a few = record { turns = []; same = sym run; are = tt; key = sym a; items = refl; at_most = few; first = λ c e. e }
+  open_turns [] t after next p run a few = record
+      { turns = []; same = sym run; are = tt; key = sym a; items = refl; at_most = few; first = λ c e. e }
   open_turns (e ∷ own) t after next p run a few =
       let page = a.1.0 in
       let u = run.0 in
@@ -123,12 +127,14 @@ module _ (paged_says : PagedSays) (s : State) (r : IsReached s) where
       }
 
   -- what the store knows is covered by whole items
-  whole_covers : (items : List Item) (at : ℕ) → at ≡ position s.feed → IsWhole s.feed all_keys (given s.feed.accepted items) at → CoversAll items s.feed.accepted
+  whole_covers : (items : List Item) (at : ℕ) → at ≡ position s.feed → IsWhole s.feed all_keys (given s.feed.accepted items) at →
+      CoversAll items s.feed.accepted
   whole_covers items at is whole i h =
       let known = s.feed.accepted in
       let count : at - s.feed.first ≡ length known = omega (arith, is) in
       let all : before s.feed at ≡ known = ap (λ (n : ℕ). take n known) count ∙ take_all (length known) known (omega arith) in
-      let every : under all_keys (before s.feed at) ≡ known = ap (λ (l : List Item). under all_keys l) all ∙ under-all all_keys known (λ j k. kept_all j) in
+      let every : under all_keys (before s.feed at) ≡ known =
+      ap (λ (l : List Item). under all_keys l) all ∙ under-all all_keys known (λ j k. kept_all j) in
       let sent = from_stood (given known items) i (whole i (subst (λ (l : List Item). Contains l i) (sym every) h)) in
       let j = Contains-from_map (sent_by known) items sent.0 sent.1 in
       let from = Contains-from_filter (covers j.0) known i (subst (λ (x : Sent). Contains x.stands_for i) (sym j.2) sent.2) in
@@ -138,7 +144,8 @@ module _ (paged_says : PagedSays) (s : State) (r : IsReached s) where
       kept_all (Changed c) = refl
       kept_all (Floored f) = refl
 
-  pub pages_tell : (front : List (Entry Command Reply)) (last : Entry Command Reply) (page : Leaf) (t : State) → AsksPages None (front ++ last ∷ []) → last.reply ≡ Paged page → page.last ≡ true →
+  pub pages_tell : (front : List (Entry Command Reply)) (last : Entry Command Reply) (page : Leaf) (t : State) →
+      AsksPages None (front ++ last ∷ []) → last.reply ≡ Paged page → page.last ≡ true →
       Run Answered s (front ++ last ∷ []) t → TellsStore s (front ++ last ∷ []) t
   unfolding turn is_turn
   pages_tell front last page t asks reply ends run =
@@ -148,35 +155,47 @@ module _ (paged_says : PagedSays) (s : State) (r : IsReached s) where
       let f = s.feed in
       let known = f.accepted in
       let step : Step s (page_asked parts.0) (Paged page) t =
-      subst (λ (c : Command). Step s c (Paged page) t) parts.2 (subst (λ (x : Reply). Step s last.command x t) reply (subst (λ (x : State). Step x last.command last.reply t) o.same cut.2.step)) in
+      subst (λ (c : Command). Step s c (Paged page) t) parts.2
+      (subst (λ (x : Reply). Step s last.command x t) reply (subst (λ (x : State). Step x last.command last.reply t) o.same cut.2.step)) in
       let one = turn parts.0 page t step in
-      let is : IsPageTurn f all_keys (key_after None o.turns) one = subst (λ (k : Option Key). IsPageTurn f all_keys k one) (sym o.key) (is_turn parts.0 page t step) in
+      let is : IsPageTurn f all_keys (key_after None o.turns) one =
+      subst (λ (k : Option Key). IsPageTurn f all_keys k one) (sym o.key) (is_turn parts.0 page t step) in
       let at : page.cursor ≡ cursor s = cursor_is parts.0 page t step in
       let place : page.cursor.position ≡ position f = ap (λ (c : Cursor). c.position) at in
       let from = unwrap_or (first_cursor o.turns) page.cursor in
       let end : from.position ≡ position f = ap (λ (c : Cursor). c.position) (o.first page.cursor at) in
-      let whole = paged_is_whole f all_keys all_keys all_keys o.turns one [] (λ key e. e) (λ key e. e) o.are is (omega (arith, o.at_most, place)) ends tt (omega (arith, place, end)) in
+      let whole = paged_is_whole f all_keys all_keys all_keys o.turns one [] (λ key e. e) (λ key e. e) o.are is
+      (omega (arith, o.at_most, place)) ends tt (omega (arith, place, end)) in
       let told : paged o.turns ++ (page.items ++ []) ≡ all_told (front ++ last ∷ []) =
-      ap (λ (l : List Item). l ++ (page.items ++ [])) o.items ∙ ap (λ (l : List Item). all_told front ++ l) (append-nil page.items ∙ sym (told_once last (Paged page) reply)) ∙ sym (told_both front (last ∷ [])) in
+      ap (λ (l : List Item). l ++ (page.items ++ [])) o.items ∙
+      ap (λ (l : List Item). all_told front ++ l) (append-nil page.items ∙ sym (told_once last (Paged page) reply)) ∙
+      sym (told_both front (last ∷ [])) in
       record {
         same = unchanged parts.0 page t step;
-        covers_all = subst (λ (l : List Item). CoversAll l known) told (whole_covers (paged o.turns ++ (page.items ++ [])) from.position end whole);
+        covers_all = subst (λ (l : List Item). CoversAll l known) told
+            (whole_covers (paged o.turns ++ (page.items ++ [])) from.position end whole);
         part = subst (λ (l : List Item). IsPartOf l known) told
             (part_union (paged o.turns) (page.items ++ []) known (pages_grow.among f all_keys None 0 o.turns o.are)
-            (subst (λ (l : List Item). IsPartOf l known) (sym (append-nil page.items)) (pages_grow.turn_among f all_keys (key_after None o.turns) one is)));
+            (subst (λ (l : List Item). IsPartOf l known) (sym (append-nil page.items))
+            (pages_grow.turn_among f all_keys (key_after None o.turns) one is)));
       }
 
 -- ---- Merges add their items, and nothing else
-merge_adds : (s u : State) (e : Entry Command Reply) → IsReached s → IsWholeMerge e → Step s e.command e.reply u → IsPartOf u.feed.accepted (s.feed.accepted ++ all_given (e ∷ []))
+merge_adds : (s u : State) (e : Entry Command Reply) → IsReached s → IsWholeMerge e → Step s e.command e.reply u →
+    IsPartOf u.feed.accepted (s.feed.accepted ++ all_given (e ∷ []))
 merge_adds s u e r whole step i h =
     let part = whole.0.part in
     let m = whole.1 in
     let asked : Step s (Merge part) (Merged m.done m.taken m.stale m.owed) u =
-    subst (λ (c : Command). Step s c (Merged m.done m.taken m.stale m.owed) u) whole.0.command (subst (λ (x : Reply). Step s e.command x u) m.reply step) in
-    let given_is : all_given (e ∷ []) ≡ part = ap (λ (c : Command). all_given (record e { command = c } ∷ [])) whole.0.command ∙ append-nil part in
-    subst (λ (l : List Item). Contains (s.feed.accepted ++ l) i) (sym given_is) (by_effect part (step_has_effect s u (Merge part) (Merged m.done m.taken m.stale m.owed) r asked))
+    subst (λ (c : Command). Step s c (Merged m.done m.taken m.stale m.owed) u) whole.0.command
+    (subst (λ (x : Reply). Step s e.command x u) m.reply step) in
+    let given_is : all_given (e ∷ []) ≡ part =
+    ap (λ (c : Command). all_given (record e { command = c } ∷ [])) whole.0.command ∙ append-nil part in
+    subst (λ (l : List Item). Contains (s.feed.accepted ++ l) i) (sym given_is)
+    (by_effect part (step_has_effect s u (Merge part) (Merged m.done m.taken m.stale m.owed) r asked))
   where
-    by_effect : (part : List Item) → Effect s (Merge part) (Merged whole.1.done whole.1.taken whole.1.stale whole.1.owed) u → Contains (s.feed.accepted ++ part) i
+    by_effect : (part : List Item) → Effect s (Merge part) (Merged whole.1.done whole.1.taken whole.1.stale whole.1.owed) u →
+        Contains (s.feed.accepted ++ part) i
     by_effect part (inl g) =
         elim (Contains-append_cases s.feed.accepted g.items i (subst (λ (x : State). Contains x.feed.accepted i) g.state_is h)) [
           | inl old ↦ Contains-append_left s.feed.accepted part i old
@@ -184,7 +203,8 @@ merge_adds s u e r whole step i h =
         ]
     by_effect part (inr v) = absurd (let no : false ≡ true = v.used in cc)
 
-pub merges_add : (es : List (Entry Command Reply)) (s t : State) → IsReached s → AllByRecursion IsWholeMerge es → Run Answered s es t → IsPartOf t.feed.accepted (s.feed.accepted ++ all_given es)
+pub merges_add : (es : List (Entry Command Reply)) (s t : State) → IsReached s → AllByRecursion IsWholeMerge es → Run Answered s es t →
+    IsPartOf t.feed.accepted (s.feed.accepted ++ all_given es)
 merges_add [] s t r all run i h = Contains-append_left s.feed.accepted [] i (subst (λ (x : State). Contains x.feed.accepted i) (sym run) h)
 merges_add (e ∷ es) s t r all run i h =
     let u = run.0 in
@@ -194,7 +214,10 @@ merges_add (e ∷ es) s t r all run i h =
       | inl old ↦
           elim (Contains-append_cases s.feed.accepted (all_given one) i (merge_adds s u e r all.0 run.1.step i old)) [
             | inl older ↦ Contains-append_left s.feed.accepted (all_given (e ∷ es)) i older
-            | inr now ↦ Contains-append_right s.feed.accepted (all_given (e ∷ es)) i (subst (λ (l : List Item). Contains l i) (sym (given_both one es)) (Contains-append_left (all_given one) (all_given es) i now))
+            | inr now ↦ Contains-append_right s.feed.accepted (all_given (e ∷ es)) i
+                (subst (λ (l : List Item). Contains l i) (sym (given_both one es))
+                (Contains-append_left (all_given one) (all_given es) i now))
           ]
-      | inr new ↦ Contains-append_right s.feed.accepted (all_given (e ∷ es)) i (subst (λ (l : List Item). Contains l i) (sym (given_both one es)) (Contains-append_right (all_given one) (all_given es) i new))
+      | inr new ↦ Contains-append_right s.feed.accepted (all_given (e ∷ es)) i
+          (subst (λ (l : List Item). Contains l i) (sym (given_both one es)) (Contains-append_right (all_given one) (all_given es) i new))
     ]

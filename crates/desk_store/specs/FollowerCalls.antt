@@ -14,6 +14,11 @@ use Rattle.ds_reader.specs.Asked.{subscribe_anew}
 abbrev pub IsOfFollower : ℕ → Query → Command → Type 0
 IsOfFollower sub query command = (command ≡ subscribe_anew sub query) ⊎ (command ≡ Check sub most_items)
 
+-- The follower's next command, by its last stamp: one that is new or lost subscribes, any other one checks.
+abbrev pub follower_command : ℕ → Query → Option ℕ → Command
+follower_command sub query None = subscribe_anew sub query
+follower_command sub query (Some stamp) = Check sub most_items
+
 -- Whether the call is a Subscribe of the follower that returned this stamp.
 pub record Subscribes (sub : ℕ) (query : Query) (e : Entry Command Reply) (stamp : ℕ) : Type 0 where
   pub owed : ℕ

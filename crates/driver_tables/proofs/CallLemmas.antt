@@ -61,27 +61,62 @@ never_wants t endpoint id = none_wants t id (is_requested (pending t) id) (is_sa
 -- ---- calls
 
 module _ (old new : TableRecord) (t : DriverTable) (stands : TableStands old t) where
-  pub assign_step : (unit : ℕ) (driver : Driver) (answer : Result (Unit {0}) TableFault) → AnswersAs old (λ s. assigning s unit driver) answer → LeavesAs old (λ s. assigning s unit driver) answer new → OnErr answer (new ≡ old)
+  pub assign_step : (unit : ℕ) (driver : Driver) (answer : Result (Unit {0}) TableFault) →
+      AnswersAs old (λ s. assigning s unit driver) answer → LeavesAs old (λ s. assigning s unit driver) answer new →
+      OnErr answer (new ≡ old)
       → (u : DriverTable) × TableStep t (Assign unit driver) (no_moves answer) u × TableStands new u
-  assign_step unit driver (Ok done) answers leaves same =
-      ((assigning t unit driver).1, record { answer_is = no_answer (assigning t unit driver).0 (Ok done) (answers t stands); after = refl; unchanged = tt }, leaves t stands)
-  assign_step unit driver (Err fault) answers leaves same =
-      (t, record { answer_is = no_answer (assigning t unit driver).0 (Err fault) (answers t stands); after = tt; unchanged = refl }, subst (λ (v : TableRecord). TableStands v t) (sym same) stands)
+  assign_step unit driver (Ok done) answers leaves same = (
+    (assigning t unit driver).1,
+    record {
+      answer_is = no_answer (assigning t unit driver).0 (Ok done) (answers t stands);
+      after =
+          refl;
+      unchanged = tt;
+    },
+    leaves t stands,
+  )
+  assign_step unit driver (Err fault) answers leaves same = (
+    t,
+    record { answer_is = no_answer (assigning t unit driver).0 (Err fault) (answers t stands); after = tt; unchanged = refl },
+    subst
+        (λ (v : TableRecord). TableStands v t) (sym same) stands,
+  )
 
-  pub submit_step : (id unit : ℕ) (answer : Result Move TableFault) → AnswersAs old (λ s. submitting s id unit) answer → LeavesAs old (λ s. submitting s id unit) answer new → OnErr answer (new ≡ old)
+  pub submit_step : (id unit : ℕ) (answer : Result Move TableFault) → AnswersAs old (λ s. submitting s id unit) answer →
+      LeavesAs old (λ s. submitting s id unit) answer new → OnErr answer (new ≡ old)
       → (u : DriverTable) × TableStep t (Submit id unit) (one_move answer) u × TableStands new u
-  submit_step id unit (Ok step) answers leaves same =
-      ((submitting t id unit).1, record { answer_is = one_answer (submitting t id unit).0 (Ok step) (answers t stands); after = refl; unchanged = tt }, leaves t stands)
-  submit_step id unit (Err fault) answers leaves same =
-      (t, record { answer_is = one_answer (submitting t id unit).0 (Err fault) (answers t stands); after = tt; unchanged = refl }, subst (λ (v : TableRecord). TableStands v t) (sym same) stands)
+  submit_step id unit (Ok step) answers leaves same = (
+    (submitting t id unit).1,
+    record {
+      answer_is = one_answer (submitting t id unit).0 (Ok step) (answers t stands);
+      after =
+          refl;
+      unchanged = tt;
+    },
+    leaves t stands,
+  )
+  submit_step id unit (Err fault) answers leaves same = (
+    t,
+    record { answer_is = one_answer (submitting t id unit).0 (Err fault) (answers t stands); after = tt; unchanged = refl },
+    subst
+        (λ (v : TableRecord). TableStands v t) (sym same) stands,
+  )
 
   pub reply_step : (endpoint : EndpointRecord) (id : ℕ) (answer : Result Move TableFault)
       → ((s : DriverTable) → TableStands old s → answer ≡ (replying s endpoint id).0)
       → LeavesAs old (λ s. replying s endpoint id) answer new
       → OnErr answer (new ≡ old)
       → (u : DriverTable) × TableStep t (Reply endpoint id) (one_move answer) u × TableStands new u
-  reply_step endpoint id (Ok step) answers leaves same =
-      ((replying t endpoint id).1, record { answer_is = one_answer (replying t endpoint id).0 (Ok step) (answers t stands); after = refl; unchanged = tt }, leaves t stands)
+  reply_step endpoint id (Ok step) answers leaves same = (
+    (replying t endpoint id).1,
+    record {
+      answer_is = one_answer (replying t endpoint id).0 (Ok step) (answers t stands);
+      after =
+          refl;
+      unchanged = tt;
+    },
+    leaves t stands,
+  )
   reply_step endpoint id (Err fault) answers leaves same = (
     t,
     record {

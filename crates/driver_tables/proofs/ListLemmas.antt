@@ -1,5 +1,6 @@
 -- Lists that a loop walks, and look-ups in longer lists.
-use Rattle.std.proofs.Common.{◌≡◌, ◌≢◌, ℕ, ◌+◌, Bool, true, false, cond, List, [], ◌∷◌, ◌++◌, length, drop, take, map, Option, Some, None, zero, suc, refl, sym, ap, ◌∙◌, subst, arith}
+use Rattle.std.proofs.Common.{◌≡◌, ◌≢◌, ℕ, ◌+◌, Bool, true, false, cond, List, [], ◌∷◌, ◌++◌, length, drop, take, map, Option, Some, None}
+use Rattle.std.proofs.Common.{zero, suc, refl, sym, ap, ◌∙◌, subst, arith}
 use Rattle.std.specs.List.{slice_get, filter_map, cons_option, find, retain_mut, last_or}
 use Rattle.std.specs.List.Retain.{RetainsInTurn}
 use Rattle.std.specs.Map.{lookup}
@@ -32,9 +33,11 @@ half_next f (suc i) (y ∷ ys) x e h =
     let n : suc i + 1 ≡ suc (i + 1) = omega arith in
     ap (λ (l : List _). f y ∷ l) (half_next f i ys x e h) ∙ sym (ap (λ (k : ℕ). half f k (y ∷ ys)) n)
 
-pub half_set : {K V : Type 0} (f : K × V → K × V) (i : ℕ) (xs : List (K × V)) (k : K) (v w : V) → slice_get xs i ≡ Some (k, v) → f (k, v) ≡ (k, w) → set_value_at (half f i xs) i w ≡ half f (i + 1) xs
+pub half_set : {K V : Type 0} (f : K × V → K × V) (i : ℕ) (xs : List (K × V)) (k : K) (v w : V) → slice_get xs i ≡ Some (k, v) →
+    f (k, v) ≡ (k, w) → set_value_at (half f i xs) i w ≡ half f (i + 1) xs
 half_set f i [] k v w e h = cc
-half_set {K} {V} f zero (y ∷ ys) k v w e h = let q : y ≡ (k, v) = cc in ap (λ (z : K × V). (z.0, w) ∷ ys) q ∙ sym (ap (λ (z : K × V). f z ∷ ys) q ∙ ap (λ z. z ∷ ys) h)
+half_set {K} {V} f zero (y ∷ ys) k v w e h = let q : y ≡ (k, v) = cc in
+    ap (λ (z : K × V). (z.0, w) ∷ ys) q ∙ sym (ap (λ (z : K × V). f z ∷ ys) q ∙ ap (λ z. z ∷ ys) h)
 half_set f (suc i) (y ∷ ys) k v w e h =
     let n : suc i + 1 ≡ suc (i + 1) = omega arith in
     ap (λ (l : List _). f y ∷ l) (half_set f i ys k v w e h) ∙ sym (ap (λ (k : ℕ). half f k (y ∷ ys)) n)
@@ -49,7 +52,8 @@ length-half f (suc i) [] = refl
 length-half f (suc i) (x ∷ xs) = ap suc (length-half f i xs)
 
 -- one more element of the list is walked
-pub filter_map_more : {X Y : Type 0} (h : X → Option Y) (xs : List X) (i : ℕ) (x : X) → slice_get xs i ≡ Some x → filter_map h (take (i + 1) xs) ≡ filter_map h (take i xs) ++ option_to_list (h x)
+pub filter_map_more : {X Y : Type 0} (h : X → Option Y) (xs : List X) (i : ℕ) (x : X) → slice_get xs i ≡ Some x →
+    filter_map h (take (i + 1) xs) ≡ filter_map h (take i xs) ++ option_to_list (h x)
 filter_map_more h [] i x e = cc
 filter_map_more h (y ∷ ys) zero x e = let k : y ≡ x = cc in ap (λ z. filter_map h (z ∷ [])) k ∙ one h x
   where
@@ -57,18 +61,23 @@ filter_map_more h (y ∷ ys) zero x e = let k : y ≡ x = cc in ap (λ z. filter
     one h x = elim (h x) as (λ o. cons_option o [] ≡ [] ++ option_to_list o) [ None ↦ refl | Some y ↦ refl ]
 filter_map_more h (y ∷ ys) (suc i) x e =
     let n : suc i + 1 ≡ suc (i + 1) = omega arith in
-    ap (λ (k : ℕ). filter_map h (take k (y ∷ ys))) n ∙ (ap (cons_option (h y)) (filter_map_more h ys i x e) ∙ onto (h y) (filter_map h (take i ys)) (option_to_list (h x)))
+    ap (λ (k : ℕ). filter_map h (take k (y ∷ ys))) n ∙
+    (ap (cons_option (h y)) (filter_map_more h ys i x e) ∙ onto (h y) (filter_map h (take i ys)) (option_to_list (h x)))
   where
     onto : {Y : Type 0} (o : Option Y) (ys zs : List Y) → cons_option o (ys ++ zs) ≡ cons_option o ys ++ zs
     onto None ys zs = refl
     onto (Some y) ys zs = refl
 
 -- a search that finds the element at an index returns it; otherwise it searches the rest
-pub find_here : {X : Type 0} (p : X → Bool) (xs : List X) (i : ℕ) (x : X) → slice_get xs i ≡ Some x → find p (drop i xs) ≡ find p xs → p x ≡ true → find p xs ≡ Some x
-find_here {X} p xs i x e h t = sym h ∙ (ap (find p) (drop_at_get xs i x e) ∙ ap (λ (b : Bool). cond b (Some x) (find p (drop (i + 1) xs))) t)
+pub find_here : {X : Type 0} (p : X → Bool) (xs : List X) (i : ℕ) (x : X) → slice_get xs i ≡ Some x → find p (drop i xs) ≡ find p xs →
+    p x ≡ true → find p xs ≡ Some x
+find_here {X} p xs i x e h t = sym h ∙ (ap (find p) (drop_at_get xs i x e) ∙
+    ap (λ (b : Bool). cond b (Some x) (find p (drop (i + 1) xs))) t)
 
-pub find_next : {X : Type 0} (p : X → Bool) (xs : List X) (i : ℕ) (x : X) → slice_get xs i ≡ Some x → find p (drop i xs) ≡ find p xs → p x ≡ false → find p (drop (i + 1) xs) ≡ find p xs
-find_next {X} p xs i x e h t = sym (ap (find p) (drop_at_get xs i x e) ∙ ap (λ (b : Bool). cond b (Some x) (find p (drop (i + 1) xs))) t) ∙ h
+pub find_next : {X : Type 0} (p : X → Bool) (xs : List X) (i : ℕ) (x : X) → slice_get xs i ≡ Some x → find p (drop i xs) ≡ find p xs →
+    p x ≡ false → find p (drop (i + 1) xs) ≡ find p xs
+find_next {X} p xs i x e h t = sym (ap (find p) (drop_at_get xs i x e) ∙ ap (λ (b : Bool). cond b (Some x) (find p (drop (i + 1) xs))) t) ∙
+    h
 
 -- the result of `retain_mut` with a closure that follows `test` and `change` and is itself unchanged
 pub retained : {X F : Type 0} (R : F → X → Bool → F → X → Type 0) (test : X → Bool) (change : X → X) (f : F) →
@@ -86,11 +95,13 @@ last_or-append o [] ys = refl
 last_or-append o (x ∷ xs) ys = last_or-append (Some x) xs ys
 
 -- a look-up that found something finds the same in a longer list; otherwise it searches what was added
-pub lookup_kept : {K X : Type 0} (test : K → Bool) (xs ys : List (K × X)) (x : X) → lookup test xs ≡ Some x → lookup test (xs ++ ys) ≡ Some x
+pub lookup_kept : {K X : Type 0} (test : K → Bool) (xs ys : List (K × X)) (x : X) → lookup test xs ≡ Some x →
+    lookup test (xs ++ ys) ≡ Some x
 lookup_kept test [] ys x e = cc
 lookup_kept {K} {X} test (p ∷ xs) ys x e = by (test p.0) e (lookup_kept test xs ys x)
   where
-    by : (b : Bool) → cond b (Some p.1) (lookup test xs) ≡ Some x → (lookup test xs ≡ Some x → lookup test (xs ++ ys) ≡ Some x) → cond b (Some p.1) (lookup test (xs ++ ys)) ≡ Some x
+    by : (b : Bool) → cond b (Some p.1) (lookup test xs) ≡ Some x → (lookup test xs ≡ Some x → lookup test (xs ++ ys) ≡ Some x) →
+        cond b (Some p.1) (lookup test (xs ++ ys)) ≡ Some x
     by true e rest = e
     by false e rest = rest e
 
@@ -98,12 +109,14 @@ pub lookup_added : {K X : Type 0} (test : K → Bool) (xs ys : List (K × X)) �
 lookup_added test [] ys e = refl
 lookup_added {K} {X} test (p ∷ xs) ys e = by (test p.0) e (lookup_added test xs ys)
   where
-    by : (b : Bool) → cond b (Some p.1) (lookup test xs) ≡ None → (lookup test xs ≡ None → lookup test (xs ++ ys) ≡ lookup test ys) → cond b (Some p.1) (lookup test (xs ++ ys)) ≡ lookup test ys
+    by : (b : Bool) → cond b (Some p.1) (lookup test xs) ≡ None → (lookup test xs ≡ None → lookup test (xs ++ ys) ≡ lookup test ys) →
+        cond b (Some p.1) (lookup test (xs ++ ys)) ≡ lookup test ys
     by true e rest = cc
     by false e rest = rest e
 
 -- the value of one element is in the list of all values
-pub filter_map_some : {X Y : Type 0} (h : X → Option Y) (xs : List X) (i : ℕ) (x : X) → slice_get xs i ≡ Some x → h x ≢ None → filter_map h xs ≢ []
+pub filter_map_some : {X Y : Type 0} (h : X → Option Y) (xs : List X) (i : ℕ) (x : X) → slice_get xs i ≡ Some x → h x ≢ None →
+    filter_map h xs ≢ []
 filter_map_some h [] i x e some = cc
 filter_map_some h (y ∷ ys) zero x e some = let k : y ≡ x = cc in by (h y) (filter_map h ys) (λ n. some (sym (ap h k) ∙ n))
   where

@@ -1,5 +1,6 @@
 -- The sends and answers that moves leave for each id.
-use Rattle.std.proofs.Common.{◌≡◌, ℕ, ◌==◌, Bool, true, false, cond, List, [], ◌∷◌, ◌++◌, filter, Option, Some, None, refl, sym, ap, ◌∙◌, append-nil}
+use Rattle.std.proofs.Common.{◌≡◌, ℕ, ◌==◌, Bool, true, false, cond, List, [], ◌∷◌, ◌++◌, filter, Option, Some, None, refl, sym, ap, ◌∙◌}
+use Rattle.std.proofs.Common.{append-nil}
 use Rattle.std.specs.List.{filter_map, flat_map, cons_option, AllByRecursion, IsDistinct}
 use Rattle.std.proofs.lemmas.List.Elements.{filter_map-append}
 use Rattle.ds_names.specs.Endpoint.{EndpointRecord}
@@ -91,21 +92,26 @@ abbrev pub parts : {X : Type 0} → (Option Move → List (ℕ × X)) → (Reque
 parts all ask test [] = []
 parts all ask test (r ∷ requests) = cond (test r) (all (ask r)) [] ++ parts all ask test requests
 
-pub parts_are : {X : Type 0} (by : Move → List (ℕ × X)) (all : Option Move → List (ℕ × X)) → all None ≡ [] → ((m : Move) → all (Some m) ≡ by m) → (ask : Request → Option Move) (test : Request → Bool) (requests : List Request) →
+pub parts_are : {X : Type 0} (by : Move → List (ℕ × X)) (all : Option Move → List (ℕ × X)) → all None ≡ [] →
+    ((m : Move) → all (Some m) ≡ by m) → (ask : Request → Option Move) (test : Request → Bool) (requests : List Request) →
     flat_map by (filter_map ask (filter test requests)) ≡ parts all ask test requests
 parts_are by all none some ask test [] = refl
 parts_are {X} by all none some ask test (r ∷ requests) = at (test r) (parts_are by all none some ask test requests)
   where
-    one : (m : Option Move) → flat_map by (filter_map ask (filter test requests)) ≡ parts all ask test requests → flat_map by (cons_option m (filter_map ask (filter test requests))) ≡ all m ++ parts all ask test requests
+    one : (m : Option Move) → flat_map by (filter_map ask (filter test requests)) ≡ parts all ask test requests →
+        flat_map by (cons_option m (filter_map ask (filter test requests))) ≡ all m ++ parts all ask test requests
     one None rest = rest ∙ ap (λ (l : List (ℕ × X)). l ++ parts all ask test requests) (sym none)
-    one (Some m) rest = ap (λ (l : List (ℕ × X)). by m ++ l) rest ∙ ap (λ (l : List (ℕ × X)). l ++ parts all ask test requests) (sym (some m))
+    one (Some m) rest = ap (λ (l : List (ℕ × X)). by m ++ l) rest ∙
+        ap (λ (l : List (ℕ × X)). l ++ parts all ask test requests) (sym (some m))
 
     at : (b : Bool) → flat_map by (filter_map ask (filter test requests)) ≡ parts all ask test requests →
-        flat_map by (filter_map ask (cond b (r ∷ filter test requests) (filter test requests))) ≡ cond b (all (ask r)) [] ++ parts all ask test requests
+        flat_map by (filter_map ask (cond b (r ∷ filter test requests) (filter test requests))) ≡ cond b (all (ask r)) [] ++ parts all ask
+        test requests
     at false rest = rest
     at true rest = one (ask r) rest
 
-module _ {X : Type 0} (all : Option Move → List (ℕ × X)) (values : Option Move → List X) (left : IsLeft all values) (ask : Request → Option Move) (own : (r : Request) → IsOf (ask r) r.id) (test : Request → Bool) where
+module _ {X : Type 0} (all : Option Move → List (ℕ × X)) (values : Option Move → List X) (left : IsLeft all values)
+    (ask : Request → Option Move) (own : (r : Request) → IsOf (ask r) r.id) (test : Request → Bool) where
   -- the values that one request's move leaves
   abbrev pub part : Request → List (ℕ × X)
   part r = cond (test r) (all (ask r)) []
@@ -128,24 +134,35 @@ module _ {X : Type 0} (all : Option Move → List (ℕ × X)) (values : Option M
       by false = refl
 
   -- nothing is left for an id that none of the requests has
-  pub none_left : (id : ℕ) (requests : List Request) → AllByRecursion (λ (r : Request). r.id == id ≡ false) requests → values_of id (parts all ask test requests) ≡ []
+  pub none_left : (id : ℕ) (requests : List Request) → AllByRecursion (λ (r : Request). r.id == id ≡ false) requests →
+      values_of id (parts all ask test requests) ≡ []
   none_left id [] h = refl
-  none_left id (r ∷ requests) h = values-append id (part r) (parts all ask test requests) ∙ (ap (λ (l : List X). l ++ values_of id (parts all ask test requests)) (part_other r id h.0) ∙ none_left id requests h.1)
+  none_left id (r ∷ requests) h = values-append id (part r) (parts all ask test requests) ∙
+      (ap (λ (l : List X). l ++ values_of id (parts all ask test requests)) (part_other r id h.0) ∙ none_left id requests h.1)
 
-  past : (r : Request) (rest : List (ℕ × X)) (requests : List Request) → AllByRecursion (λ (s : Request). r.id == s.id ≡ false) requests → AllByRecursion (λ (s : Request). values_of s.id rest ≡ value s) requests →
+  past : (r : Request) (rest : List (ℕ × X)) (requests : List Request) → AllByRecursion (λ (s : Request). r.id == s.id ≡ false) requests →
+      AllByRecursion (λ (s : Request). values_of s.id rest ≡ value s) requests →
       AllByRecursion (λ (s : Request). values_of s.id (part r ++ rest) ≡ value s) requests
   past r rest [] d h = tt
-  past r rest (s ∷ requests) d h = (values-append s.id (part r) rest ∙ (ap (λ (l : List X). l ++ values_of s.id rest) (part_other r s.id d.0) ∙ h.0), past r rest requests d.1 h.1)
+  past r rest (s ∷ requests) d h = (
+    values-append s.id (part r) rest ∙ (ap (λ (l : List X). l ++ values_of s.id rest) (part_other r s.id d.0) ∙ h.0),
+    past r rest
+        requests d.1 h.1,
+  )
 
-  turned : (r : Request) (requests : List Request) → AllByRecursion (λ (s : Request). r.id == s.id ≡ false) requests → AllByRecursion (λ (s : Request). s.id == r.id ≡ false) requests
+  turned : (r : Request) (requests : List Request) → AllByRecursion (λ (s : Request). r.id == s.id ≡ false) requests →
+      AllByRecursion (λ (s : Request). s.id == r.id ≡ false) requests
   turned r [] d = tt
   turned r (s ∷ requests) d = (equal_turned s.id r.id ∙ d.0, turned r requests d.1)
 
   -- each request gets its own values, if no two have the same id
-  pub each_left : (requests : List Request) → IsDistinct (λ (r s : Request). r.id == s.id) requests → AllByRecursion (λ (r : Request). values_of r.id (parts all ask test requests) ≡ value r) requests
+  pub each_left : (requests : List Request) → IsDistinct (λ (r s : Request). r.id == s.id) requests →
+      AllByRecursion (λ (r : Request). values_of r.id (parts all ask test requests) ≡ value r) requests
   unfolding IsDistinct
   each_left [] h = tt
   each_left (r ∷ requests) h = (
-    values-append r.id (part r) (parts all ask test requests) ∙ (ap (λ (l : List X). values_of r.id (part r) ++ l) (none_left r.id requests (turned r requests h.0)) ∙ (append-nil (values_of r.id (part r)) ∙ part_own r)),
+    values-append r.id (part r) (parts all ask test requests) ∙
+        (ap (λ (l : List X). values_of r.id (part r) ++ l) (none_left r.id requests (turned r requests h.0)) ∙
+        (append-nil (values_of r.id (part r)) ∙ part_own r)),
     past r (parts all ask test requests) requests h.0 (each_left requests h.1),
   )

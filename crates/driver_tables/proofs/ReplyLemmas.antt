@@ -1,5 +1,6 @@
 -- A reply leaves a valid table.
-use Rattle.std.proofs.Common.{◌≡◌, ℕ, ◌==◌, ◌||◌, Bool, true, false, not, cond, List, [], ◌∷◌, ◌++◌, filter, Option, Some, None, Result, Ok, Err, refl, sym, ap, ◌∙◌, append-nil, inr}
+use Rattle.std.proofs.Common.{◌≡◌, ℕ, ◌==◌, ◌||◌, Bool, true, false, not, cond, List, [], ◌∷◌, ◌++◌, filter, Option, Some, None, Result, Ok}
+use Rattle.std.proofs.Common.{Err, refl, sym, ap, ◌∙◌, append-nil, inr}
 use Rattle.std.specs.Option.{option_map}
 use Rattle.std.specs.List.{retain_mut, find, AllByRecursion}
 use Rattle.ds_names.specs.Endpoint.{EndpointRecord}
@@ -27,14 +28,17 @@ abbrev judged : DriverTable → ℕ → Bool → Bool → Result Move TableFault
 judged t id there same = cond there (cond same (Ok (Answer id Done), finishes t id) (Err OldEndpoint, t)) (Err NotPending, t)
 
 pub reply_missing : (v : TableRecord) (t : DriverTable) (endpoint : EndpointRecord) (id : ℕ) → TableStands v t →
-    option_map (λ (p : Pending). p.sent) (find (λ (p : Pending). p.id == id) v.pending) ≡ None → replying t endpoint id ≡ (Err NotPending, t)
+    option_map (λ (p : Pending). p.sent) (find (λ (p : Pending). p.id == id) v.pending) ≡ None →
+    replying t endpoint id ≡ (Err NotPending, t)
 reply_missing v t endpoint id s e = by (is_requested (pending t) id) (sym (sent_kept v t id s) ∙ e)
   where
-    by : (b : Bool) → cond b (Some (last_sent t.sends id)) None ≡ None → judged t id b (is_same_state (last_sent t.sends id) (Some endpoint)) ≡ (Err NotPending, t)
+    by : (b : Bool) → cond b (Some (last_sent t.sends id)) None ≡ None →
+        judged t id b (is_same_state (last_sent t.sends id) (Some endpoint)) ≡ (Err NotPending, t)
     by true h = cc
     by false h = refl
 
-pub reply_there : (v : TableRecord) (t : DriverTable) (id : ℕ) (sent : Option EndpointRecord) → TableStands v t → option_map (λ (p : Pending). p.sent) (find (λ (p : Pending). p.id == id) v.pending) ≡ Some sent →
+pub reply_there : (v : TableRecord) (t : DriverTable) (id : ℕ) (sent : Option EndpointRecord) → TableStands v t →
+    option_map (λ (p : Pending). p.sent) (find (λ (p : Pending). p.id == id) v.pending) ≡ Some sent →
     (is_requested (pending t) id ≡ true) × (last_sent t.sends id ≡ sent)
 reply_there v t id sent s e = by (is_requested (pending t) id) (sym (sent_kept v t id s) ∙ e)
   where
@@ -42,41 +46,49 @@ reply_there v t id sent s e = by (is_requested (pending t) id) (sym (sent_kept v
     by true h = let k : last_sent t.sends id ≡ sent = cc in (refl, k)
     by false h = cc
 
-pub reply_judged : (v : TableRecord) (t : DriverTable) (endpoint : EndpointRecord) (id : ℕ) (sent : Option EndpointRecord) (same : Bool) → TableStands v t →
+pub reply_judged : (v : TableRecord) (t : DriverTable) (endpoint : EndpointRecord) (id : ℕ) (sent : Option EndpointRecord) (same : Bool) →
+    TableStands v t →
     option_map (λ (p : Pending). p.sent) (find (λ (p : Pending). p.id == id) v.pending) ≡ Some sent →
     is_same_state sent (Some endpoint) ≡ same → replying t endpoint id ≡ judged t id true same
 reply_judged v t endpoint id sent same s e h =
     let k = reply_there v t id sent s e in
-    ap (λ (b : Bool). judged t id b (is_same_state (last_sent t.sends id) (Some endpoint))) k.0 ∙ (ap (λ (x : Option EndpointRecord). judged t id true (is_same_state x (Some endpoint))) k.1 ∙ ap (judged t id true) h)
+    ap (λ (b : Bool). judged t id b (is_same_state (last_sent t.sends id) (Some endpoint))) k.0 ∙
+    (ap (λ (x : Option EndpointRecord). judged t id true (is_same_state x (Some endpoint))) k.1 ∙ ap (judged t id true) h)
 
 -- ---- the table afterwards
 -- the pending request has no answer
-pub open_id : (answers : List (ℕ × Ending)) (requests : List Request) (id : ℕ) → is_requested (filter (is_pending answers) requests) id ≡ true → is_empty (values_of id answers) ≡ true
+pub open_id : (answers : List (ℕ × Ending)) (requests : List Request) (id : ℕ) →
+    is_requested (filter (is_pending answers) requests) id ≡ true → is_empty (values_of id answers) ≡ true
 open_id answers [] id e = cc
 open_id answers (r ∷ requests) id e = by (is_pending answers r) refl (r.id == id) refl e (open_id answers requests id)
   where
-    by : (b : Bool) → is_pending answers r ≡ b → (c : Bool) → r.id == id ≡ c → is_requested (cond b (r ∷ filter (is_pending answers) requests) (filter (is_pending answers) requests)) id ≡ true →
-        (is_requested (filter (is_pending answers) requests) id ≡ true → is_empty (values_of id answers) ≡ true) → is_empty (values_of id answers) ≡ true
+    by : (b : Bool) → is_pending answers r ≡ b → (c : Bool) → r.id == id ≡ c →
+        is_requested (cond b (r ∷ filter (is_pending answers) requests) (filter (is_pending answers) requests)) id ≡ true →
+        (is_requested (filter (is_pending answers) requests) id ≡ true → is_empty (values_of id answers) ≡ true) →
+        is_empty (values_of id answers) ≡ true
     by false p c q e rest = rest e
     by true p true q e rest = ap (λ (n : ℕ). is_empty (values_of n answers)) (sym (equal_number r.id id q)) ∙ p
     by true p false q e rest = rest (sym (ap (λ (b : Bool). b || is_requested (filter (is_pending answers) requests) id) q) ∙ e)
 
 -- and is among the accepted ones
-pub asked_all : (test : Request → Bool) (requests : List Request) (id : ℕ) → is_requested (filter test requests) id ≡ true → is_requested requests id ≡ true
+pub asked_all : (test : Request → Bool) (requests : List Request) (id : ℕ) → is_requested (filter test requests) id ≡ true →
+    is_requested requests id ≡ true
 asked_all test [] id e = cc
 asked_all test (r ∷ requests) id e = by (test r) (r.id == id) refl e (asked_all test requests id)
   where
     by : (b c : Bool) → r.id == id ≡ c → is_requested (cond b (r ∷ filter test requests) (filter test requests)) id ≡ true →
         (is_requested (filter test requests) id ≡ true → is_requested requests id ≡ true) → r.id == id || is_requested requests id ≡ true
     by b true q e rest = ap (λ (c : Bool). c || is_requested requests id) q
-    by true false q e rest = ap (λ (c : Bool). c || is_requested requests id) q ∙ rest (sym (ap (λ (b : Bool). b || is_requested (filter test requests) id) q) ∙ e)
+    by true false q e rest = ap (λ (c : Bool). c || is_requested requests id) q ∙
+        rest (sym (ap (λ (b : Bool). b || is_requested (filter test requests) id) q) ∙ e)
     by false false q e rest = ap (λ (c : Bool). c || is_requested requests id) q ∙ rest e
 
 -- the move of each pending request
 abbrev pub ending_for : ℕ → ℕ → Option Move
 ending_for id k = cond (k == id) (Some (Answer id Done)) None
 
-done_follows : (t : DriverTable) (id : ℕ) (r : Request) → is_empty (values_of id t.answers) ≡ true → Follows t ((id, Done) ∷ []) [] r (ending_for id r.id)
+done_follows : (t : DriverTable) (id : ℕ) (r : Request) → is_empty (values_of id t.answers) ≡ true →
+    Follows t ((id, Done) ∷ []) [] r (ending_for id r.id)
 done_follows t id r open_ = by (r.id == id) refl
   where
     neither : (b : Bool) → ◌≡◌ {A = List Ending} [] (cond b [] [])
@@ -100,14 +112,17 @@ done_follows t id r open_ = by (r.id == id) refl
       sent = nowhere (is_pending t.answers r);
     }
 
-all_follow : (t : DriverTable) (id : ℕ) (requests : List Request) → is_empty (values_of id t.answers) ≡ true → AllByRecursion (λ (r : Request). Follows t ((id, Done) ∷ []) [] r (ending_for id r.id)) requests
+all_follow : (t : DriverTable) (id : ℕ) (requests : List Request) → is_empty (values_of id t.answers) ≡ true →
+    AllByRecursion (λ (r : Request). Follows t ((id, Done) ∷ []) [] r (ending_for id r.id)) requests
 all_follow t id [] o = tt
 all_follow t id (r ∷ requests) o = (done_follows t id r o, all_follow t id requests o)
 
-served_still : (t : DriverTable) (id : ℕ) (requests : List Request) → is_empty (values_of id t.answers) ≡ true → AllByRecursion (IsRequestServed t) requests → AllByRecursion (IsRequestServed (finishes t id)) requests
+served_still : (t : DriverTable) (id : ℕ) (requests : List Request) → is_empty (values_of id t.answers) ≡ true →
+    AllByRecursion (IsRequestServed t) requests → AllByRecursion (IsRequestServed (finishes t id)) requests
 served_still t id [] o h = tt
 served_still t id (r ∷ requests) o h = (
-  served_after t (finishes t id) ((id, Done) ∷ []) [] r (ending_for id r.id) (done_follows t id r o) h.0 refl refl h.0.found (λ p. fits (r.id == id) h.0.driver.class)
+  served_after t (finishes t id) ((id, Done) ∷ []) [] r (ending_for id r.id) (done_follows t id r o) h.0 refl refl h.0.found
+      (λ p. fits (r.id == id) h.0.driver.class)
       (λ p e now silent. inr (no_target (r.id == id), now)),
   served_still t id requests o h.1,
 )
@@ -131,7 +146,9 @@ reached_finished t id h there = record {
   unasked = λ k none.
       let before = h.unasked k none in (
         ap (values_of k) (append-nil t.sends) ∙ before.0,
-        values-append k t.answers ((id, Done) ∷ []) ∙ (ap (λ (l : List Ending). l ++ values_of k ((id, Done) ∷ [])) before.1 ∙ answers_left.other (Some (Answer id Done)) id k refl (differs k none)),
+        values-append k t.answers ((id, Done) ∷ []) ∙
+            (ap (λ (l : List Ending). l ++ values_of k ((id, Done) ∷ [])) before.1 ∙
+            answers_left.other (Some (Answer id Done)) id k refl (differs k none)),
       );
   served = served_still t id t.requests (open_id t.answers t.requests id there) h.served;
 }
@@ -140,11 +157,14 @@ reached_finished t id h there = record {
     differs k none = by (id == k) refl
       where
         by : (b : Bool) → id == k ≡ b → b ≡ false
-        by true q = let here : is_requested t.requests k ≡ true = ap (is_requested t.requests) (sym (equal_number id k q)) ∙ asked_all (is_pending t.answers) t.requests id there in cc
+        by true q = let here : is_requested t.requests k ≡ true =
+            ap (is_requested t.requests) (sym (equal_number id k q)) ∙ asked_all (is_pending t.answers) t.requests id there in cc
         by false q = refl
 
 -- ---- the list of pending requests
-retained_others : (id : ℕ) (l : List Pending) → filter (λ (p : Pending). not (p.id == id)) l ≡ retain_mut (λ p. stays_pending (ending_for id p.id)) (λ p. kept_after (ending_for id p.id) p) l
+retained_others : (id : ℕ) (l : List Pending) →
+    filter (λ (p : Pending). not (p.id == id)) l ≡ retain_mut (λ p. stays_pending (ending_for id p.id))
+    (λ p. kept_after (ending_for id p.id) p) l
 retained_others id [] = refl
 retained_others id (p ∷ l) = by (p.id == id) (retained_others id l)
   where
@@ -152,17 +172,21 @@ retained_others id (p ∷ l) = by (p.id == id) (retained_others id l)
     rest = retain_mut (λ p. stays_pending (ending_for id p.id)) (λ p. kept_after (ending_for id p.id) p) l
 
     by : (c : Bool) → filter (λ (p : Pending). not (p.id == id)) l ≡ rest →
-        cond (not c) (p ∷ filter (λ (p : Pending). not (p.id == id)) l) (filter (λ (p : Pending). not (p.id == id)) l) ≡ cond (stays_pending (cond c (Some (Answer id Done)) None))
+        cond (not c) (p ∷ filter (λ (p : Pending). not (p.id == id)) l) (filter (λ (p : Pending). not (p.id == id)) l) ≡ cond
+        (stays_pending (cond c (Some (Answer id Done)) None))
         (kept_after (cond c (Some (Answer id Done)) None) p ∷ rest) rest
     by true e = e
     by false e = ap (λ (l : List Pending). p ∷ l) e
 
-pub stands_finished : (v : TableRecord) (t : DriverTable) (id : ℕ) (left : List Pending) → TableStands v t → is_requested (pending t) id ≡ true → left ≡ filter (λ (p : Pending). not (p.id == id)) v.pending →
+pub stands_finished : (v : TableRecord) (t : DriverTable) (id : ℕ) (left : List Pending) → TableStands v t →
+    is_requested (pending t) id ≡ true → left ≡ filter (λ (p : Pending). not (p.id == id)) v.pending →
     TableStands (record { devices = v.devices; pending = left; last = v.last }) (finishes t id)
 stands_finished v t id left s there e = record {
   devices = s.devices;
-  pending = e ∙ (retained_others id v.pending ∙ (ap (retain_mut (λ p. stays_pending (ending_for id p.id)) (λ p. kept_after (ending_for id p.id) p)) s.pending
-      ∙ pending_after t ((id, Done) ∷ []) [] (λ p. ending_for id p.id) t.requests (all_follow t id t.requests (open_id t.answers t.requests id there))));
+  pending = e ∙ (retained_others id v.pending ∙
+      (ap (retain_mut (λ p. stays_pending (ending_for id p.id)) (λ p. kept_after (ending_for id p.id) p)) s.pending
+      ∙ pending_after t ((id, Done) ∷ []) [] (λ p. ending_for id p.id) t.requests
+      (all_follow t id t.requests (open_id t.answers t.requests id there))));
   last = s.last;
   reached = reached_finished t id s.reached there;
 }

@@ -1,5 +1,6 @@
 -- Runs keep the invariant of tables that began empty.
-use Rattle.std.proofs.Common.{◌≡◌, ℕ, Bool, true, false, not, cond, List, [], ◌∷◌, ◌++◌, Option, Some, None, is_some, Result, Ok, Err, refl, sym, ap, ◌∙◌, subst, append-nil, append_assoc}
+use Rattle.std.proofs.Common.{◌≡◌, ℕ, Bool, true, false, not, cond, List, [], ◌∷◌, ◌++◌, Option, Some, None, is_some, Result, Ok, Err, refl}
+use Rattle.std.proofs.Common.{sym, ap, ◌∙◌, subst, append-nil, append_assoc}
 use Rattle.std.specs.List.{flat_map, cons_option}
 use Rattle.std.specs.Option.{option_to_list}
 use Rattle.std.proofs.lemmas.Grind.{flat_map-append}
@@ -19,7 +20,8 @@ use Rattle.driver_tables.specs.Changed.{all_moves, notes}
 use Rattle.driver_tables.specs.Submit.{move_of, with_request, submitting_to}
 use Rattle.driver_tables.specs.Reply.{finishes}
 use Rattle.driver_tables.specs.Reached.{IsTableReached}
-use Rattle.driver_tables.specs.Run.{Call, Entry, TableStep, TableRun, table_outcome, no_moves, one_move, moves_in, all_moves_in, request_in, requests_in}
+use Rattle.driver_tables.specs.Run.{Call, Entry, TableStep, TableRun, table_outcome, no_moves, one_move, moves_in, all_moves_in, request_in}
+use Rattle.driver_tables.specs.Run.{requests_in}
 use Rattle.driver_tables.specs.Run.{Assign, Changed, Submit, Reply}
 use Rattle.driver_tables.proofs.StandsLemmas.{stands_opening}
 use Rattle.driver_tables.proofs.AssignLemmas.{assigning_at, reached_assigned}
@@ -34,7 +36,8 @@ assigned_so t unit driver there = cond there (Err Assigned, t) (Ok tt, assigns t
 
 abbrev pub changed_so : DriverTable → List ℕ → Option EndpointRecord → Bool → Bool → Bool → Result (List Move) TableFault × DriverTable
 changed_so t label state has old same =
-    cond (not has) (Ok [], t) (cond old (Err OldEndpoint, t) (Ok (cond same [] (all_moves t label state)), does (notes t label state) (cond same [] (all_moves t label state))))
+    cond (not has) (Ok [], t) (cond old (Err OldEndpoint, t)
+    (Ok (cond same [] (all_moves t label state)), does (notes t label state) (cond same [] (all_moves t label state))))
 
 abbrev pub submitted_so : DriverTable → Request → Bool → Option Driver → Result Move TableFault × DriverTable
 submitted_so t r above d = cond above (submitting_to t r d) (Err TwoIds, t)
@@ -45,7 +48,8 @@ replied_so t id there same = cond there (cond same (Ok (Answer id Done), finishe
 -- ---- what a step leaves
 
 -- an accepted call has the table's own outcome
-pub accepted : (t u : DriverTable) (call : Call) (moves : List Move) → TableStep t call (Ok moves) u → ((table_outcome t call).0 ≡ Ok moves) × (u ≡ (table_outcome t call).1)
+pub accepted : (t u : DriverTable) (call : Call) (moves : List Move) → TableStep t call (Ok moves) u →
+    ((table_outcome t call).0 ≡ Ok moves) × (u ≡ (table_outcome t call).1)
 accepted t u call moves s = (sym s.answer_is, s.after)
 
 pub reached_outcome : (t : DriverTable) (call : Call) → IsTableReached t → IsTableReached (table_outcome t call).1
@@ -53,10 +57,15 @@ reached_outcome t (Assign unit driver) h = by (is_some (driver_of t.units unit))
   where
     by : (b : Bool) → is_some (driver_of t.units unit) ≡ b → IsTableReached (assigning t unit driver).1
     by true e = subst (λ (p : Result (Unit {0}) TableFault × DriverTable). IsTableReached p.1) (sym (assigning_at t unit driver true e)) h
-    by false e = subst (λ (p : Result (Unit {0}) TableFault × DriverTable). IsTableReached p.1) (sym (assigning_at t unit driver false e)) (reached_assigned t unit driver h (none_from _ e))
-reached_outcome t (Changed label state) h = by (has_label t.units label) refl (is_old (newest t.states label) (endpoint_now t.states label) state) refl (is_same_state (endpoint_now t.states label) state) refl
+    by false e = subst (λ (p : Result (Unit {0}) TableFault × DriverTable). IsTableReached p.1) (sym (assigning_at t unit driver false e))
+        (reached_assigned t unit driver h (none_from _ e))
+reached_outcome t (Changed label state) h =
+    by (has_label t.units label) refl (is_old (newest t.states label) (endpoint_now t.states label) state) refl
+    (is_same_state (endpoint_now t.states label) state) refl
   where
-    by : (has : Bool) → has_label t.units label ≡ has → (old : Bool) → is_old (newest t.states label) (endpoint_now t.states label) state ≡ old → (same : Bool) → is_same_state (endpoint_now t.states label) state ≡ same →
+    by : (has : Bool) → has_label t.units label ≡ has → (old : Bool) →
+        is_old (newest t.states label) (endpoint_now t.states label) state ≡ old → (same : Bool) →
+        is_same_state (endpoint_now t.states label) state ≡ same →
         IsTableReached (changed_so t label state has old same).1
     by false a old b same c = h
     by true a true b same c = h
@@ -67,7 +76,8 @@ reached_outcome t (Submit id unit) h = by (is_above t.requests id) refl (driver_
     r : Request
     r = record { id = id; unit = unit }
 
-    by : (above : Bool) → is_above t.requests id ≡ above → (d : Option Driver) → driver_of t.units unit ≡ d → IsTableReached (submitted_so t r above d).1
+    by : (above : Bool) → is_above t.requests id ≡ above → (d : Option Driver) → driver_of t.units unit ≡ d →
+        IsTableReached (submitted_so t r above d).1
     by false a d e = h
     by true a None e = h
     by true a (Some d) e = reached_taken t r d h a e
@@ -78,7 +88,8 @@ reached_outcome t (Reply endpoint id) h = by (is_requested (pending t) id) refl 
     by true a false = h
     by true a true = reached_finished t id h a
 
-pub reached_step : (t u : DriverTable) (call : Call) (answer : Result (List Move) TableFault) → TableStep t call answer u → IsTableReached t → IsTableReached u
+pub reached_step : (t u : DriverTable) (call : Call) (answer : Result (List Move) TableFault) → TableStep t call answer u →
+    IsTableReached t → IsTableReached u
 reached_step t u call (Ok moves) s h = subst IsTableReached (sym s.after) (reached_outcome t call h)
 reached_step t u call (Err fault) s h = subst IsTableReached (sym s.unchanged) h
 
@@ -99,39 +110,51 @@ tells_nothing : (t : DriverTable) → Tells t t [] None
 tells_nothing t = record { requests = sym (append-nil t.requests); sends = sym (append-nil t.sends); answers = sym (append-nil t.answers) }
 
 -- by the answer that a call's parts give
-tells_outcome : (t : DriverTable) (call : Call) (moves : List Move) → (table_outcome t call).0 ≡ Ok moves → Tells t (table_outcome t call).1 moves (request_in call (Ok moves))
+tells_outcome : (t : DriverTable) (call : Call) (moves : List Move) → (table_outcome t call).0 ≡ Ok moves →
+    Tells t (table_outcome t call).1 moves (request_in call (Ok moves))
 tells_outcome t (Assign unit driver) moves e = by (is_some (driver_of t.units unit)) e
   where
     by : (b : Bool) → no_moves (assigned_so t unit driver b).0 ≡ Ok moves → Tells t (assigned_so t unit driver b).1 moves None
     by true e = cc
     by false e = let none : [] ≡ moves = cc in subst (λ (l : List Move). Tells t (assigns t unit driver) l None) none
         (record { requests = sym (append-nil t.requests); sends = sym (append-nil t.sends); answers = sym (append-nil t.answers) })
-tells_outcome t (Changed label state) moves e = by (has_label t.units label) (is_old (newest t.states label) (endpoint_now t.states label) state) (is_same_state (endpoint_now t.states label) state) e
+tells_outcome t (Changed label state) moves e =
+    by (has_label t.units label) (is_old (newest t.states label) (endpoint_now t.states label) state)
+    (is_same_state (endpoint_now t.states label) state) e
   where
-    by : (has old same : Bool) → (changed_so t label state has old same).0 ≡ Ok moves → Tells t (changed_so t label state has old same).1 moves None
+    by : (has old same : Bool) → (changed_so t label state has old same).0 ≡ Ok moves →
+        Tells t (changed_so t label state has old same).1 moves None
     by false old same e = let none : [] ≡ moves = cc in subst (λ (l : List Move). Tells t t l None) none (tells_nothing t)
     by true true same e = cc
     by true false same e =
         let all : cond same [] (all_moves t label state) ≡ moves = cc in
-        subst (λ (l : List Move). Tells t (does (notes t label state) (cond same [] (all_moves t label state))) l None) all (record { requests = sym (append-nil t.requests); sends = refl; answers = refl })
+        subst (λ (l : List Move). Tells t (does (notes t label state) (cond same [] (all_moves t label state))) l None) all
+        (record { requests = sym (append-nil t.requests); sends = refl; answers = refl })
 tells_outcome t (Submit id unit) moves e = by (is_above t.requests id) (driver_of t.units unit) e
   where
     r : Request
     r = record { id = id; unit = unit }
 
-    by : (above : Bool) (d : Option Driver) → one_move (submitted_so t r above d).0 ≡ Ok moves → Tells t (submitted_so t r above d).1 moves (Some r)
+    by : (above : Bool) (d : Option Driver) → one_move (submitted_so t r above d).0 ≡ Ok moves →
+        Tells t (submitted_so t r above d).1 moves (Some r)
     by false d e = cc
     by true None e = cc
-    by true (Some d) e = let one : move_of t r d ∷ [] ≡ moves = cc in subst (λ (l : List Move). Tells t (does (with_request t r) (move_of t r d ∷ [])) l (Some r)) one (record { requests = refl; sends = refl; answers = refl })
+    by true (Some d) e = let one : move_of t r d ∷ [] ≡ moves = cc in
+        subst (λ (l : List Move). Tells t (does (with_request t r) (move_of t r d ∷ [])) l (Some r)) one
+        (record { requests = refl; sends = refl; answers = refl })
 tells_outcome t (Reply endpoint id) moves e = by (is_requested (pending t) id) (is_same_state (last_sent t.sends id) (Some endpoint)) e
   where
     by : (there same : Bool) → one_move (replied_so t id there same).0 ≡ Ok moves → Tells t (replied_so t id there same).1 moves None
     by false same e = cc
     by true false e = cc
-    by true true e = let one : Answer id Done ∷ [] ≡ moves = cc in subst (λ (l : List Move). Tells t (finishes t id) l None) one (record { requests = sym (append-nil t.requests); sends = refl; answers = refl })
+    by true true e = let one : Answer id Done ∷ [] ≡ moves = cc in
+        subst (λ (l : List Move). Tells t (finishes t id) l None) one
+        (record { requests = sym (append-nil t.requests); sends = refl; answers = refl })
 
-tells_step : (t u : DriverTable) (call : Call) (answer : Result (List Move) TableFault) → TableStep t call answer u → Tells t u (moves_in answer) (request_in call answer)
-tells_step t u call (Ok moves) s = subst (λ (u : DriverTable). Tells t u moves (request_in call (Ok moves))) (sym s.after) (tells_outcome t call moves (sym s.answer_is))
+tells_step : (t u : DriverTable) (call : Call) (answer : Result (List Move) TableFault) → TableStep t call answer u →
+    Tells t u (moves_in answer) (request_in call answer)
+tells_step t u call (Ok moves) s = subst (λ (u : DriverTable). Tells t u moves (request_in call (Ok moves))) (sym s.after)
+    (tells_outcome t call moves (sym s.answer_is))
 tells_step t u call (Err fault) s = subst (λ (u : DriverTable). Tells t u [] (request_in call (Err fault))) (sym s.unchanged) (refused call)
   where
     refused : (call : Call) → Tells t t [] (request_in call (Err fault))
@@ -141,9 +164,14 @@ tells_step t u call (Err fault) s = subst (λ (u : DriverTable). Tells t u [] (r
     refused (Reply endpoint id) = tells_nothing t
 
 pub tells_run : (t u : DriverTable) (entries : List Entry) → TableRun t entries u →
-    (u.requests ≡ t.requests ++ requests_in entries) × (u.sends ≡ t.sends ++ flat_map sends_of (all_moves_in entries)) × (u.answers ≡ t.answers ++ flat_map answered_by (all_moves_in entries))
-tells_run t u [] run =
-    (ap (λ (x : DriverTable). x.requests) (sym run) ∙ sym (append-nil t.requests), ap (λ (x : DriverTable). x.sends) (sym run) ∙ sym (append-nil t.sends), ap (λ (x : DriverTable). x.answers) (sym run) ∙ sym (append-nil t.answers))
+    (u.requests ≡ t.requests ++ requests_in entries) × (u.sends ≡ t.sends ++ flat_map sends_of (all_moves_in entries)) ×
+    (u.answers ≡ t.answers ++ flat_map answered_by (all_moves_in entries))
+tells_run t u [] run = (
+  ap (λ (x : DriverTable). x.requests) (sym run) ∙ sym (append-nil t.requests),
+  ap (λ (x : DriverTable). x.sends) (sym run) ∙
+      sym (append-nil t.sends),
+  ap (λ (x : DriverTable). x.answers) (sym run) ∙ sym (append-nil t.answers),
+)
 tells_run t u (entry ∷ entries) run =
     let mid = run.0 in
     let first = tells_step t mid entry.call entry.answer run.1 in

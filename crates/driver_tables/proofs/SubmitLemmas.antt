@@ -1,5 +1,6 @@
 -- A submitted request leaves a valid table.
-use Rattle.std.proofs.Common.{◌≡◌, ℕ, ◌==◌, nat_lt, ◌||◌, ◌&&◌, Bool, true, false, not, cond, List, [], ◌∷◌, ◌++◌, map, filter, Option, Some, None, Result, Ok, Err, refl, sym, ap, ◌∙◌, subst, append-nil, inr}
+use Rattle.std.proofs.Common.{◌≡◌, ℕ, ◌==◌, nat_lt, ◌||◌, ◌&&◌, Bool, true, false, not, cond, List, [], ◌∷◌, ◌++◌, map, filter, Option}
+use Rattle.std.proofs.Common.{Some, None, Result, Ok, Err, refl, sym, ap, ◌∙◌, subst, append-nil, inr}
 use Rattle.std.specs.Option.{option_map}
 use Rattle.std.specs.List.{retain_mut, last_or, AllByRecursion, IsDistinct}
 use Rattle.std.specs.Map.{lookup}
@@ -17,7 +18,8 @@ use Rattle.driver_tables.specs.declared.device.Device.{Device}
 use Rattle.driver_tables.specs.declared.request.Pending.{Pending}
 use Rattle.driver_tables.specs.Driver.{Driver, driver_of}
 use Rattle.driver_tables.specs.Label.{endpoint_now}
-use Rattle.driver_tables.specs.DriverTable.{DriverTable, Request, values_of, last_sent, is_empty, is_pending, pending, is_for, is_requested, is_above}
+use Rattle.driver_tables.specs.DriverTable.{DriverTable, Request, values_of, last_sent, is_empty, is_pending, pending, is_for, is_requested}
+use Rattle.driver_tables.specs.DriverTable.{is_above}
 use Rattle.driver_tables.specs.Doing.{sends_of, answered_by, does}
 use Rattle.driver_tables.specs.Submit.{submitted, move_of, with_request, submitting_to, submitting}
 use Rattle.driver_tables.specs.Reached.{IsRequestServed, IsTableReached, IsAnsweredBy}
@@ -33,16 +35,20 @@ use Rattle.std.proofs.lemmas.Bool.{and_parts, or_parts}
 abbrev judged : DriverTable → Request → Bool → Option Driver → Result Move TableFault × DriverTable
 judged t r above d = cond above (submitting_to t r d) (Err TwoIds, t)
 
-pub submit_twice : (v : TableRecord) (t : DriverTable) (id unit : ℕ) → TableStands v t → is_above_last v.last id ≡ false → submitting t id unit ≡ (Err TwoIds, t)
+pub submit_twice : (v : TableRecord) (t : DriverTable) (id unit : ℕ) → TableStands v t → is_above_last v.last id ≡ false →
+    submitting t id unit ≡ (Err TwoIds, t)
 submit_twice v t id unit s e = ap (λ (b : Bool). judged t (record { id = id; unit = unit }) b (driver_of t.units unit)) (s.last id ∙ e)
 
-above : (v : TableRecord) (t : DriverTable) (id unit : ℕ) → TableStands v t → is_above_last v.last id ≡ true → submitting t id unit ≡ submitting_to t (record { id = id; unit = unit }) (driver_of t.units unit)
+above : (v : TableRecord) (t : DriverTable) (id unit : ℕ) → TableStands v t → is_above_last v.last id ≡ true →
+    submitting t id unit ≡ submitting_to t (record { id = id; unit = unit }) (driver_of t.units unit)
 above v t id unit s e = ap (λ (b : Bool). judged t (record { id = id; unit = unit }) b (driver_of t.units unit)) (s.last id ∙ e)
 
-pub submit_nowhere : (v : TableRecord) (t : DriverTable) (id unit : ℕ) → TableStands v t → is_above_last v.last id ≡ true → lookup (λ u. unit == u) v.devices ≡ None → submitting t id unit ≡ (Err NoDevice, t)
+pub submit_nowhere : (v : TableRecord) (t : DriverTable) (id unit : ℕ) → TableStands v t → is_above_last v.last id ≡ true →
+    lookup (λ u. unit == u) v.devices ≡ None → submitting t id unit ≡ (Err NoDevice, t)
 submit_nowhere v t id unit s e n = above v t id unit s e ∙ by (driver_of t.units unit) (sym (driver_kept v t unit s) ∙ n)
   where
-    by : (d : Option Driver) → option_map (device_of t.states) d ≡ None → submitting_to t (record { id = id; unit = unit }) d ≡ (Err NoDevice, t)
+    by : (d : Option Driver) → option_map (device_of t.states) d ≡ None →
+        submitting_to t (record { id = id; unit = unit }) d ≡ (Err NoDevice, t)
     by None e = refl
     by (Some d) e = cc
 
@@ -51,27 +57,35 @@ abbrev pub taken : DriverTable → Request → Move → DriverTable
 taken t r m = does (with_request t r) (m ∷ [])
 
 -- the unit's driver, if the device was found
-pub driver_there : (v : TableRecord) (t : DriverTable) (unit : ℕ) (d : Device) → TableStands v t → lookup (λ u. unit == u) v.devices ≡ Some d → (o : Driver) × (driver_of t.units unit ≡ Some o) × (device_of t.states o ≡ d)
+pub driver_there : (v : TableRecord) (t : DriverTable) (unit : ℕ) (d : Device) → TableStands v t →
+    lookup (λ u. unit == u) v.devices ≡ Some d → (o : Driver) × (driver_of t.units unit ≡ Some o) × (device_of t.states o ≡ d)
 driver_there v t unit d s n = by (driver_of t.units unit) refl (sym (driver_kept v t unit s) ∙ n)
   where
-    by : (o : Option Driver) → driver_of t.units unit ≡ o → option_map (device_of t.states) o ≡ Some d → (x : Driver) × (driver_of t.units unit ≡ Some x) × (device_of t.states x ≡ d)
+    by : (o : Option Driver) → driver_of t.units unit ≡ o → option_map (device_of t.states) o ≡ Some d →
+        (x : Driver) × (driver_of t.units unit ≡ Some x) × (device_of t.states x ≡ d)
     by None q e = cc
     by (Some o) q e = let same : device_of t.states o ≡ d = cc in (o, q, same)
 
-pub submit_is : (v : TableRecord) (t : DriverTable) (id unit : ℕ) (d : Device) → TableStands v t → is_above_last v.last id ≡ true → lookup (λ u. unit == u) v.devices ≡ Some d →
-    submitting t id unit ≡ (Ok (submitted d.class id d.endpoint), taken t (record { id = id; unit = unit }) (submitted d.class id d.endpoint))
+pub submit_is : (v : TableRecord) (t : DriverTable) (id unit : ℕ) (d : Device) → TableStands v t → is_above_last v.last id ≡ true →
+    lookup (λ u. unit == u) v.devices ≡ Some d →
+    submitting t id unit ≡
+    (Ok (submitted d.class id d.endpoint), taken t (record { id = id; unit = unit }) (submitted d.class id d.endpoint))
 submit_is v t id unit d s e n =
     let r : Request = record { id = id; unit = unit } in
     let there = driver_there v t unit d s n in
-    above v t id unit s e ∙ (ap (submitting_to t r) there.1 ∙ ap (λ (x : Device). (Ok (submitted x.class id x.endpoint), taken t r (submitted x.class id x.endpoint))) there.2)
+    above v t id unit s e ∙ (ap (submitting_to t r) there.1 ∙
+    ap (λ (x : Device). (Ok (submitted x.class id x.endpoint), taken t r (submitted x.class id x.endpoint))) there.2)
 
 -- ---- ids
 -- a new id differs from all before
-pub other_ids : (requests : List Request) (id : ℕ) → is_above requests id ≡ true → AllByRecursion (λ (r : Request). r.id == id ≡ false) requests
+pub other_ids : (requests : List Request) (id : ℕ) → is_above requests id ≡ true →
+    AllByRecursion (λ (r : Request). r.id == id ≡ false) requests
 other_ids [] id e = tt
-other_ids (r ∷ requests) id e = let l = and_parts (nat_lt r.id id) (is_above requests id) e in (below_differs r.id id l.0, other_ids requests id l.1)
+other_ids (r ∷ requests) id e = let l = and_parts (nat_lt r.id id) (is_above requests id) e in
+    (below_differs r.id id l.0, other_ids requests id l.1)
 
-pub not_asked : (requests : List Request) (id : ℕ) → AllByRecursion (λ (r : Request). r.id == id ≡ false) requests → is_requested requests id ≡ false
+pub not_asked : (requests : List Request) (id : ℕ) → AllByRecursion (λ (r : Request). r.id == id ≡ false) requests →
+    is_requested requests id ≡ false
 not_asked [] id h = refl
 not_asked (r ∷ requests) id h = ap (λ (b : Bool). b || is_requested requests id) h.0 ∙ not_asked requests id h.1
 
@@ -82,7 +96,8 @@ above_on (r ∷ requests) id k e l =
     ap (λ (x : Bool). x && is_above requests k) (below_trans r.id id k h.0 l) ∙ above_on requests id k h.1 l
 
 -- the new id is the last one
-last_above : (requests : List Request) (new : Request) (k : ℕ) → is_above requests new.id ≡ true → is_above (requests ++ new ∷ []) k ≡ nat_lt new.id k
+last_above : (requests : List Request) (new : Request) (k : ℕ) → is_above requests new.id ≡ true →
+    is_above (requests ++ new ∷ []) k ≡ nat_lt new.id k
 last_above requests new k e = list_all-append (λ (r : Request). nat_lt r.id k) requests (new ∷ []) ∙ by (nat_lt new.id k) refl
   where
     none : (x : Bool) → x && false ≡ false
@@ -99,7 +114,8 @@ unfolding IsDistinct
 distinct_on [] new o h = (tt, tt)
 distinct_on (r ∷ requests) new o h = (one_more requests h.0, distinct_on requests new o.1 h.1)
   where
-    one_more : (l : List Request) → AllByRecursion (λ (s : Request). r.id == s.id ≡ false) l → AllByRecursion (λ (s : Request). r.id == s.id ≡ false) (l ++ new ∷ [])
+    one_more : (l : List Request) → AllByRecursion (λ (s : Request). r.id == s.id ≡ false) l →
+        AllByRecursion (λ (s : Request). r.id == s.id ≡ false) (l ++ new ∷ [])
     one_more [] d = (o.0, tt)
     one_more (s ∷ l) d = (d.0, one_more l d.1)
 
@@ -121,7 +137,8 @@ either_nothing : {X : Type 0} (b : Bool) → ◌≡◌ {A = List X} (cond b [] [
 either_nothing true = refl
 either_nothing false = refl
 
-before_follow : (t : DriverTable) (id : ℕ) (m : Move) → IsOf (Some m) id → (requests : List Request) → AllByRecursion (λ (r : Request). r.id == id ≡ false) requests →
+before_follow : (t : DriverTable) (id : ℕ) (m : Move) → IsOf (Some m) id → (requests : List Request) →
+    AllByRecursion (λ (r : Request). r.id == id ≡ false) requests →
     AllByRecursion (λ (r : Request). Follows t (answered_by m ++ []) (sends_of m ++ []) r None) requests
 before_follow t id m own [] h = tt
 before_follow t id m own (r ∷ requests) h =
@@ -138,31 +155,46 @@ retained_all [] = refl
 retained_all (p ∷ l) = ap (λ (l : List Pending). p ∷ l) (retained_all l)
 
 served_before : (t : DriverTable) (new : Request) (m : Move) (requests : List Request) →
-    AllByRecursion (λ (r : Request). Follows t (answered_by m ++ []) (sends_of m ++ []) r None) requests → AllByRecursion (IsRequestServed t) requests →
+    AllByRecursion (λ (r : Request). Follows t (answered_by m ++ []) (sends_of m ++ []) r None) requests →
+    AllByRecursion (IsRequestServed t) requests →
     AllByRecursion (IsRequestServed (taken t new m)) requests
 served_before t new m [] f h = tt
-served_before t new m (r ∷ requests) f h =
-    (served_after t (taken t new m) (answered_by m ++ []) (sends_of m ++ []) r None f.0 h.0 refl refl h.0.found (λ o. tt) (λ o e now silent. inr (refl, now)), served_before t new m requests f.1 h.1)
+served_before t new m (r ∷ requests) f h = (
+  served_after t (taken t new m) (answered_by m ++ []) (sends_of m ++ []) r None f.0 h.0 refl refl h.0.found (λ o. tt)
+      (λ o e now silent. inr (refl, now)),
+  served_before t new m requests f.1 h.1,
+)
 
 -- ---- the new request
 -- its answers and sends are those of its move
-new_answers : (t : DriverTable) (id : ℕ) (m : Move) → IsOf (Some m) id → values_of id t.answers ≡ [] → values_of id (t.answers ++ (answered_by m ++ [])) ≡ endings (Some m)
-new_answers t id m own none = values-append id t.answers (answered_by m ++ []) ∙ (ap (λ (l : List Ending). l ++ values_of id (answered_by m ++ [])) none ∙ (ap (values_of id) (append-nil (answered_by m)) ∙ answers_left.own (Some m) id own))
+new_answers : (t : DriverTable) (id : ℕ) (m : Move) → IsOf (Some m) id → values_of id t.answers ≡ [] →
+    values_of id (t.answers ++ (answered_by m ++ [])) ≡ endings (Some m)
+new_answers t id m own none = values-append id t.answers (answered_by m ++ []) ∙
+    (ap (λ (l : List Ending). l ++ values_of id (answered_by m ++ [])) none ∙
+    (ap (values_of id) (append-nil (answered_by m)) ∙ answers_left.own (Some m) id own))
 
-new_sends : (t : DriverTable) (id : ℕ) (m : Move) → IsOf (Some m) id → values_of id t.sends ≡ [] → values_of id (t.sends ++ (sends_of m ++ [])) ≡ targets (Some m)
-new_sends t id m own none = values-append id t.sends (sends_of m ++ []) ∙ (ap (λ (l : List EndpointRecord). l ++ values_of id (sends_of m ++ [])) none ∙ (ap (values_of id) (append-nil (sends_of m)) ∙ sends_left.own (Some m) id own))
+new_sends : (t : DriverTable) (id : ℕ) (m : Move) → IsOf (Some m) id → values_of id t.sends ≡ [] →
+    values_of id (t.sends ++ (sends_of m ++ [])) ≡ targets (Some m)
+new_sends t id m own none = values-append id t.sends (sends_of m ++ []) ∙
+    (ap (λ (l : List EndpointRecord). l ++ values_of id (sends_of m ++ [])) none ∙
+    (ap (values_of id) (append-nil (sends_of m)) ∙ sends_left.own (Some m) id own))
 
 abbrev shown : Request → Move → Option EndpointRecord → List Pending
 shown new m o = cond (not (is_ending m)) (record { id = new.id; unit = new.unit; sent = o } ∷ []) []
 
 -- it is pending unless its move answers it
-new_pending : (class : Class) (e : Option EndpointRecord) (new : Request) (answers : List (ℕ × Ending)) (sends : List (ℕ × EndpointRecord)) →
-    values_of new.id answers ≡ endings (Some (submitted class new.id e)) → values_of new.id sends ≡ targets (Some (submitted class new.id e)) →
-    map (pending_of sends) (cond (is_pending answers new) (new ∷ []) []) ≡ cond (not (is_ending (submitted class new.id e))) (record { id = new.id; unit = new.unit; sent = e } ∷ []) []
+new_pending : (class : Class) (e : Option EndpointRecord) (new : Request) (answers : List (ℕ × Ending)) (sends : List (ℕ × EndpointRecord))
+    →
+    values_of new.id answers ≡ endings (Some (submitted class new.id e)) →
+    values_of new.id sends ≡ targets (Some (submitted class new.id e)) →
+    map (pending_of sends) (cond (is_pending answers new) (new ∷ []) []) ≡ cond (not (is_ending (submitted class new.id e)))
+    (record { id = new.id; unit = new.unit; sent = e } ∷ []) []
 new_pending class e new answers sends a s = ap (λ (l : List Ending). map (pending_of sends) (cond (is_empty l) (new ∷ []) [])) a ∙
     (by class e ∙ ap (λ (o : Option EndpointRecord). shown new (submitted class new.id e) o) (ap (last_or None) s ∙ target class e))
   where
-    by : (class : Class) (e : Option EndpointRecord) → map (pending_of sends) (cond (is_empty (endings (Some (submitted class new.id e)))) (new ∷ []) []) ≡ shown new (submitted class new.id e) (last_sent sends new.id)
+    by : (class : Class) (e : Option EndpointRecord) →
+        map (pending_of sends) (cond (is_empty (endings (Some (submitted class new.id e)))) (new ∷ []) []) ≡ shown new
+        (submitted class new.id e) (last_sent sends new.id)
     by class (Some e) = refl
     by Block None = refl
     by Character None = refl
@@ -174,12 +206,14 @@ new_pending class e new answers sends a s = ap (λ (l : List Ending). map (pendi
     target Character None = refl
     target Network None = refl
 
-new_served : (t : DriverTable) (new : Request) (d : Driver) → driver_of t.units new.unit ≡ Some d → values_of new.id t.answers ≡ [] → values_of new.id t.sends ≡ [] → IsRequestServed (taken t new (move_of t new d)) new
+new_served : (t : DriverTable) (new : Request) (d : Driver) → driver_of t.units new.unit ≡ Some d → values_of new.id t.answers ≡ [] →
+    values_of new.id t.sends ≡ [] → IsRequestServed (taken t new (move_of t new d)) new
 new_served t new d found a s = record {
   driver = d;
   found = found;
   answered = subst (IsAnsweredBy d.class) (sym answers_are) (fits d.class (endpoint_now t.states d.label));
-  sent = λ none e now. ap (last_or None) sends_are ∙ (ap (λ (o : Option EndpointRecord). last_or None (targets (Some (submitted d.class new.id o)))) now);
+  sent = λ none e now. ap (last_or None) sends_are ∙
+      (ap (λ (o : Option EndpointRecord). last_or None (targets (Some (submitted d.class new.id o)))) now);
 }
   where
     m : Move
@@ -205,20 +239,26 @@ all_and_one : (P : Request → Type 0) (l : List Request) (r : Request) → AllB
 all_and_one P [] r h p = (p, tt)
 all_and_one P (x ∷ l) r h p = (h.0, all_and_one P l r h.1 p)
 
-pub reached_taken : (t : DriverTable) (new : Request) (d : Driver) → IsTableReached t → is_above t.requests new.id ≡ true → driver_of t.units new.unit ≡ Some d → IsTableReached (taken t new (move_of t new d))
+pub reached_taken : (t : DriverTable) (new : Request) (d : Driver) → IsTableReached t → is_above t.requests new.id ≡ true →
+    driver_of t.units new.unit ≡ Some d → IsTableReached (taken t new (move_of t new d))
 reached_taken t new d h above_all found = record {
   units = h.units;
   labels = h.labels;
   current = h.current;
   distinct = distinct_on t.requests new others h.distinct;
   unasked = λ k none.
-      let parts = or_parts (is_requested t.requests k) (is_requested (new ∷ []) k) (sym (list_any-append (is_for k) t.requests (new ∷ [])) ∙ none) in
+      let parts = or_parts (is_requested t.requests k) (is_requested (new ∷ []) k)
+      (sym (list_any-append (is_for k) t.requests (new ∷ [])) ∙ none) in
       let other : new.id == k ≡ false = (or_parts (new.id == k) false parts.1).0 in
       let before = h.unasked k parts.0 in (
-        values-append k t.sends (sends_of m ++ []) ∙ (ap (λ (l : List EndpointRecord). l ++ values_of k (sends_of m ++ [])) before.0 ∙ other_send m new.id k own other),
-        values-append k t.answers (answered_by m ++ []) ∙ (ap (λ (l : List Ending). l ++ values_of k (answered_by m ++ [])) before.1 ∙ other_answer m new.id k own other),
+        values-append k t.sends (sends_of m ++ []) ∙
+            (ap (λ (l : List EndpointRecord). l ++ values_of k (sends_of m ++ [])) before.0 ∙ other_send m new.id k own other),
+        values-append k t.answers (answered_by m ++ []) ∙
+            (ap (λ (l : List Ending). l ++ values_of k (answered_by m ++ [])) before.1 ∙ other_answer m new.id k own other),
       );
-  served = all_and_one (IsRequestServed (taken t new m)) t.requests new (served_before t new m t.requests (before_follow t new.id m own t.requests others) h.served) (new_served t new d found fresh.1 fresh.0);
+  served = all_and_one (IsRequestServed (taken t new m)) t.requests new
+      (served_before t new m t.requests (before_follow t new.id m own t.requests others) h.served)
+      (new_served t new d found fresh.1 fresh.0);
 }
   where
     m : Move
@@ -233,12 +273,15 @@ reached_taken t new d h above_all found = record {
     fresh : (values_of new.id t.sends ≡ []) × (values_of new.id t.answers ≡ [])
     fresh = h.unasked new.id (not_asked t.requests new.id others)
 
-pub stands_taken : (v : TableRecord) (t : DriverTable) (new : Request) (d : Driver) (left : List Pending) → TableStands v t → is_above_last v.last new.id ≡ true → driver_of t.units new.unit ≡ Some d →
-    left ≡ v.pending ++ cond (not (is_ending (move_of t new d))) (record { id = new.id; unit = new.unit; sent = endpoint_now t.states d.label } ∷ []) [] →
+pub stands_taken : (v : TableRecord) (t : DriverTable) (new : Request) (d : Driver) (left : List Pending) → TableStands v t →
+    is_above_last v.last new.id ≡ true → driver_of t.units new.unit ≡ Some d →
+    left ≡ v.pending ++ cond (not (is_ending (move_of t new d)))
+    (record { id = new.id; unit = new.unit; sent = endpoint_now t.states d.label } ∷ []) [] →
     TableStands (record { devices = v.devices; pending = left; last = Some new.id }) (taken t new (move_of t new d))
 stands_taken v t new d left s above_last found e = record {
   devices = s.devices;
-  pending = e ∙ (ap (λ (l : List Pending). l ++ one) before ∙ (ap (λ (l : List Pending). map (pending_of sends) (filter (is_pending answers) t.requests) ++ l) (sym last) ∙ sym both));
+  pending = e ∙ (ap (λ (l : List Pending). l ++ one) before ∙
+      (ap (λ (l : List Pending). map (pending_of sends) (filter (is_pending answers) t.requests) ++ l) (sym last) ∙ sym both));
   last = λ k. last_above t.requests new k above_all;
   reached = reached_taken t new d s.reached above_all found;
 }
@@ -278,16 +321,22 @@ stands_taken v t new d left s above_last found e = record {
     last : map (pending_of sends) (filter (is_pending answers) (new ∷ [])) ≡ one
     last = new_pending d.class now new answers sends (new_answers t new.id m own fresh.1) (new_sends t new.id m own fresh.0)
 
-    both : map (pending_of sends) (filter (is_pending answers) (t.requests ++ new ∷ [])) ≡ map (pending_of sends) (filter (is_pending answers) t.requests) ++ map (pending_of sends) (filter (is_pending answers) (new ∷ []))
-    both = ap (map (pending_of sends)) (filter-append (is_pending answers) t.requests (new ∷ [])) ∙ map-append (pending_of sends) (filter (is_pending answers) t.requests) (filter (is_pending answers) (new ∷ []))
+    both : map (pending_of sends) (filter (is_pending answers) (t.requests ++ new ∷ [])) ≡ map (pending_of sends)
+        (filter (is_pending answers) t.requests) ++ map (pending_of sends) (filter (is_pending answers) (new ∷ []))
+    both = ap (map (pending_of sends)) (filter-append (is_pending answers) t.requests (new ∷ [])) ∙
+        map-append (pending_of sends) (filter (is_pending answers) t.requests) (filter (is_pending answers) (new ∷ []))
 
 -- as above, for the device that was found
-pub stands_submitted : (v : TableRecord) (t : DriverTable) (id unit : ℕ) (d : Device) (left : List Pending) → TableStands v t → is_above_last v.last id ≡ true → lookup (λ u. unit == u) v.devices ≡ Some d →
-    left ≡ v.pending ++ cond (not (is_ending (submitted d.class id d.endpoint))) (record { id = id; unit = unit; sent = d.endpoint } ∷ []) [] →
+pub stands_submitted : (v : TableRecord) (t : DriverTable) (id unit : ℕ) (d : Device) (left : List Pending) → TableStands v t →
+    is_above_last v.last id ≡ true → lookup (λ u. unit == u) v.devices ≡ Some d →
+    left ≡ v.pending ++ cond (not (is_ending (submitted d.class id d.endpoint))) (record { id = id; unit = unit; sent = d.endpoint } ∷ [])
+    [] →
     TableStands (record { devices = v.devices; pending = left; last = Some id }) (submitting t id unit).1
 stands_submitted v t id unit d left s above_last n e =
     let r : Request = record { id = id; unit = unit } in
     let there = driver_there v t unit d s n in
-    let kept : (x : Device) → List Pending = λ x. v.pending ++ cond (not (is_ending (submitted x.class id x.endpoint))) (record { id = id; unit = unit; sent = x.endpoint } ∷ []) [] in
+    let kept : (x : Device) → List Pending = λ x.
+    v.pending ++ cond (not (is_ending (submitted x.class id x.endpoint))) (record { id = id; unit = unit; sent = x.endpoint } ∷ []) [] in
     let stands = stands_taken v t r there.0 left s above_last there.1 (e ∙ sym (ap kept there.2)) in
-    subst (TableStands (record { devices = v.devices; pending = left; last = Some id })) (sym (ap (λ p. p.1) (above v t id unit s above_last ∙ ap (submitting_to t r) there.1))) stands
+    subst (TableStands (record { devices = v.devices; pending = left; last = Some id }))
+    (sym (ap (λ p. p.1) (above v t id unit s above_last ∙ ap (submitting_to t r) there.1))) stands

@@ -25,7 +25,7 @@ use Rattle.std.specs.declared.alloc.Global.{Global}
 use Rattle.std.specs.contracts.impls.GlobalAllocator.TheImpl.{ghosts}
 use Rattle.std.proofs.GlobalToken.{dealloc_token-Testable}
 use Rattle.std_alloc.specs.Box.Ownership.{box_owns}
-pub use Rattle.c_rs.specs.contracts.session.RsSession.{the_row as Session}
+pub use Rattle.c_keeper.specs.contracts.session.KeeperSession.{the_row as Session}
 pub use Rattle.ds_submap.specs.contracts.map.SubMap.{the_row as Map}
 pub use Rattle.c_store.specs.contracts.server_table.ServerTable.{the_row as Table}
 pub use Rattle.c_desk.specs.contracts.board.Board.{the_row as Desk}

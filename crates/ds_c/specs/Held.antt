@@ -8,7 +8,7 @@ use Rattle.std_alloc.specs.Box.Ownership.{box_owns}
 use mir.Syntax.{Ty}
 use Rattle.std.specs.declared.alloc.Global.{Global}
 use Rattle.std.specs.contracts.impls.GlobalAllocator.TheImpl.{ghosts}
-use Rattle.c_rs.specs.contracts.session.RsSession as session
+use Rattle.c_keeper.specs.contracts.session.KeeperSession as session
 use Rattle.ds_submap.specs.contracts.map.SubMap as map
 use Rattle.c_store.specs.contracts.server_table.ServerTable as table
 use Rattle.c_desk.specs.contracts.board.Board as board

@@ -1,8 +1,10 @@
 pub mod Held
 pub mod Calls
 pub mod Maps
+pub mod Entries
 pub mod Services
 pub mod Tables
 pub mod Renewing
+pub mod Keepers
 pub mod Desks
 pub mod Crossing

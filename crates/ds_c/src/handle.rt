@@ -4,11 +4,11 @@ ghost use Rattle.std.specs.Prelude.{◌≡◌};
 ghost use Rattle.std.specs.declared.option.Option.{Option};
 ghost use Rattle.std.specs.declared.option.Option.TheVariants.{None, Some};
 ghost use Rattle.std.specs.Option.{MatchOption};
-ghost use Rattle.c_rs.specs.declared.session.RsSession.{RsSession};
+ghost use Rattle.c_keeper.specs.declared.session.KeeperSession.{KeeperSession};
 ghost use Rattle.ds_c.specs.Held.{holds};
 
 use crate::loose::Loose;
-use c_rs::RsSession;
+use c_keeper::KeeperSession;
 use std::alloc::Global;
 use std::marker::Model;
 use std::mem::replace;
@@ -18,7 +18,7 @@ use std::ptr::null_mut;
 #[repr(C)]
 pub struct Handle {
     at: *mut u8,
-    pub ghost value: { Option RsSession },
+    pub ghost value: { Option KeeperSession },
 }
 
 impl Model for Handle {
@@ -34,7 +34,7 @@ impl Handle {
     }
 
     /// Returns the handle of a session.
-    pub(crate) fn of(session: Loose<RsSession, Global>) -> Handle
+    pub(crate) fn of(session: Loose<KeeperSession, Global>) -> Handle
         ensures { result.value ≡ Some session.value }
     {
         let Loose { at, alloc: _ } = session;
@@ -42,7 +42,7 @@ impl Handle {
     }
 
     /// Returns the session of a handle. `None` if it is closed.
-    pub(crate) fn into_loose(self, alloc: Global) -> Option<Loose<RsSession, Global>>
+    pub(crate) fn into_loose(self, alloc: Global) -> Option<Loose<KeeperSession, Global>>
         ensures { MatchOption result (self.value ≡ None) (λ l. self.value ≡ Some l.value) }
     {
         let Handle { at } = self;
@@ -50,14 +50,14 @@ impl Handle {
             None
         } else {
             Some(Loose {
-                at: at as *mut RsSession,
+                at: at as *mut KeeperSession,
                 alloc,
             })
         }
     }
 
     /// Takes the session out, which closes the handle.
-    pub(crate) fn take(&mut self, alloc: Global) -> Option<Box<RsSession>>
+    pub(crate) fn take(&mut self, alloc: Global) -> Option<Box<KeeperSession>>
         ensures session { MatchOption result (self.old.value ≡ None) (λ b. self.old.value ≡ Some b.value) }
         ensures left { self.new.value ≡ None }
     {
@@ -70,7 +70,7 @@ impl Handle {
 
     /// Puts a session into a closed handle.
     #[inline(always)]
-    pub(crate) fn put(&mut self, alloc: Global, session: Box<RsSession>)
+    pub(crate) fn put(&mut self, alloc: Global, session: Box<KeeperSession>)
         requires { self.old.value ≡ None }
         ensures { self.new.value ≡ Some session.value }
     {

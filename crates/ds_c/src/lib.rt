@@ -4,7 +4,9 @@
 
 mod desk_handle;
 mod desks;
+mod entries;
 mod handle;
+mod keepers;
 mod law;
 mod lines;
 mod loose;
@@ -22,6 +24,7 @@ ghost use Rattle.std.specs.Prelude.{◌≡◌};
 ghost use Rattle.std.specs.declared.option.Option.TheVariants.{None};
 ghost use Rattle.ds_c.specs.Calls.{Opens, Opened, Calls, Fetches, Closes};
 
+use c_keeper::KeeperSession;
 use c_rs::RsSession;
 use c_values::{Answer, Given, Request, refusal_number};
 pub use desk_handle::DeskHandle;
@@ -30,7 +33,12 @@ pub use desks::{
     ds_seat_take,
 };
 use ds_machine::Refusal;
+pub use entries::{MapKey, ds_map_next, ds_map_value};
 pub use handle::Handle;
+pub use keepers::{
+    ds_keeper_due, ds_keeper_event, ds_keeper_note, ds_keeper_open, ds_keeper_report,
+    ds_keeper_task, ds_keeper_to_write, ds_keeper_vouch, ds_keeper_written,
+};
 pub use law::handles_cross;
 pub use lines::{ds_call_line, ds_text};
 pub use map_handle::MapHandle;
@@ -76,7 +84,13 @@ fn open_in(alloc: Global, handle: &mut Handle, incarnation: u64, first: u64, rin
     ensures { Opened incarnation first ring result handle.new.value }
 {
     match RsSession::open(alloc, incarnation, first, ring) {
-        Ok(session) => match Box::new(alloc, session) {
+        Ok(rs) => match Box::new(
+            alloc,
+            KeeperSession {
+                rs,
+                processes: None,
+            },
+        ) {
             Ok(session) => {
                 handle.put(alloc, session);
                 DONE
@@ -101,7 +115,7 @@ pub extern "C" fn ds_call(
     match handle.take(alloc) {
         None => IS_CLOSED,
         Some(mut session) => {
-            session.call(alloc, request, texts, answer);
+            session.rs.call(alloc, request, texts, answer);
             handle.put(alloc, session);
             DONE
         }
@@ -124,7 +138,7 @@ pub extern "C" fn ds_items(
     match handle.take(alloc) {
         None => IS_CLOSED,
         Some(session) => {
-            *given = session.give(alloc, first, room);
+            *given = session.rs.give(alloc, first, room);
             handle.put(alloc, session);
             DONE
         }

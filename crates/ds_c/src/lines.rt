@@ -44,7 +44,7 @@ pub extern "C" fn ds_text(
     match handle.take(alloc) {
         None => IS_CLOSED,
         Some(session) => {
-            *given = session.give_text(alloc, first, room);
+            *given = session.rs.give_text(alloc, first, room);
             handle.put(alloc, session);
             DONE
         }

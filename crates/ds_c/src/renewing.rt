@@ -7,8 +7,8 @@ use crate::words::IS_CLOSED;
 use c_rs::SettingsRefusal;
 use std::alloc::Global;
 
-/// Gives RS beside the store of an open handle other settings, from a text. Returns 0, or the number of the first refusal; `fault` says
-/// where a text is refused, or which service is left out while it is up.
+/// Gives RS beside the store of an open handle, and its keepers, other settings, from a text. Returns 0, or the number of the first
+/// refusal; `fault` says where a text is refused, or which service is left out while it is up or busy.
 #[unsafe(no_mangle)]
 pub extern "C" fn ds_rs_renew(
     alloc: Global,

@@ -23,7 +23,7 @@ pub extern "C" fn ds_run(
     match handle.take(alloc) {
         None => IS_CLOSED,
         Some(mut session) => {
-            *done = session.run(alloc, requests, texts, answers);
+            *done = session.rs.run(alloc, requests, texts, answers);
             handle.put(alloc, session);
             DONE
         }

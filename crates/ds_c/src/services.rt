@@ -27,7 +27,7 @@ pub extern "C" fn ds_rs_open(
     match handle.take(alloc) {
         None => IS_CLOSED,
         Some(mut session) => {
-            let word = session.open_rs(alloc, settings, next, slot, fault);
+            let word = session.rs.open_rs(alloc, settings, next, slot, fault);
             handle.put(alloc, session);
             word
         }
@@ -68,7 +68,7 @@ pub extern "C" fn ds_rs_action(
     match handle.take(alloc) {
         None => IS_CLOSED,
         Some(session) => {
-            let part = session.action(index);
+            let part = session.rs.action(index);
             handle.put(alloc, session);
             write_part(part, action)
         }
@@ -89,7 +89,7 @@ pub extern "C" fn ds_rs_service(
     match handle.take(alloc) {
         None => IS_CLOSED,
         Some(session) => {
-            let part = session.service(index);
+            let part = session.rs.service(index);
             handle.put(alloc, session);
             write_part(part, service)
         }
@@ -105,7 +105,7 @@ pub extern "C" fn ds_rs_due(alloc: Global, handle: &mut Handle, tick: &mut u64) 
     match handle.take(alloc) {
         None => IS_CLOSED,
         Some(session) => {
-            let part = session.due();
+            let part = session.rs.due();
             handle.put(alloc, session);
             write_part(part, tick)
         }
@@ -121,7 +121,7 @@ pub extern "C" fn ds_rs_next(alloc: Global, handle: &mut Handle, generation: &mu
     match handle.take(alloc) {
         None => IS_CLOSED,
         Some(session) => {
-            let part = session.next_generation();
+            let part = session.rs.next_generation();
             handle.put(alloc, session);
             write_part(part, generation)
         }
@@ -144,7 +144,7 @@ pub extern "C" fn ds_rs_may_publish(
     match handle.take(alloc) {
         None => IS_CLOSED,
         Some(session) => {
-            let may = session.may_publish(generation, slot, kind, name);
+            let may = session.rs.may_publish(generation, slot, kind, name);
             handle.put(alloc, session);
             judgement(may)
         }
@@ -166,7 +166,7 @@ pub extern "C" fn ds_rs_may_complain(
     match handle.take(alloc) {
         None => IS_CLOSED,
         Some(session) => {
-            let may = session.may_complain(generation, slot, label);
+            let may = session.rs.may_complain(generation, slot, label);
             handle.put(alloc, session);
             judgement(may)
         }
@@ -188,7 +188,7 @@ pub extern "C" fn ds_rs_may_connect(
     match handle.take(alloc) {
         None => IS_CLOSED,
         Some(session) => {
-            let may = session.may_connect(generation, slot, label);
+            let may = session.rs.may_connect(generation, slot, label);
             handle.put(alloc, session);
             judgement(may)
         }
@@ -202,8 +202,8 @@ fn judgement(may: bool) -> u32
     if may { DONE } else { NOT_ALLOWED }
 }
 
-// Writes a part, if there is one.
-fn write_part<T: Copy>(part: Option<T>, place: &mut T) -> u32
+/// Writes a part, if there is one.
+pub(crate) fn write_part<T: Copy>(part: Option<T>, place: &mut T) -> u32
     ensures { ReadsPart part place.old result place.new }
 {
     match part {

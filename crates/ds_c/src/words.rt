@@ -4,6 +4,8 @@ pub(crate) const DONE: u32 = 0;
 
 pub(crate) const BAD_SUB: u32 = 1;
 
+pub(crate) const BAD_KIND: u32 = 5;
+
 pub(crate) const NOT_ALLOWED: u32 = 9;
 
 pub(crate) const NOT_FOUND: u32 = 14;

@@ -1,5 +1,6 @@
 -- Tests that agree on a list, and places in lists.
-use Rattle.std.proofs.Common.{◌≡◌, ℕ, zero, suc, ◌+◌, ◌<◌, ◌≤◌, ◌⊎◌, Bool, true, false, cond, List, [], ◌∷◌, ◌++◌, map, filter, take, length, length-append, get_or, set, Option, Some, None}
+use Rattle.std.proofs.Common.{◌≡◌, ℕ, zero, suc, ◌+◌, ◌<◌, ◌≤◌, ◌⊎◌, Bool, true, false, cond, List, [], ◌∷◌, ◌++◌, map, filter, take}
+use Rattle.std.proofs.Common.{length, length-append, get_or, set, Option, Some, None}
 use Rattle.std.proofs.Common.{refl, ap, ap₂, sym, ◌∙◌, subst, inl, inr, arith, Contains}
 use Rattle.std.specs.Prelude.{slice_get}
 use Rattle.std.specs.declared.cmp.Ordering.TheVariants.{Less, Equal}
@@ -108,7 +109,8 @@ module _ {X : Type 0} where
     taken_first (suc n) (x ∷ hs) = by_test (p x) (taken_first n hs)
       where
         by_test : (b : Bool) → take (length (filter p (take n hs))) (filter p hs) ≡ filter p (take n hs)
-            → take (length (cond b (x ∷ filter p (take n hs)) (filter p (take n hs)))) (cond b (x ∷ filter p hs) (filter p hs)) ≡ cond b (x ∷ filter p (take n hs)) (filter p (take n hs))
+            → take (length (cond b (x ∷ filter p (take n hs)) (filter p (take n hs)))) (cond b (x ∷ filter p hs) (filter p hs)) ≡ cond b
+            (x ∷ filter p (take n hs)) (filter p (take n hs))
         by_test true e = ap (λ (l : List X). x ∷ l) e
         by_test false e = e
 
@@ -116,7 +118,8 @@ module _ {X : Type 0} where
     all_taken n hs l = ap (filter p) (few_taken n hs l)
 
     -- one more of the first ones
-    pub filter_more : (n : ℕ) (hs : List X) (c : X) → slice_get hs n ≡ Some c → filter p (take (n + 1) hs) ≡ filter p (take n hs) ++ cond (p c) (c ∷ []) []
+    pub filter_more : (n : ℕ) (hs : List X) (c : X) → slice_get hs n ≡ Some c →
+        filter p (take (n + 1) hs) ≡ filter p (take n hs) ++ cond (p c) (c ∷ []) []
     filter_more n [] c e = absurd (cc)
     filter_more zero (x ∷ hs) c e = ap (λ (y : X). cond (p y) (y ∷ []) []) (same_Some x c e)
     filter_more (suc n) (x ∷ hs) c e =
@@ -125,17 +128,21 @@ module _ {X : Type 0} where
         ap (λ m. filter p (take m (x ∷ hs))) next ∙ by_test (p x) more
       where
         by_test : (b : Bool) → filter p (take (n + 1) hs) ≡ filter p (take n hs) ++ cond (p c) (c ∷ []) []
-            → cond b (x ∷ filter p (take (n + 1) hs)) (filter p (take (n + 1) hs)) ≡ cond b (x ∷ filter p (take n hs)) (filter p (take n hs)) ++ cond (p c) (c ∷ []) []
+            → cond b (x ∷ filter p (take (n + 1) hs)) (filter p (take (n + 1) hs)) ≡ cond b (x ∷ filter p (take n hs))
+            (filter p (take n hs)) ++ cond (p c) (c ∷ []) []
         by_test true q = ap (λ (l : List X). x ∷ l) q
         by_test false q = q
 
   -- ---- flags of the first ones
-  pub flags_more : (f : X → Bool) (hs : List X) (fs more : List Bool) (c : X) → fs ≡ map f (take (length fs) hs) → slice_get hs (length fs) ≡ Some c → more ≡ fs ++ f c ∷ [] → more ≡ map f (take (length more) hs)
+  pub flags_more : (f : X → Bool) (hs : List X) (fs more : List Bool) (c : X) → fs ≡ map f (take (length fs) hs) →
+      slice_get hs (length fs) ≡ Some c → more ≡ fs ++ f c ∷ [] → more ≡ map f (take (length more) hs)
   flags_more f hs fs more c e at is =
       let long : length more ≡ length fs + 1 = ap (λ (l : List Bool). length l) is ∙ length-append fs (f c ∷ []) in
-      is ∙ ap (λ (l : List Bool). l ++ f c ∷ []) e ∙ sym (map-append f (take (length fs) hs) (c ∷ [])) ∙ ap (map f) (sym (take_one (length fs) hs c at)) ∙ ap (λ n. map f (take n hs)) (sym long)
+      is ∙ ap (λ (l : List Bool). l ++ f c ∷ []) e ∙ sym (map-append f (take (length fs) hs) (c ∷ [])) ∙
+      ap (map f) (sym (take_one (length fs) hs c at)) ∙ ap (λ n. map f (take n hs)) (sym long)
 
-  pub flags_all : (f : X → Bool) (hs : List X) (fs : List Bool) → fs ≡ map f (take (length fs) hs) → slice_get hs (length fs) ≡ None → fs ≡ map f hs
+  pub flags_all : (f : X → Bool) (hs : List X) (fs : List Bool) → fs ≡ map f (take (length fs) hs) → slice_get hs (length fs) ≡ None →
+      fs ≡ map f hs
   flags_all f hs fs e none = e ∙ ap (map f) (few_taken (length fs) hs (past_end hs (length fs) none))
 
 -- ---- a flag that is cleared
@@ -149,7 +156,8 @@ cleared (f ∷ fs) (suc k) = cleared fs k
 not_less : (x : Item) → item_cmp x x ≡ Less → ⊥
 not_less x e = let no : Less ≡ Equal = sym e ∙ tied_itself items_total x in absurd (cc)
 
-pub apart : (hs : List Item) → IsStrictlySortedBy item_cmp hs → (i k : ℕ) (c : Item) → slice_get hs i ≡ Some c → slice_get hs k ≡ Some c → k ≡ i
+pub apart : (hs : List Item) → IsStrictlySortedBy item_cmp hs → (i k : ℕ) (c : Item) → slice_get hs i ≡ Some c → slice_get hs k ≡ Some c →
+    k ≡ i
 apart [] s i k c e f = absurd (cc)
 apart (h ∷ hs) s zero zero c e f = refl
 apart (h ∷ hs) s zero (suc k) c e f =
@@ -161,7 +169,8 @@ apart (h ∷ hs) s (suc i) zero c e f =
 apart (h ∷ hs) s (suc i) (suc k) c e f = ap suc (apart hs (sorted_tail item_cmp h hs s) i k c e f)
 
 -- ---- a place in the lists of subscriptions
-pub at_map : {A B : Type 0} (f : A → B) (xs : List (Option A)) (k : ℕ) → get_or (map (option_map f) xs) k None ≡ option_map f (get_or xs k None)
+pub at_map : {A B : Type 0} (f : A → B) (xs : List (Option A)) (k : ℕ) →
+    get_or (map (option_map f) xs) k None ≡ option_map f (get_or xs k None)
 at_map f [] zero = refl
 at_map f [] (suc k) = refl
 at_map f (x ∷ xs) zero = refl

@@ -1,5 +1,6 @@
 -- What is held, as a holder keeps it and as items.
-use Rattle.std.proofs.Common.{◌≡◌, ℕ, zero, suc, ◌+◌, ap₂, ◌<◌, Bool, true, false, List, [], ◌∷◌, ◌++◌, map, length, Option, Some, None, Result, Ok, Err, refl, ap, sym, ◌∙◌, subst, inr, arith, Contains}
+use Rattle.std.proofs.Common.{◌≡◌, ℕ, zero, suc, ◌+◌, ap₂, ◌<◌, Bool, true, false, List, [], ◌∷◌, ◌++◌, map, length, Option, Some, None}
+use Rattle.std.proofs.Common.{Result, Ok, Err, refl, ap, sym, ◌∙◌, subst, inr, arith, Contains}
 use Rattle.std.specs.Prelude.{slice_get}
 use Rattle.std.specs.FinMap.{entries, len-entries}
 use Rattle.std.specs.Option.{option_map}
@@ -14,7 +15,8 @@ use Rattle.ds_entry.proofs.Members.{Contains-from_list_any, none_pass}
 use Rattle.ds_entry.proofs.ItemLemmas.{voids-is, covers-refl}
 use Rattle.ds_join.specs.ItemTop.{IsTop}
 use Rattle.ds_join.specs.declared.merge.Merge.TheVariants.{Taken}
-use Rattle.ds_held.specs.Held.{Holding, held_items, held_changes, held_floors, held_for, held_count, floor_for, floor_count, floor_item, change_item, is_below, is_void_at, IsSound}
+use Rattle.ds_held.specs.Held.{Holding, held_items, held_changes, held_floors, held_for, held_count, floor_for, floor_count, floor_item}
+use Rattle.ds_held.specs.Held.{change_item, is_below, is_void_at, IsSound}
 use Rattle.ds_held.specs.Kept.{floored, IsFloorPlace}
 use Rattle.ds_index.proofs.FloorMarkLemmas.{floor_found, floor_missing}
 use Rattle.std.proofs.lemmas.Option.{get_or_from_slice_get}
@@ -40,7 +42,8 @@ no_floors : (cs : List ChangeRecord) → floors_in (map change_item cs) ≡ []
 no_floors [] = refl
 no_floors (c ∷ cs) = no_floors cs
 
-floors_before : (es : List (List ℕ × ℕ)) (cs : List ChangeRecord) → floors_in (map floor_item es ++ map change_item cs) ≡ map (λ (e : List ℕ × ℕ). floor_of e.0 e.1) es
+floors_before : (es : List (List ℕ × ℕ)) (cs : List ChangeRecord) →
+    floors_in (map floor_item es ++ map change_item cs) ≡ map (λ (e : List ℕ × ℕ). floor_of e.0 e.1) es
 floors_before [] cs = no_floors cs
 floors_before (e ∷ es) cs = ap (λ l. floor_of e.0 e.1 ∷ l) (floors_before es cs)
 
@@ -74,7 +77,8 @@ module _ (h : Holding) (sound : IsSound h) where
   pub floor_at-is : (owner : List ℕ) → floor_at (held_items h) owner ≡ option_map (floor_of owner) (floor_for h owner)
   floor_at-is owner = by_found (floor_at (held_items h) owner) refl (floor_for h owner) refl
     where
-      by_found : (o : Option Floor) → floor_at (held_items h) owner ≡ o → (p : Option ℕ) → floor_for h owner ≡ p → o ≡ option_map (floor_of owner) p
+      by_found : (o : Option Floor) → floor_at (held_items h) owner ≡ o → (p : Option ℕ) → floor_for h owner ≡ p →
+          o ≡ option_map (floor_of owner) p
       by_found (Some f) e p q =
           let at = owner_found (held_items h) owner f e in
           let here : p ≡ Some f.generation = sym q ∙ ap (λ (n : List ℕ). floor_for h n) at.1 ∙ is_held h sound (Floored f) at.0 in
@@ -107,7 +111,8 @@ pub generation_of : (owner : List ℕ) (o : Option ℕ) → o ≡ option_map (λ
 generation_of owner None = refl
 generation_of owner (Some g) = refl
 
-floor_there : (h : Holding) (owner : List ℕ) (place : Result ℕ ℕ) → IsFloorPlace (held_floors h) owner place → (i : ℕ) → place ≡ Ok i → (o : Option Floor) →
+floor_there : (h : Holding) (owner : List ℕ) (place : Result ℕ ℕ) → IsFloorPlace (held_floors h) owner place → (i : ℕ) → place ≡ Ok i →
+    (o : Option Floor) →
     o ≡ slice_get (held_floors h) i → option_map (λ (f : Floor). f.generation) o ≡ floor_for h owner
 floor_there h owner place p i q None e =
     let here : IsFloorPlace (held_floors h) owner (Ok i) = subst (IsFloorPlace (held_floors h) owner) q p in
@@ -115,38 +120,50 @@ floor_there h owner place p i q None e =
     let within = here.0 in
     absurd (omega (arith, past, within))
 floor_there h owner place p i q (Some f) e =
-    ap (λ (x : Floor). Some x.generation) (sym (get_or_from_slice_get (held_floors h) i f f (sym e))) ∙ sym (floor_found h owner i f (subst (IsFloorPlace (held_floors h) owner) q p))
+    ap (λ (x : Floor). Some x.generation) (sym (get_or_from_slice_get (held_floors h) i f f (sym e))) ∙
+    sym (floor_found h owner i f (subst (IsFloorPlace (held_floors h) owner) q p))
 
-pub generation_at : (h : Holding) (sound : IsSound h) (owner : List ℕ) (place : Result ℕ ℕ) → IsFloorPlace (held_floors h) owner place → (i : ℕ) → place ≡ Ok i → (o : Option Floor) → o ≡ slice_get (held_floors h) i
+pub generation_at : (h : Holding) (sound : IsSound h) (owner : List ℕ) (place : Result ℕ ℕ) → IsFloorPlace (held_floors h) owner place →
+    (i : ℕ) → place ≡ Ok i → (o : Option Floor) → o ≡ slice_get (held_floors h) i
     → option_map (λ (f : Floor). f.generation) o ≡ option_map (λ (f : Floor). f.generation) (floor_at (held_items h) owner)
 generation_at h sound owner place p i q o e =
-    floor_there h owner place p i q o e ∙ generation_of owner (floor_for h owner) ∙ ap (option_map (λ (f : Floor). f.generation)) (sym (floor_at-is h sound owner))
+    floor_there h owner place p i q o e ∙ generation_of owner (floor_for h owner) ∙
+    ap (option_map (λ (f : Floor). f.generation)) (sym (floor_at-is h sound owner))
 
-pub no_generation_at : (h : Holding) (sound : IsSound h) (owner : List ℕ) (place : Result ℕ ℕ) → IsFloorPlace (held_floors h) owner place → (i : ℕ) → place ≡ Err i
+pub no_generation_at : (h : Holding) (sound : IsSound h) (owner : List ℕ) (place : Result ℕ ℕ) → IsFloorPlace (held_floors h) owner place →
+    (i : ℕ) → place ≡ Err i
     → None ≡ option_map (λ (f : Floor). f.generation) (floor_at (held_items h) owner)
 no_generation_at h sound owner place p i q =
     ap (option_map (λ (f : Floor). f.generation))
-    (sym (floor_at-is h sound owner ∙ ap (option_map (floor_of owner)) (floor_missing h owner i (subst (IsFloorPlace (held_floors h) owner) q p))))
+    (sym (floor_at-is h sound owner ∙ ap (option_map (floor_of owner))
+    (floor_missing h owner i (subst (IsFloorPlace (held_floors h) owner) q p))))
 
 -- ---- what no cause applies to is taken
-change_by : (o : Option ChangeRecord) (count most : ℕ) (c : ChangeRecord) → HasRoom o count most c → AnswersFor o false count most c (Ok Taken)
+change_by : (o : Option ChangeRecord) (count most : ℕ) (c : ChangeRecord) → HasRoom o count most c →
+    AnswersFor o false count most c (Ok Taken)
 change_by None count most c room = room
 change_by (Some h) count most c room = inr room
 
-pub change_taken : (h : Holding) (sound : IsSound h) (c : ChangeRecord) → HasRoom (held_at (held_items h) c.key) (length (changes_in (held_items h))) h.limits.keys c → is_void (held_items h) c ≡ false → MergeAnswer h c (Ok Taken)
+pub change_taken : (h : Holding) (sound : IsSound h) (c : ChangeRecord) →
+    HasRoom (held_at (held_items h) c.key) (length (changes_in (held_items h))) h.limits.keys c → is_void (held_items h) c ≡ false →
+    MergeAnswer h c (Ok Taken)
 change_taken h sound c room kept =
     subst (λ b. AnswersFor (held_for h c.key) b (held_count h) h.limits.keys c (Ok Taken)) (sym (sym (void-is h sound c) ∙ kept))
     (change_by (held_for h c.key) (held_count h) h.limits.keys c
-    (subst (λ n. HasRoom (held_for h c.key) n h.limits.keys c) (changes_counted h) (subst (λ o. HasRoom o (length (changes_in (held_items h))) h.limits.keys c) (held_at-is h sound c.key) room)))
+    (subst (λ n. HasRoom (held_for h c.key) n h.limits.keys c) (changes_counted h)
+    (subst (λ o. HasRoom o (length (changes_in (held_items h))) h.limits.keys c) (held_at-is h sound c.key) room)))
 
-floor_by : (o : Option ℕ) (count : ℕ) (f : Floor) → HasFloorRoom (option_map (floor_of f.owner) o) count f → AnswersFloor o count f.generation (Ok Taken)
+floor_by : (o : Option ℕ) (count : ℕ) (f : Floor) → HasFloorRoom (option_map (floor_of f.owner) o) count f →
+    AnswersFloor o count f.generation (Ok Taken)
 floor_by None count f room = room
 floor_by (Some g) count f room = room
 
-pub floor_taken : (h : Holding) (sound : IsSound h) (f : Floor) → HasFloorRoom (floor_at (held_items h) f.owner) (length (floors_in (held_items h))) f → RaiseAnswer h f (Ok Taken)
+pub floor_taken : (h : Holding) (sound : IsSound h) (f : Floor) →
+    HasFloorRoom (floor_at (held_items h) f.owner) (length (floors_in (held_items h))) f → RaiseAnswer h f (Ok Taken)
 floor_taken h sound f room =
     floor_by (floor_for h f.owner) (floor_count h) f
-    (subst (λ n. HasFloorRoom (option_map (floor_of f.owner) (floor_for h f.owner)) n f) (floors_counted h) (subst (λ o. HasFloorRoom o (length (floors_in (held_items h))) f) (floor_at-is h sound f.owner) room))
+    (subst (λ n. HasFloorRoom (option_map (floor_of f.owner) (floor_for h f.owner)) n f) (floors_counted h)
+    (subst (λ o. HasFloorRoom o (length (floors_in (held_items h))) f) (floor_at-is h sound f.owner) room))
 
 -- ---- the item at an index
 module _ {X Y : Type 0} (f : X → Item) (g : Y → Item) where
@@ -170,14 +187,17 @@ map_both f g h [] e = refl
 map_both f g h (x ∷ xs) e = ap₂ ◌∷◌ (sym (e x)) (map_both f g h xs e)
 
 pub items_floored : (h : Holding) → held_items h ≡ map floored (held_floors h) ++ map change_item (held_changes h)
-items_floored h = ap (λ l. l ++ map change_item (held_changes h)) (map_both floored (λ (e : List ℕ × ℕ). floor_of e.0 e.1) floor_item (entries h.floors) (λ e. refl))
+items_floored h = ap (λ l. l ++ map change_item (held_changes h))
+    (map_both floored (λ (e : List ℕ × ℕ). floor_of e.0 e.1) floor_item (entries h.floors) (λ e. refl))
 
-pub floor_item_at : (h : Holding) (k : ℕ) → k < floor_count h → slice_get (held_items h) k ≡ option_map (λ f. Floored f) (slice_get (held_floors h) k)
+pub floor_item_at : (h : Holding) (k : ℕ) → k < floor_count h →
+    slice_get (held_items h) k ≡ option_map (λ f. Floored f) (slice_get (held_floors h) k)
 floor_item_at h k l =
     let n = count_floors h in
     ap (λ l. slice_get l k) (items_floored h) ∙ at_front floored change_item (held_floors h) (held_changes h) k (omega (arith, n, l))
 
-pub change_item_at : (h : Holding) (k j : ℕ) → k ≡ floor_count h + j → slice_get (held_items h) k ≡ option_map (λ c. Changed c) (slice_get (held_changes h) j)
+pub change_item_at : (h : Holding) (k j : ℕ) → k ≡ floor_count h + j →
+    slice_get (held_items h) k ≡ option_map (λ c. Changed c) (slice_get (held_changes h) j)
 change_item_at h k j e =
     let n = count_floors h in
     ap (λ l. slice_get l k) (items_floored h) ∙ at_back floored change_item (held_floors h) (held_changes h) k j (omega (arith, n, e))

@@ -1,5 +1,6 @@
 -- The masks of the item at an index, and whether the item is under a query.
-use Rattle.std.proofs.Common.{◌≡◌, ℕ, map, length-append, ◌+◌, ◌<◌, ◌≤◌, Bool, true, false, List, [], ◌∷◌, zero, suc, length, get_or, Option, Some, None, is_some, refl, ap, sym, ◌∙◌, subst, arith, Contains}
+use Rattle.std.proofs.Common.{◌≡◌, ℕ, map, length-append, ◌+◌, ◌<◌, ◌≤◌, Bool, true, false, List, [], ◌∷◌, zero, suc, length, get_or}
+use Rattle.std.proofs.Common.{Option, Some, None, is_some, refl, ap, sym, ◌∙◌, subst, arith, Contains}
 use Rattle.std.specs.Prelude.{slice_get}
 use Rattle.std.specs.Option.{option_map, option_map_or}
 use Rattle.std.proofs.lemmas.Option.{same_Some}
@@ -28,7 +29,8 @@ none_mapped f None e = refl
 none_mapped f (Some x) e = absurd (cc)
 
 -- without an element at an index, there is no mark
-pub none_beside : {X M : Type 0} (xs : List X) (ms : List M) (index : ℕ) → length ms ≡ length xs → slice_get xs index ≡ None → slice_get ms index ≡ None
+pub none_beside : {X M : Type 0} (xs : List X) (ms : List M) (index : ℕ) → length ms ≡ length xs → slice_get xs index ≡ None →
+    slice_get ms index ≡ None
 none_beside xs [] index e none = refl
 none_beside [] (m ∷ ms) index e none = absurd (omega (arith, e))
 none_beside (x ∷ xs) (m ∷ ms) zero e none = absurd (cc)
@@ -36,26 +38,32 @@ none_beside (x ∷ xs) (m ∷ ms) (suc index) e none = none_beside xs ms index (
 
 module _ (h : MarkedHolding Masks) (index : ℕ) (r : Option Masks) where
   module _ (low : index < floor_count h.held) where
-    floor_by : (o : Option Floor) → slice_get (held_floors h.held) index ≡ o → ((f : Floor) → o ≡ Some f → r ≡ floor_mark_for h f.owner) → (i : Item) → option_map (λ f. Floored f) o ≡ Some i → r ≡ masks_at h i
+    floor_by : (o : Option Floor) → slice_get (held_floors h.held) index ≡ o → ((f : Floor) → o ≡ Some f → r ≡ floor_mark_for h f.owner) →
+        (i : Item) → option_map (λ f. Floored f) o ≡ Some i → r ≡ masks_at h i
     floor_by None e here i q = absurd (cc)
     floor_by (Some f) e here i q = subst (λ (x : Item). r ≡ masks_at h x) (same_Some (Floored f) i q) (here f refl)
 
-    pub floor_beside : ((f : Floor) → slice_get (held_floors h.held) index ≡ Some f → r ≡ floor_mark_for h f.owner) → (i : Item) → slice_get (held_items h.held) index ≡ Some i → r ≡ masks_at h i
+    pub floor_beside : ((f : Floor) → slice_get (held_floors h.held) index ≡ Some f → r ≡ floor_mark_for h f.owner) → (i : Item) →
+        slice_get (held_items h.held) index ≡ Some i → r ≡ masks_at h i
     floor_beside here i e = floor_by (slice_get (held_floors h.held) index) refl here i (sym (floor_item_at h.held index low) ∙ e)
 
     pub floor_none : (slice_get (held_floors h.held) index ≡ None → r ≡ None) → slice_get (held_items h.held) index ≡ None → r ≡ None
-    floor_none none e = none (none_mapped (λ f. Floored f) (slice_get (held_floors h.held) index) (sym (floor_item_at h.held index low) ∙ e))
+    floor_none none e = none (none_mapped (λ f. Floored f) (slice_get (held_floors h.held) index)
+        (sym (floor_item_at h.held index low) ∙ e))
 
   module _ (j : ℕ) (high : index ≡ floor_count h.held + j) where
-    change_by : (o : Option ChangeRecord) → slice_get (held_changes h.held) j ≡ o → ((c : ChangeRecord) → o ≡ Some c → r ≡ mark_for h c.key) → (i : Item) → option_map (λ c. Changed c) o ≡ Some i → r ≡ masks_at h i
+    change_by : (o : Option ChangeRecord) → slice_get (held_changes h.held) j ≡ o →
+        ((c : ChangeRecord) → o ≡ Some c → r ≡ mark_for h c.key) → (i : Item) → option_map (λ c. Changed c) o ≡ Some i → r ≡ masks_at h i
     change_by None e here i q = absurd (cc)
     change_by (Some c) e here i q = subst (λ (x : Item). r ≡ masks_at h x) (same_Some (Changed c) i q) (here c refl)
 
-    pub change_beside : ((c : ChangeRecord) → slice_get (held_changes h.held) j ≡ Some c → r ≡ mark_for h c.key) → (i : Item) → slice_get (held_items h.held) index ≡ Some i → r ≡ masks_at h i
+    pub change_beside : ((c : ChangeRecord) → slice_get (held_changes h.held) j ≡ Some c → r ≡ mark_for h c.key) → (i : Item) →
+        slice_get (held_items h.held) index ≡ Some i → r ≡ masks_at h i
     change_beside here i e = change_by (slice_get (held_changes h.held) j) refl here i (sym (change_item_at h.held index j high) ∙ e)
 
     pub change_none : (slice_get (held_changes h.held) j ≡ None → r ≡ None) → slice_get (held_items h.held) index ≡ None → r ≡ None
-    change_none none e = none (none_mapped (λ c. Changed c) (slice_get (held_changes h.held) j) (sym (change_item_at h.held index j high) ∙ e))
+    change_none none e = none (none_mapped (λ c. Changed c) (slice_get (held_changes h.held) j)
+        (sym (change_item_at h.held index j high) ∙ e))
 
 -- ---- the item itself
 pub floor_there : (h : Holding) (index : ℕ) → index < floor_count h → (f : Floor) × (slice_get (held_floors h) index ≡ Some f)
@@ -65,50 +73,62 @@ floor_there h index low = by_found (slice_get (held_floors h) index) refl
     by_found (Some f) e = (f, e)
     by_found None e = let past = past_end (held_floors h) index e in let n = count_floors h in absurd (omega (arith, past, n, low))
 
-pub floor_under : (h : Holding) (index : ℕ) (q : Query) → index < floor_count h → Some true ≡ option_map (passes (is_under q)) (slice_get (held_items h) index)
+pub floor_under : (h : Holding) (index : ℕ) (q : Query) → index < floor_count h →
+    Some true ≡ option_map (passes (is_under q)) (slice_get (held_items h) index)
 floor_under h index q low =
     let r = floor_there h index low in
     sym (ap (option_map (passes (is_under q))) (floor_item_at h index low ∙ ap (option_map (λ f. Floored f)) r.1))
 
-pub change_under : (h : Holding) (index j : ℕ) (q : Query) (o : Option ChangeRecord) → index ≡ floor_count h + j → o ≡ slice_get (held_changes h) j →
+pub change_under : (h : Holding) (index j : ℕ) (q : Query) (o : Option ChangeRecord) → index ≡ floor_count h + j →
+    o ≡ slice_get (held_changes h) j →
     option_map (λ (c : ChangeRecord). is_under q c.key) o ≡ option_map (passes (is_under q)) (slice_get (held_items h) index)
-change_under h index j q None e is = sym (ap (option_map (passes (is_under q))) (change_item_at h index j e ∙ ap (option_map (λ c. Changed c)) (sym is)))
-change_under h index j q (Some c) e is = sym (ap (option_map (passes (is_under q))) (change_item_at h index j e ∙ ap (option_map (λ c. Changed c)) (sym is)))
+change_under h index j q None e is = sym (ap (option_map (passes (is_under q)))
+    (change_item_at h index j e ∙ ap (option_map (λ c. Changed c)) (sym is)))
+change_under h index j q (Some c) e is = sym
+    (ap (option_map (passes (is_under q))) (change_item_at h index j e ∙ ap (option_map (λ c. Changed c)) (sym is)))
 
-pub flag_there : (q : Query) (o : Option Item) (b : Bool) → Some b ≡ option_map (passes (is_under q)) o → (i : Item) × (o ≡ Some i) × (b ≡ passes (is_under q) i)
+pub flag_there : (q : Query) (o : Option Item) (b : Bool) → Some b ≡ option_map (passes (is_under q)) o →
+    (i : Item) × (o ≡ Some i) × (b ≡ passes (is_under q) i)
 flag_there q None b e = absurd (cc)
 flag_there q (Some i) b e = (i, refl, same_Some b (passes (is_under q) i) e)
 
 -- ---- a copy of the item
 module _ (h : Holding) (index : ℕ) where
-  pub floor_copied : index < floor_count h → (f : Floor) → Some f ≡ slice_get (held_floors h) index → Some (Floored f) ≡ slice_get (held_items h) index
+  pub floor_copied : index < floor_count h → (f : Floor) → Some f ≡ slice_get (held_floors h) index →
+      Some (Floored f) ≡ slice_get (held_items h) index
   floor_copied low f e = sym (floor_item_at h index low ∙ ap (option_map (λ f. Floored f)) (sym e))
 
   pub no_floor_copied : index < floor_count h → None ≡ slice_get (held_floors h) index → None ≡ slice_get (held_items h) index
   no_floor_copied low e = sym (floor_item_at h index low ∙ ap (option_map (λ f. Floored f)) (sym e))
 
-  pub change_copied : (j : ℕ) → index ≡ floor_count h + j → (c d : ChangeRecord) → d ≡ c → Some c ≡ slice_get (held_changes h) j → Some (Changed d) ≡ slice_get (held_items h) index
-  change_copied j high c d same e = sym (change_item_at h index j high ∙ ap (option_map (λ c. Changed c)) (sym e) ∙ ap (λ x. Some (Changed x)) (sym same))
+  pub change_copied : (j : ℕ) → index ≡ floor_count h + j → (c d : ChangeRecord) → d ≡ c → Some c ≡ slice_get (held_changes h) j →
+      Some (Changed d) ≡ slice_get (held_items h) index
+  change_copied j high c d same e = sym (change_item_at h index j high ∙ ap (option_map (λ c. Changed c)) (sym e) ∙
+      ap (λ x. Some (Changed x)) (sym same))
 
   pub no_change_copied : (j : ℕ) → index ≡ floor_count h + j → None ≡ slice_get (held_changes h) j → None ≡ slice_get (held_items h) index
   no_change_copied j high e = sym (change_item_at h index j high ∙ ap (option_map (λ c. Changed c)) (sym e))
 
 -- ---- each held item has masks
-has_masks : (h : MarkedHolding Masks) → HasMarks h → IsSound h.held → (i : Item) → Contains (held_items h.held) i → is_some (masks_at h i) ≡ true
+has_masks : (h : MarkedHolding Masks) → HasMarks h → IsSound h.held → (i : Item) → Contains (held_items h.held) i →
+    is_some (masks_at h i) ≡ true
 has_masks h marked sound (Changed c) k = marked.keys c.key ∙ ap is_some (is_held h.held sound (Changed c) k)
 has_masks h marked sound (Floored f) k = marked.owners f.owner ∙ ap is_some (is_held h.held sound (Floored f) k)
 
 module _ (h : MarkedHolding Masks) (marked : HasMarks h) (sound : IsSound h.held) (index : ℕ) where
   -- without masks, there is no item
-  pub no_masks : ((i : Item) → slice_get (held_items h.held) index ≡ Some i → None ≡ masks_at h i) → slice_get (held_items h.held) index ≡ None
+  pub no_masks : ((i : Item) → slice_get (held_items h.held) index ≡ Some i → None ≡ masks_at h i) →
+      slice_get (held_items h.held) index ≡ None
   no_masks here = by_found (slice_get (held_items h.held) index) refl
     where
       by_found : (o : Option Item) → slice_get (held_items h.held) index ≡ o → o ≡ None
       by_found None e = refl
-      by_found (Some i) e = absurd (let no : true ≡ false = sym (has_masks h marked sound i (index_among (held_items h.held) index i e)) ∙ ap is_some (sym (here i e)) in cc)
+      by_found (Some i) e = absurd (let no : true ≡ false =
+          sym (has_masks h marked sound i (index_among (held_items h.held) index i e)) ∙ ap is_some (sym (here i e)) in cc)
 
 -- and where there are some, one does
-pub masks_there : (h : MarkedHolding Masks) (index : ℕ) (m : Masks) → (slice_get (held_items h.held) index ≡ None → Some m ≡ None) → (i : Item) × (slice_get (held_items h.held) index ≡ Some i)
+pub masks_there : (h : MarkedHolding Masks) (index : ℕ) (m : Masks) → (slice_get (held_items h.held) index ≡ None → Some m ≡ None) →
+    (i : Item) × (slice_get (held_items h.held) index ≡ Some i)
 masks_there h index m none = by_found (slice_get (held_items h.held) index) refl
   where
     by_found : (o : Option Item) → slice_get (held_items h.held) index ≡ o → (i : Item) × (slice_get (held_items h.held) index ≡ Some i)
@@ -116,7 +136,8 @@ masks_there h index m none = by_found (slice_get (held_items h.held) index) refl
     by_found None e = absurd (let no : Some m ≡ None = none e in cc)
 
 -- its flag is the mask's
-pub flag_is : (h : MarkedHolding Masks) (index sub : ℕ) (m : Masks) (i : Item) → Some m ≡ masks_at h i → get_or m.unseen sub false ≡ is_to_show h sub i
+pub flag_is : (h : MarkedHolding Masks) (index sub : ℕ) (m : Masks) (i : Item) → Some m ≡ masks_at h i →
+    get_or m.unseen sub false ≡ is_to_show h sub i
 flag_is h index sub m i e = ap (λ (o : Option Masks). get_or (option_map_or (λ (x : Masks). x.unseen) o []) sub false) e
 
 pub same_item : (o : Option Item) (i j : Item) → o ≡ Some i → Some j ≡ o → j ≡ i
@@ -124,7 +145,8 @@ same_item o i j e f = same_Some j i (f ∙ e)
 
 -- ---- how many items are held
 
-pub few_items : (h : Holding) (l : LimitsRecord) (count floors : ℕ) → l ≡ h.limits → IsLimits l → count ≡ held_count h → count ≤ h.limits.keys → floors ≡ floor_count h → floors ≤ 64 → length (held_items h) ≤ 4160
+pub few_items : (h : Holding) (l : LimitsRecord) (count floors : ℕ) → l ≡ h.limits → IsLimits l → count ≡ held_count h →
+    count ≤ h.limits.keys → floors ≡ floor_count h → floors ≤ 64 → length (held_items h) ≤ 4160
 few_items h l count floors e is c low f few =
     let bound = few_keys l is in
     let keys : l.keys ≡ h.limits.keys = ap (λ (x : LimitsRecord). x.keys) e in

@@ -1,5 +1,6 @@
 -- What a content stands for at its opening, and small facts about what it returns.
-use Rattle.std.proofs.Common.{◌≡◌, ℕ, zero, suc, ◌≤◌, Bool, false, List, [], ◌∷◌, ◌++◌, map, length, replicate, Option, None, Result, Ok, Err, IfOk, refl, ap, ap₂, sym, ◌∙◌, subst, arith, Contains}
+use Rattle.std.proofs.Common.{◌≡◌, ℕ, zero, suc, ◌≤◌, Bool, false, List, [], ◌∷◌, ◌++◌, map, length, replicate, Option, None, Result, Ok}
+use Rattle.std.proofs.Common.{Err, IfOk, refl, ap, ap₂, sym, ◌∙◌, subst, arith, Contains}
 use Rattle.std.proofs.lemmas.List.{length-replicate}
 use Rattle.std.specs.FinMap.{entries, len, len-entries, len-empty}
 use Rattle.std.specs.Option.{option_map}
@@ -37,16 +38,20 @@ no_changes h e = no_length (entries h.changes) (omega (arith, len-entries h.chan
 pub nothing_is_held : (limits : LimitsRecord) → held_items (nothing_held limits) ≡ []
 nothing_is_held limits =
     let h = nothing_held limits in
-    ap₂ (λ (fs : List (List ℕ × ℕ)) (es : List (Key × ChangeRecord)). map floor_item fs ++ map change_item (map (λ (e : Key × ChangeRecord). e.1) es)) (no_floors h (len-empty name_cmp ℕ)) (no_changes h (len-empty key_cmp ChangeRecord))
+    ap₂ (λ (fs : List (List ℕ × ℕ)) (es : List (Key × ChangeRecord)).
+    map floor_item fs ++ map change_item (map (λ (e : Key × ChangeRecord). e.1) es)) (no_floors h (len-empty name_cmp ℕ))
+    (no_changes h (len-empty key_cmp ChangeRecord))
 
 -- ---- the opening state
 
-none_from : (hs gs : List Item) (u : Item → List Bool) (place n : ℕ) → followed_from hs u place (replicate n None) ≡ map (option_map (followed_of gs)) (replicate n None)
+none_from : (hs gs : List Item) (u : Item → List Bool) (place n : ℕ) →
+    followed_from hs u place (replicate n None) ≡ map (option_map (followed_of gs)) (replicate n None)
 none_from hs gs u place zero = refl
 none_from hs gs u place (suc n) = ap (λ fs. None ∷ fs) (none_from hs gs u (suc place) n)
 
 -- ---- nothing is held, and there is no subscription
-module _ (h : MarkedHolding Masks) (ws : List (Option Watching)) (limits : LimitsRecord) (nothing : h ≡ nothing_marked limits) (none : ws ≡ replicate limits.subs None) where
+module _ (h : MarkedHolding Masks) (ws : List (Option Watching)) (limits : LimitsRecord) (nothing : h ≡ nothing_marked limits)
+    (none : ws ≡ replicate limits.subs None) where
   nothing_here : held_items h.held ≡ []
   nothing_here = ap (λ (x : MarkedHolding Masks). held_items x.held) nothing ∙ nothing_is_held limits
 
@@ -54,7 +59,8 @@ module _ (h : MarkedHolding Masks) (ws : List (Option Watching)) (limits : Limit
   bounds_here = ap (λ (x : MarkedHolding Masks). x.held.limits) nothing
 
   pub places_here : length ws ≡ h.held.limits.subs
-  places_here = ap (λ (l : List (Option Watching)). length l) none ∙ length-replicate {A = Option Watching} limits.subs None ∙ ap (λ (l : LimitsRecord). l.subs) (sym bounds_here)
+  places_here = ap (λ (l : List (Option Watching)). length l) none ∙ length-replicate {A = Option Watching} limits.subs None ∙
+      ap (λ (l : LimitsRecord). l.subs) (sym bounds_here)
 
   pub none_marked : AreMarked h ws
   none_marked = record {
@@ -68,14 +74,24 @@ module _ (h : MarkedHolding Masks) (ws : List (Option Watching)) (limits : Limit
     each = λ i k h t. absurd (Contains-nil i (subst (λ (l : List Item). Contains l i) nothing_here h));
   }
 
-  pub stands_opening : (journal : Kept) (incarnation first ring stamp : ℕ) → Keeps journal (feeds.opening_feed incarnation first ring) → stamp ≡ first → IsLimits limits → first ≤ last_place
-      → ContentStands (record { held = held_items h.held; journal = journal; limits = h.held.limits; stamp = stamp; subscriptions = followed_from (held_items h.held) (unseen_at h) 0 ws }) (opening incarnation first ring limits)
+  pub stands_opening : (journal : Kept) (incarnation first ring stamp : ℕ) → Keeps journal (feeds.opening_feed incarnation first ring) →
+      stamp ≡ first → IsLimits limits → first ≤ last_place
+      → ContentStands
+      (record {
+        held = held_items h.held;
+        journal = journal;
+        limits = h.held.limits;
+        stamp = stamp;
+        subscriptions =
+            followed_from (held_items h.held) (unseen_at h) 0 ws;
+      }) (opening incarnation first ring limits)
   stands_opening journal incarnation first ring stamp keeps is bounds low = record {
     held = nothing_here;
     journal = keeps;
     limits = bounds_here;
     stamp = is;
-    subscriptions = ap (followed_from (held_items h.held) (unseen_at h) 0) none ∙ none_from (held_items h.held) [] (unseen_at h) 0 limits.subs;
+    subscriptions = ap (followed_from (held_items h.held) (unseen_at h) 0) none ∙
+        none_from (held_items h.held) [] (unseen_at h) 0 limits.subs;
     reached = opening_is_reached incarnation first ring limits bounds;
     within = opening_is_within incarnation first ring limits low;
   }

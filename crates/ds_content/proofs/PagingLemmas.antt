@@ -1,5 +1,6 @@
 -- Pages of what is held.
-use Rattle.std.proofs.Common.{◌≡◌, ◌≢◌, ℕ, zero, suc, ◌+◌, ◌-◌, ◌<◌, ◌≤◌, ◌==◌, nat_le, Bool, true, false, not, cond, List, [], ◌∷◌, ◌++◌, map, filter, take, drop, length, Option, Some, None, is_none}
+use Rattle.std.proofs.Common.{◌≡◌, ◌≢◌, ℕ, zero, suc, ◌+◌, ◌-◌, ◌<◌, ◌≤◌, ◌==◌, nat_le, Bool, true, false, not, cond, List, [], ◌∷◌, ◌++◌}
+use Rattle.std.proofs.Common.{map, filter, take, drop, length, Option, Some, None, is_none}
 use Rattle.std.proofs.Common.{refl, ap, ap₂, sym, ◌∙◌, inl, inr, ◌⊎◌, arith, append_assoc, append-nil, length-append, eqb-true}
 use Rattle.std.proofs.lemmas.Bool.{eqb-false, le-leb, lt-leb}
 use Rattle.std.proofs.lemmas.Option.{same_Some}
@@ -29,7 +30,8 @@ front [] (y ∷ ys) = refl
 front (x ∷ xs) ys = ap (λ l. x ∷ l) (front xs ys)
 
 -- ---- one change after the other
-split : (i : ℕ) (cs : List ChangeRecord) (c : ChangeRecord) → slice_get cs i ≡ Some c → (take (i + 1) cs ≡ take i cs ++ c ∷ []) × (drop i cs ≡ c ∷ drop (i + 1) cs)
+split : (i : ℕ) (cs : List ChangeRecord) (c : ChangeRecord) → slice_get cs i ≡ Some c →
+    (take (i + 1) cs ≡ take i cs ++ c ∷ []) × (drop i cs ≡ c ∷ drop (i + 1) cs)
 split i [] c e = absurd (cc)
 split zero (d ∷ cs) c e = (ap (λ (y : ChangeRecord). y ∷ []) (same_Some d c e), ap (λ (y : ChangeRecord). y ∷ cs) (same_Some d c e))
 split (suc i) (d ∷ cs) c e =
@@ -44,9 +46,11 @@ pub from_there : (first index : ℕ) (cs : List ChangeRecord) → first ≤ inde
 from_there zero index cs low = ap (slice_get cs) (omega arith)
 from_there (suc first) index [] low = refl
 from_there (suc first) zero (c ∷ cs) low = absurd (omega (arith, low))
-from_there (suc first) (suc index) (c ∷ cs) low = ap (slice_get (drop first cs)) (omega arith) ∙ from_there first index cs (omega (arith, low))
+from_there (suc first) (suc index) (c ∷ cs) low =
+    ap (slice_get (drop first cs)) (omega arith) ∙ from_there first index cs (omega (arith, low))
 
-pub past_all : (first index : ℕ) (cs : List ChangeRecord) → first ≤ index → slice_get cs index ≡ None → length (drop first cs) ≤ index - first
+pub past_all : (first index : ℕ) (cs : List ChangeRecord) → first ≤ index → slice_get cs index ≡ None →
+    length (drop first cs) ≤ index - first
 past_all first index cs low none = let past = past_end cs index none in let long = length-drop first cs in omega (arith, past, long, low)
 
 -- if no more fit, none is added
@@ -67,7 +71,8 @@ module _ (keep : Key → Bool) (cs : List ChangeRecord) (max : ℕ) (start : Lis
     done = admitted keep (take seen cs)
 
     -- all were seen
-    pub paged_all : length cs ≤ seen → (items ≡ start ++ map change_item (take max (admitted keep cs))) × (nat_le (length (admitted keep cs)) max ≡ true)
+    pub paged_all : length cs ≤ seen → (items ≡ start ++ map change_item (take max (admitted keep cs))) ×
+        (nat_le (length (admitted keep cs)) max ≡ true)
     paged_all all =
         let whole : done ≡ admitted keep cs = ap (admitted keep) (few_taken seen cs all) in
         let few : length (admitted keep cs) ≤ max = omega (arith, ap (λ (l : List ChangeRecord). length l) whole, p.count) in (
@@ -77,35 +82,46 @@ module _ (keep : Key → Bool) (cs : List ChangeRecord) (max : ℕ) (start : Lis
 
     module _ (c : ChangeRecord) (found : slice_get cs seen ≡ Some c) where
       -- the change is under the scope, and no more fit
-      pub paged_full : (b : Bool) → keep c.key ≡ b → None ≡ more_after b left → (items ≡ start ++ map change_item (take max (admitted keep cs))) × (nat_le (length (admitted keep cs)) max ≡ false)
+      pub paged_full : (b : Bool) → keep c.key ≡ b → None ≡ more_after b left →
+          (items ≡ start ++ map change_item (take max (admitted keep cs))) × (nat_le (length (admitted keep cs)) max ≡ false)
       paged_full false e m = absurd (cc)
       paged_full true e m = by_left (left == 0) refl m
         where
           tail : List ChangeRecord
           tail = admitted keep (drop (seen + 1) cs)
 
-          by_left : (z : Bool) → (left == 0) ≡ z → None ≡ cond z None (Some (left - 1)) → (items ≡ start ++ map change_item (take max (admitted keep cs))) × (nat_le (length (admitted keep cs)) max ≡ false)
+          by_left : (z : Bool) → (left == 0) ≡ z → None ≡ cond z None (Some (left - 1)) →
+              (items ≡ start ++ map change_item (take max (admitted keep cs))) × (nat_le (length (admitted keep cs)) max ≡ false)
           by_left false q m = absurd (cc)
           by_left true q m =
               let none : left ≡ 0 = eqb-true left 0 q in
-              let rest : admitted keep (drop seen cs) ≡ c ∷ tail = ap (admitted keep) (split seen cs c found).1 ∙ ap (λ x. cond x (c ∷ tail) tail) e in
-              let all : done ++ c ∷ tail ≡ admitted keep cs = ap (λ l. done ++ l) (sym rest) ∙ sym (filter-append (λ (x : ChangeRecord). keep x.key) (take seen cs) (drop seen cs)) ∙ ap (admitted keep) (take-append-drop seen cs) in
+              let rest : admitted keep (drop seen cs) ≡ c ∷ tail =
+              ap (admitted keep) (split seen cs c found).1 ∙ ap (λ x. cond x (c ∷ tail) tail) e in
+              let all : done ++ c ∷ tail ≡ admitted keep cs =
+              ap (λ l. done ++ l) (sym rest) ∙ sym (filter-append (λ (x : ChangeRecord). keep x.key) (take seen cs) (drop seen cs)) ∙
+              ap (admitted keep) (take-append-drop seen cs) in
               let long : length done ≡ max = omega (arith, p.count, none) in
-              let more : length (admitted keep cs) ≡ length done + length (c ∷ tail) = ap (λ (l : List ChangeRecord). length l) (sym all) ∙ length-append done (c ∷ tail) in
+              let more : length (admitted keep cs) ≡ length done + length (c ∷ tail) =
+              ap (λ (l : List ChangeRecord). length l) (sym all) ∙ length-append done (c ∷ tail) in
               let over : max < length (admitted keep cs) = omega (arith, more, long) in (
-                p.items_are ∙ ap (λ l. start ++ map change_item l) (sym (ap₂ (λ n (l : List ChangeRecord). take n l) (sym long) (sym all) ∙ front done (c ∷ tail))),
+                p.items_are ∙ ap (λ l. start ++ map change_item l)
+                    (sym (ap₂ (λ n (l : List ChangeRecord). take n l) (sym long) (sym all) ∙ front done (c ∷ tail))),
                 lt-leb (length (admitted keep cs)) max over,
               )
 
       -- then it isn't added
-      pub paged_stops : (b : Bool) → keep c.key ≡ b → None ≡ more_after b left → (added : List Item) → added ≡ items ++ map change_item (given_change b left c) → added ≡ start ++ map change_item (take max (admitted keep cs))
-      paged_stops b e m added is = is ∙ ap (λ l. items ++ map change_item l) (none_given b left c m) ∙ append-nil items ∙ (paged_full b e m).0
+      pub paged_stops : (b : Bool) → keep c.key ≡ b → None ≡ more_after b left → (added : List Item) →
+          added ≡ items ++ map change_item (given_change b left c) → added ≡ start ++ map change_item (take max (admitted keep cs))
+      paged_stops b e m added is = is ∙ ap (λ l. items ++ map change_item l) (none_given b left c m) ∙ append-nil items ∙
+          (paged_full b e m).0
 
       -- it is passed over, or added
       next_is : (b : Bool) → keep c.key ≡ b → admitted keep (take (seen + 1) cs) ≡ done ++ cond b (c ∷ []) []
-      next_is b e = ap (admitted keep) (split seen cs c found).0 ∙ filter-append (λ (x : ChangeRecord). keep x.key) (take seen cs) (c ∷ []) ∙ ap (λ x. done ++ cond x (c ∷ []) []) e
+      next_is b e = ap (admitted keep) (split seen cs c found).0 ∙
+          filter-append (λ (x : ChangeRecord). keep x.key) (take seen cs) (c ∷ []) ∙ ap (λ x. done ++ cond x (c ∷ []) []) e
 
-      pub paged_more : (b : Bool) → keep c.key ≡ b → (more : ℕ) → Some more ≡ more_after b left → (added : List Item) → added ≡ items ++ map change_item (given_change b left c) → ChangesArePaged keep cs (seen + 1) max more start added
+      pub paged_more : (b : Bool) → keep c.key ≡ b → (more : ℕ) → Some more ≡ more_after b left → (added : List Item) →
+          added ≡ items ++ map change_item (given_change b left c) → ChangesArePaged keep cs (seen + 1) max more start added
       paged_more false e more m added is =
           let next : admitted keep (take (seen + 1) cs) ≡ done = next_is false e ∙ append-nil done in
           record {
@@ -114,7 +130,8 @@ module _ (keep : Key → Bool) (cs : List ChangeRecord) (max : ℕ) (start : Lis
           }
       paged_more true e more m added is = by_left (left == 0) refl m is
         where
-          by_left : (z : Bool) → (left == 0) ≡ z → Some more ≡ cond z None (Some (left - 1)) → added ≡ items ++ map change_item (cond (not z) (c ∷ []) []) → ChangesArePaged keep cs (seen + 1) max more start added
+          by_left : (z : Bool) → (left == 0) ≡ z → Some more ≡ cond z None (Some (left - 1)) →
+              added ≡ items ++ map change_item (cond (not z) (c ∷ []) []) → ChangesArePaged keep cs (seen + 1) max more start added
           by_left true q m is = absurd (cc)
           by_left false q m is =
               let same : more ≡ left - 1 = cc in
@@ -134,12 +151,16 @@ module _ (keep : Key → Bool) where
   after_is (Some a) c = refl
 
   -- of the changes
-  changes_to_come : (after : Option Key) (cs : List ChangeRecord) → still_to_come (passes keep) after (map change_item cs) ≡ map change_item (to_come keep after cs)
+  changes_to_come : (after : Option Key) (cs : List ChangeRecord) →
+      still_to_come (passes keep) after (map change_item cs) ≡ map change_item (to_come keep after cs)
   changes_to_come after [] = refl
-  changes_to_come after (c ∷ cs) = by_test (changes_to_come after cs) (keep c.key) (is_after_key after (Changed c)) (comes_after after c) refl refl (after_is after c)
+  changes_to_come after (c ∷ cs) = by_test (changes_to_come after cs) (keep c.key) (is_after_key after (Changed c)) (comes_after after c)
+      refl refl (after_is after c)
     where
-      by_test : still_to_come (passes keep) after (map change_item cs) ≡ map change_item (to_come keep after cs) → (k b d : Bool) → keep c.key ≡ k → is_after_key after (Changed c) ≡ b → b ≡ d
-          → filter (is_after_key after) (cond k (Changed c ∷ filter (passes keep) (map change_item cs)) (filter (passes keep) (map change_item cs))) ≡ map change_item
+      by_test : still_to_come (passes keep) after (map change_item cs) ≡ map change_item (to_come keep after cs) → (k b d : Bool) →
+          keep c.key ≡ k → is_after_key after (Changed c) ≡ b → b ≡ d
+          → filter (is_after_key after) (cond k (Changed c ∷ filter (passes keep) (map change_item cs))
+          (filter (passes keep) (map change_item cs))) ≡ map change_item
           (filter (λ (x : ChangeRecord). keep x.key) (cond d (c ∷ filter (comes_after after) cs) (filter (comes_after after) cs)))
       by_test rest k true false e f g = absurd (cc)
       by_test rest k false true e f g = absurd (cc)
@@ -157,13 +178,15 @@ module _ (keep : Key → Bool) where
   all_changes (c ∷ cs) = ap (λ l. Changed c ∷ l) (all_changes cs)
 
   -- with the floors before them
-  floors_first : (after : Option Key) (fs : List Floor) (cs : List ChangeRecord) → floors_of (still_to_come (passes keep) after (map floored fs ++ map change_item cs)) ≡ cond (is_none after) (map floored fs) []
+  floors_first : (after : Option Key) (fs : List Floor) (cs : List ChangeRecord) →
+      floors_of (still_to_come (passes keep) after (map floored fs ++ map change_item cs)) ≡ cond (is_none after) (map floored fs) []
   floors_first None [] cs = ap floors_of (changes_to_come None cs) ∙ no_floors (to_come keep None cs)
   floors_first (Some a) [] cs = ap floors_of (changes_to_come (Some a) cs) ∙ no_floors (to_come keep (Some a) cs)
   floors_first None (f ∷ fs) cs = ap (λ l. Floored f ∷ l) (floors_first None fs cs)
   floors_first (Some a) (f ∷ fs) cs = floors_first (Some a) fs cs
 
-  changes_then : (after : Option Key) (fs : List Floor) (cs : List ChangeRecord) → changes_of (still_to_come (passes keep) after (map floored fs ++ map change_item cs)) ≡ map change_item (to_come keep after cs)
+  changes_then : (after : Option Key) (fs : List Floor) (cs : List ChangeRecord) →
+      changes_of (still_to_come (passes keep) after (map floored fs ++ map change_item cs)) ≡ map change_item (to_come keep after cs)
   changes_then after [] cs = ap changes_of (changes_to_come after cs) ∙ all_changes (to_come keep after cs)
   changes_then None (f ∷ fs) cs = changes_then None fs cs
   changes_then (Some a) (f ∷ fs) cs = changes_then (Some a) fs cs
@@ -177,17 +200,20 @@ module _ (keep : Key → Bool) where
   take_mapped (suc n) [] = refl
   take_mapped (suc n) (c ∷ cs) = ap (λ l. Changed c ∷ l) (take_mapped n cs)
 
-  page_same : {xs ys : List Item} {a b : Bool} (cursor : Cursor) → xs ≡ ys → a ≡ b → let one : Page = record { items = xs; last = a; cursor = cursor } in one ≡ record { items = ys; last = b; cursor = cursor }
+  page_same : {xs ys : List Item} {a b : Bool} (cursor : Cursor) → xs ≡ ys → a ≡ b → let one : Page =
+      record { items = xs; last = a; cursor = cursor } in one ≡ record { items = ys; last = b; cursor = cursor }
   page_same cursor e f = λ i. record { items = e i; last = f i; cursor = cursor }
 
   pub page_is : (h : Holding) (after : Option Key) (max : ℕ) (cursor : Cursor) (items : List Item) (last : Bool) →
       items ≡ cond (is_none after) (map floored (held_floors h)) [] ++ map change_item (take max (to_come keep after (held_changes h)))
-      → last ≡ nat_le (length (to_come keep after (held_changes h))) max → let one : Page = record { items = items; last = last; cursor = cursor } in one ≡ page_of (passes keep) after max (held_items h) cursor
+      → last ≡ nat_le (length (to_come keep after (held_changes h))) max → let one : Page =
+      record { items = items; last = last; cursor = cursor } in one ≡ page_of (passes keep) after max (held_items h) cursor
   page_is h after max cursor items last is end =
       let fs = held_floors h in
       let cs = held_changes h in
       let changes = changes_then after fs cs in
-      page_same cursor (is ∙ ap₂ (λ l m. l ++ m) (sym (floors_first after fs cs)) (sym (take_mapped max (to_come keep after cs)) ∙ ap (take max) (sym changes)))
+      page_same cursor (is ∙ ap₂ (λ l m. l ++ m) (sym (floors_first after fs cs))
+      (sym (take_mapped max (to_come keep after cs)) ∙ ap (take max) (sym changes)))
       (end ∙ ap (λ n. nat_le n max) (sym (length_mapped (to_come keep after cs)) ∙ ap (λ (l : List Item). length l) (sym changes)))
       ∙ ap (λ l. page_of (passes keep) after max l cursor) (sym (items_floored h))
 
@@ -200,11 +226,13 @@ floor_next (suc n) (g ∷ fs) f e =
     let next : suc n + 1 ≡ suc (n + 1) = omega arith in
     ap (λ m. take m (g ∷ fs)) next ∙ ap (λ (l : List Floor). g ∷ l) more
 
-pub floors_more : (fs : List Floor) (n : ℕ) (f : Floor) (items more : List Item) → items ≡ map floored (take n fs) → slice_get fs n ≡ Some f → more ≡ items ++ Floored f ∷ [] → more ≡ map floored (take (n + 1) fs)
+pub floors_more : (fs : List Floor) (n : ℕ) (f : Floor) (items more : List Item) → items ≡ map floored (take n fs) →
+    slice_get fs n ≡ Some f → more ≡ items ++ Floored f ∷ [] → more ≡ map floored (take (n + 1) fs)
 floors_more fs n f items more e at is =
     is ∙ ap (λ l. l ++ Floored f ∷ []) e ∙ sym (map-append floored (take n fs) (f ∷ [])) ∙ ap (map floored) (sym (floor_next n fs f at))
 
-pub floors_all : (fs : List Floor) (n : ℕ) (items : List Item) → items ≡ map floored (take n fs) → slice_get fs n ≡ None → items ≡ map floored fs
+pub floors_all : (fs : List Floor) (n : ℕ) (items : List Item) → items ≡ map floored (take n fs) → slice_get fs n ≡ None →
+    items ≡ map floored fs
 floors_all fs n items e none = e ∙ ap (map floored) (few_taken n fs (past_end fs n none))
 
 -- ---- something to give
@@ -233,7 +261,8 @@ taken_some (suc max) (c ∷ cs) l some e = cc
 
 -- what a page gives, whatever its cursor
 pub page_gives : (keep : Key → Bool) (h : Holding) (after : Option Key) (max : ℕ) (cursor : Cursor)
-    → cond (is_none after) (map floored (held_floors h)) [] ++ map change_item (take max (to_come keep after (held_changes h))) ≡ (page_of (passes keep) after max (held_items h) cursor).items
+    → cond (is_none after) (map floored (held_floors h)) [] ++ map change_item (take max (to_come keep after (held_changes h))) ≡
+    (page_of (passes keep) after max (held_items h) cursor).items
 page_gives keep h after max cursor = ap (λ (p : Page). p.items) (page_is keep h after max cursor _ _ refl refl)
 
 pub mapped_some : {X A : Type 0} (f : X → A) (xs : List X) (i : ℕ) (x : X) → slice_get xs i ≡ Some x → map f xs ≢ []

@@ -1,5 +1,6 @@
 -- Flags of the subscriptions that something may be to be shown to.
-use Rattle.std.proofs.Common.{◌≡◌, ℕ, zero, suc, ◌<◌, ◌⊎◌, Bool, true, false, ◌&&◌, ◌||◌, List, [], ◌∷◌, map, length, get_or, set, Some, refl, ap, sym, ◌∙◌, subst, inl, inr, arith}
+use Rattle.std.proofs.Common.{◌≡◌, ℕ, zero, suc, ◌<◌, ◌⊎◌, Bool, true, false, ◌&&◌, ◌||◌, List, [], ◌∷◌, map, length, get_or, set, Some}
+use Rattle.std.proofs.Common.{refl, ap, sym, ◌∙◌, subst, inl, inr, arith}
 use Rattle.std.proofs.lemmas.List.{get_or-set_same, get_or-set_other}
 use Rattle.std.specs.Prelude.{slice_get}
 use Rattle.ds_watch.specs.Mask.{either}
@@ -40,7 +41,8 @@ same_or_not (suc k) zero = inr (λ e. omega (arith, e))
 same_or_not (suc k) (suc n) = elim (same_or_not k n) [ inl e ↦ inl (ap suc e) | inr d ↦ inr (λ e. d (omega (arith, e))) ]
 
 -- the flag at the place is `b`, and all others are unchanged
-pub set_flag : (fs : List Bool) (sub : ℕ) (b : Bool) → sub < length fs → (k : ℕ) (now : Bool) → (k ≡ sub → now ≡ true → b ≡ true) → ((k ≡ sub → ⊥) → now ≡ true → get_or fs k false ≡ true)
+pub set_flag : (fs : List Bool) (sub : ℕ) (b : Bool) → sub < length fs → (k : ℕ) (now : Bool) → (k ≡ sub → now ≡ true → b ≡ true) →
+    ((k ≡ sub → ⊥) → now ≡ true → get_or fs k false ≡ true)
     → now ≡ true → get_or (set fs sub b) k false ≡ true
 set_flag fs sub b within k now here other t = elim (same_or_not k sub) [
   | inl e ↦ subst (λ n. get_or (set fs sub b) n false ≡ true) (sym e) (get_or-set_same fs sub b false within ∙ here e t)
@@ -52,7 +54,8 @@ and_second true b e = e
 and_second false b e = absurd (cc)
 
 -- ---- no flag is set where no element passes
-pub none_at : {X : Type 0} (p : X → Bool) (hs : List X) (k : ℕ) → ((x : X) → slice_get hs k ≡ Some x → p x ≡ false) → get_or (map p hs) k false ≡ false
+pub none_at : {X : Type 0} (p : X → Bool) (hs : List X) (k : ℕ) → ((x : X) → slice_get hs k ≡ Some x → p x ≡ false) →
+    get_or (map p hs) k false ≡ false
 none_at p [] zero n = refl
 none_at p [] (suc k) n = refl
 none_at p (x ∷ hs) zero n = n x refl

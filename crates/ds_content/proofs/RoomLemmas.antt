@@ -30,14 +30,16 @@ standing_at v s c stands =
 
 pub floor_standing_at : (v : ContentRecord) (s : State) (f : Floor) → ContentStands v s → floor_standing_in v f ≡ floor_standing_of s f
 floor_standing_at v s f stands =
-    λ i. record { held = floor_at (stands.held i) f.owner; count = length (floors_in (stands.held i)); position = stands.journal.position i }
+    λ i. record
+    { held = floor_at (stands.held i) f.owner; count = length (floors_in (stands.held i)); position = stands.journal.position i }
 
 -- ---- what no cause applies to
 pub record Enters (s : State) (i : Item) : Type 0 where
   pub news : IsNews s.feed.accepted i
   pub within : IsWithin (takes_effect s (i ∷ []))
 
-pub change_enters : (v : ContentRecord) (s : State) (c : ChangeRecord) → ContentStands v s → IsFree (standing_in v c) c → Enters s (Changed c)
+pub change_enters : (v : ContentRecord) (s : State) (c : ChangeRecord) → ContentStands v s → IsFree (standing_in v c) c →
+    Enters s (Changed c)
 change_enters v s c stands free =
     let here : IsFree (standing_of s c) c = subst (λ (t : Standing). IsFree t c) (standing_at v s c stands) free in
     record {
@@ -45,10 +47,13 @@ change_enters v s c stands free =
       within = within_more s stands.within (Changed c) here;
     }
 
-pub floor_enters : (v : ContentRecord) (s : State) (f : Floor) → ContentStands v s → IsFloorFree (floor_standing_in v f) f → Enters s (Floored f)
+pub floor_enters : (v : ContentRecord) (s : State) (f : Floor) → ContentStands v s → IsFloorFree (floor_standing_in v f) f →
+    Enters s (Floored f)
 floor_enters v s f stands free =
-    let here : IsFloorFree (floor_standing_of s f) f = subst (λ (t : FloorStanding). IsFloorFree t f) (floor_standing_at v s f stands) free in
+    let here : IsFloorFree (floor_standing_of s f) f =
+    subst (λ (t : FloorStanding). IsFloorFree t f) (floor_standing_at v s f stands) free in
     record {
-      news = news_floor s.feed.accepted stands.reached.owners f (room_above (floor_at (held s) f.owner) (length (floors_in (held s))) f here.room);
+      news = news_floor s.feed.accepted stands.reached.owners f
+          (room_above (floor_at (held s) f.owner) (length (floors_in (held s))) f here.room);
       within = within_more s stands.within (Floored f) here;
     }

@@ -25,11 +25,13 @@ in_both set top other exact t u i h =
     subst (λ (x : Item). Contains other x) (exact j.0 i (u.among j.0 j.1) (t.among i h) back j.2) j.1
 
 pub top_is_one : (set top other : List Item) → AreExact set → IsTop top set → IsTop other set → top ≡ other
-top_is_one set top other exact t u = same_members item_cmp items_total top other t.in_order u.in_order (in_both set top other exact t u) (in_both set other top exact u t)
+top_is_one set top other exact t u = same_members item_cmp items_total top other t.in_order u.in_order (in_both set top other exact t u)
+    (in_both set other top exact u t)
 
 -- ---- one more item
 -- what a merge or a raise leaves is what the state holds then
-pub held_more : (s : State) (i : Item) (new : List Item) → IsReached s → IsNews s.feed.accepted i → IsTop new (held s ++ i ∷ []) → new ≡ held (takes_effect s (i ∷ []))
+pub held_more : (s : State) (i : Item) (new : List Item) → IsReached s → IsNews s.feed.accepted i → IsTop new (held s ++ i ∷ []) →
+    new ≡ held (takes_effect s (i ∷ []))
 held_more s i new r news t =
     let after = reached_more s i r news in
     top_is_one (s.feed.accepted ++ i ∷ []) new (tops (s.feed.accepted ++ i ∷ [])) after.exact
@@ -41,7 +43,8 @@ pub not_held : (s : State) (i : Item) → IsReached s → IsNews s.feed.accepted
 not_held s i r news h = let no : true ≡ false = sym (covers-refl i) ∙ news.newer i ((held_is_top s r).among i h) in absurd (cc)
 
 -- it is held then
-pub is_held_now : (s : State) (i : Item) (new : List Item) → IsReached s → IsNews s.feed.accepted i → IsTop new (held s ++ i ∷ []) → Contains new i
+pub is_held_now : (s : State) (i : Item) (new : List Item) → IsReached s → IsNews s.feed.accepted i → IsTop new (held s ++ i ∷ []) →
+    Contains new i
 is_held_now s i new r news t =
     let over = t.greatest i (Contains-push (held s) i) in
     elim (Contains-push_cases (held s) i over.0 (t.among over.0 over.1)) [
@@ -50,7 +53,8 @@ is_held_now s i new r news t =
     ]
 
 -- nothing that was shown covers it
-pub unshown : (accepted shown : List Item) (i : Item) → IsNews accepted i → IsPartOf shown accepted → list_any (λ j. covers j i) shown ≡ false
+pub unshown : (accepted shown : List Item) (i : Item) → IsNews accepted i → IsPartOf shown accepted →
+    list_any (λ j. covers j i) shown ≡ false
 unshown accepted shown i news part = by_test (list_any (λ j. covers j i) shown) refl
   where
     by_test : (b : Bool) → list_any (λ j. covers j i) shown ≡ b → b ≡ false

@@ -67,11 +67,14 @@ is_at_most-total v w e = turned (version_cmp v w) (version_cmp w v) (versions_to
 -- ---- covers, and its parts
 
 pub covers-key : (d c : ChangeRecord) → covers d c ≡ true → c.key ≡ d.key
-covers-key d c h = same_key c.key d.key (and_parts (eq_by_cmp key_cmp c.key d.key) (eq_by_cmp name_cmp c.owner d.owner && is_at_most c.version d.version) h).0
+covers-key d c h = same_key c.key d.key (and_parts (eq_by_cmp key_cmp c.key d.key)
+    (eq_by_cmp name_cmp c.owner d.owner && is_at_most c.version d.version) h).0
 
-covers-rest : (d c : ChangeRecord) → covers d c ≡ true → (eq_by_cmp name_cmp c.owner d.owner ≡ true) × (is_at_most c.version d.version ≡ true)
+covers-rest : (d c : ChangeRecord) → covers d c ≡ true →
+    (eq_by_cmp name_cmp c.owner d.owner ≡ true) × (is_at_most c.version d.version ≡ true)
 covers-rest d c h =
-    and_parts (eq_by_cmp name_cmp c.owner d.owner) (is_at_most c.version d.version) (and_parts (eq_by_cmp key_cmp c.key d.key) (eq_by_cmp name_cmp c.owner d.owner && is_at_most c.version d.version) h).1
+    and_parts (eq_by_cmp name_cmp c.owner d.owner) (is_at_most c.version d.version)
+    (and_parts (eq_by_cmp key_cmp c.key d.key) (eq_by_cmp name_cmp c.owner d.owner && is_at_most c.version d.version) h).1
 
 pub covers-owner : (d c : ChangeRecord) → covers d c ≡ true → c.owner ≡ d.owner
 covers-owner d c h = same_name c.owner d.owner (covers-rest d c h).0
@@ -81,7 +84,8 @@ covers-version d c h = (covers-rest d c h).1
 
 pub covers-make : (d c : ChangeRecord) → c.key ≡ d.key → c.owner ≡ d.owner → is_at_most c.version d.version ≡ true → covers d c ≡ true
 covers-make d c k o v =
-    and_from (eq_by_cmp key_cmp c.key d.key) (eq_by_cmp name_cmp c.owner d.owner && is_at_most c.version d.version) (same_key-refl c.key d.key k)
+    and_from (eq_by_cmp key_cmp c.key d.key) (eq_by_cmp name_cmp c.owner d.owner && is_at_most c.version d.version)
+    (same_key-refl c.key d.key k)
     (and_from (eq_by_cmp name_cmp c.owner d.owner) (is_at_most c.version d.version) (same_name-refl c.owner d.owner o) v)
 
 -- Of two changes of one key and one owner, one covers the other.
@@ -99,18 +103,21 @@ covers-refl c = covers-make c c refl refl (is_at_most-refl c.version)
 
 pub covers-trans : (e d c : ChangeRecord) → covers e d ≡ true → covers d c ≡ true → covers e c ≡ true
 covers-trans e d c h k =
-    covers-make e c (covers-key d c k ∙ covers-key e d h) (covers-owner d c k ∙ covers-owner e d h) (is_at_most-trans c.version d.version e.version (covers-version d c k) (covers-version e d h))
+    covers-make e c (covers-key d c k ∙ covers-key e d h) (covers-owner d c k ∙ covers-owner e d h)
+    (is_at_most-trans c.version d.version e.version (covers-version d c k) (covers-version e d h))
 
 -- What covers a change under a query of keys is under it too.
 pub covers-query : (query : Key → Bool) (d c : ChangeRecord) → covers d c ≡ true → query c.key ≡ true → query d.key ≡ true
 covers-query query d c h p = ap query (sym (covers-key d c h)) ∙ p
 
 -- Single-numbered changes that cover each other are equal.
-pub covers-same : (changes : List ChangeRecord) → IsSingleNumbered changes → (c d : ChangeRecord) → Contains changes c → Contains changes d → covers d c ≡ true → covers c d ≡ true → c ≡ d
+pub covers-same : (changes : List ChangeRecord) → IsSingleNumbered changes → (c d : ChangeRecord) → Contains changes c →
+    Contains changes d → covers d c ≡ true → covers c d ≡ true → c ≡ d
 covers-same changes n c d h k e f =
     n.one_change c d h k (covers-key d c e) (is_at_most-antisym c.version d.version (covers-version d c e) (covers-version c d f))
 
-pub single_part : (part whole : List ChangeRecord) → ((c : ChangeRecord) → Contains part c → Contains whole c) → IsSingleNumbered whole → IsSingleNumbered part
+pub single_part : (part whole : List ChangeRecord) → ((c : ChangeRecord) → Contains part c → Contains whole c) → IsSingleNumbered whole →
+    IsSingleNumbered part
 single_part part whole sub n =
     record {
       one_change = λ c d h k e v. n.one_change c d (sub c h) (sub d k) e v;
@@ -122,4 +129,5 @@ changes_total = on_total (λ (c : ChangeRecord). c.key) keys_total
 
 -- What covers a change compares equal to it.
 pub covers-tied : (d c : ChangeRecord) → covers d c ≡ true → change_cmp c d ≡ Equal
-covers-tied d c h = equal_is (change_cmp c d) (and_parts (eq_by_cmp key_cmp c.key d.key) (eq_by_cmp name_cmp c.owner d.owner && is_at_most c.version d.version) h).0
+covers-tied d c h = equal_is (change_cmp c d)
+    (and_parts (eq_by_cmp key_cmp c.key d.key) (eq_by_cmp name_cmp c.owner d.owner && is_at_most c.version d.version) h).0

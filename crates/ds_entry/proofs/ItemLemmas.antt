@@ -22,7 +22,8 @@ use Rattle.ds_entry.specs.declared.floor.Floor.{Floor}
 use Rattle.ds_entry.specs.declared.item.Item.{Item}
 use Rattle.ds_entry.specs.declared.item.Item.TheVariants.{Change as Changed, Floor as Floored}
 use Rattle.ds_entry.proofs.CoversLemmas as changes
-use Rattle.ds_entry.proofs.CoversLemmas.{same_name, same_name-refl, covers-key, covers-owner, covers-version, is_at_most-antisym, changes_total}
+use Rattle.ds_entry.proofs.CoversLemmas.{same_name, same_name-refl, covers-key, covers-owner, covers-version, is_at_most-antisym}
+use Rattle.ds_entry.proofs.CoversLemmas.{changes_total}
 use Rattle.ds_entry.proofs.OrderedLemmas.{tied_once}
 use Rattle.ds_names.specs.Kind.{is_label}
 
@@ -57,7 +58,8 @@ voids-make f c v =
 epoch_at_most : (v w : Version) → is_at_most v w ≡ true → v.epoch ≤ w.epoch
 epoch_at_most v w h = by_order (nat_cmp v.epoch w.epoch) (nat_cmp v.seq w.seq) (ranked v.epoch w.epoch (nat_cmp v.epoch w.epoch) refl) h
   where
-    by_order : (o p : Ordering) → MatchOrdering o (v.epoch < w.epoch) (v.epoch ≡ w.epoch) (w.epoch < v.epoch) → is_le (ordering_then o p) ≡ true → v.epoch ≤ w.epoch
+    by_order : (o p : Ordering) → MatchOrdering o (v.epoch < w.epoch) (v.epoch ≡ w.epoch) (w.epoch < v.epoch) →
+        is_le (ordering_then o p) ≡ true → v.epoch ≤ w.epoch
     by_order Less p a h = omega arith
     by_order Equal p a h = omega arith
     by_order Greater p a h = cc
@@ -77,7 +79,13 @@ covers-trans (Floored e) (Changed d) (Changed c) h k =
     let v = voids-is e d h in
     let low : c.version.epoch ≤ d.version.epoch = epoch_at_most c.version d.version (covers-version d c k) in
     let high : d.version.epoch ≤ e.generation = v.epoch in
-    voids-make e c (record { kind = subst (λ (l : Key). not (is_label l.kind) ≡ true) (sym (covers-key d c k)) v.kind; owner = covers-owner d c k ∙ v.owner; epoch = omega arith })
+    voids-make e c
+    (record {
+      kind = subst (λ (l : Key). not (is_label l.kind) ≡ true) (sym (covers-key d c k)) v.kind;
+      owner =
+          covers-owner d c k ∙ v.owner;
+      epoch = omega arith;
+    })
 covers-trans (Floored e) (Floored d) (Changed c) h k =
     let v = voids-is d c k in
     let p = below d.owner e.owner d.generation e.generation h in
@@ -98,7 +106,8 @@ covers-query query (Floored d) i h p = refl
 
 pub covers-same : CoversIsExact
 covers-same items n (Changed c) (Changed d) h k e f =
-    ap Changed (n.one_change c d h k (covers-key d c e) (is_at_most-antisym c.version d.version (covers-version d c e) (covers-version c d f)))
+    ap Changed (n.one_change c d h k (covers-key d c e)
+    (is_at_most-antisym c.version d.version (covers-version d c e) (covers-version c d f)))
 covers-same items n (Changed c) (Floored d) h k e f = cc
 covers-same items n (Floored c) (Changed d) h k e f = cc
 covers-same items n (Floored c) (Floored d) h k e f =
@@ -109,7 +118,8 @@ covers-same items n (Floored c) (Floored d) h k e f =
     let same : c.generation ≡ d.generation = omega arith in
     ap Floored (λ i. record { owner = o.0 i; generation = same i })
 
-pub single_part : (part whole : List Item) → ((i : Item) → Contains part i → Contains whole i) → AreSingleNumbered whole → AreSingleNumbered part
+pub single_part : (part whole : List Item) → ((i : Item) → Contains part i → Contains whole i) → AreSingleNumbered whole →
+    AreSingleNumbered part
 single_part part whole sub n =
     record {
       one_change = λ c d h k e v. n.one_change c d (sub (Changed c) h) (sub (Changed d) k) e v;
@@ -148,22 +158,27 @@ name_tied : (m n : List ℕ) → m ≡ n → name_cmp m n ≡ Equal
 name_tied m n e = subst (λ (k : List ℕ). name_cmp m k ≡ Equal) e (tied_itself nat_list_cmp_total m)
 
 -- What covers an item compares equal to it, or is a floor over a change.
-pub covers-tied : (j i : Item) → ((f : Floor) (c : ChangeRecord) → j ≡ Floored f → i ≡ Changed c → voids f c ≡ false) → covers j i ≡ true → item_cmp i j ≡ Equal
+pub covers-tied : (j i : Item) → ((f : Floor) (c : ChangeRecord) → j ≡ Floored f → i ≡ Changed c → voids f c ≡ false) → covers j i ≡ true →
+    item_cmp i j ≡ Equal
 covers-tied (Changed d) (Changed c) n h = changes.covers-tied d c h
 covers-tied (Changed d) (Floored c) n h = cc
 covers-tied (Floored d) (Changed c) n h = let t : true ≡ false = sym h ∙ n d c refl refl in absurd (cc)
 covers-tied (Floored d) (Floored c) n h = name_tied c.owner d.owner (below c.owner d.owner c.generation d.generation h).0
 
 -- of two floors of one owner, one covers the other
-pub floors-total : (f g : Floor) → name_cmp f.owner g.owner ≡ Equal → covers (Floored g) (Floored f) ≡ false → covers (Floored f) (Floored g) ≡ true
+pub floors-total : (f g : Floor) → name_cmp f.owner g.owner ≡ Equal → covers (Floored g) (Floored f) ≡ false →
+    covers (Floored f) (Floored g) ≡ true
 floors-total f g q e = by_test (nat_le f.generation g.generation) refl
   where
     owner : f.owner ≡ g.owner
     owner = exact_bytes f.owner g.owner q
 
     by_test : (b : Bool) → nat_le f.generation g.generation ≡ b → covers (Floored f) (Floored g) ≡ true
-    by_test true v = absurd (let t : covers (Floored g) (Floored f) ≡ true = below-make f.owner g.owner f.generation g.generation owner (leb-true f.generation g.generation v) in let x : true ≡ false = sym t ∙ e in cc)
-    by_test false v = below-make g.owner f.owner g.generation f.generation (sym owner) (let l : g.generation < f.generation = leb-false f.generation g.generation v in omega arith)
+    by_test true v = absurd (let t : covers (Floored g) (Floored f) ≡ true =
+        below-make f.owner g.owner f.generation g.generation owner (leb-true f.generation g.generation v) in let x : true ≡ false =
+        sym t ∙ e in cc)
+    by_test false v = below-make g.owner f.owner g.generation f.generation (sym owner)
+        (let l : g.generation < f.generation = leb-false f.generation g.generation v in omega arith)
 
 -- no held item covers another
 pub covers-apart : CoversNoneHeld

@@ -1,5 +1,6 @@
 -- Membership in lists: what std's lemmas on `Contains` leave out.
-use Rattle.std.proofs.Common.{◌≡◌, ℕ, ◌<◌, Bool, true, false, cond, List, [], ◌∷◌, get_or, map, take, drop, ◌||◌, zero, suc, refl, sym, ap, ◌∙◌, subst, inl, inr, ◌⊎◌, arith}
+use Rattle.std.proofs.Common.{◌≡◌, ℕ, ◌<◌, Bool, true, false, cond, List, [], ◌∷◌, get_or, map, take, drop, ◌||◌, zero, suc, refl, sym, ap}
+use Rattle.std.proofs.Common.{◌∙◌, subst, inl, inr, ◌⊎◌, arith}
 use Rattle.std.specs.List.{Contains, filter, flat_map, list_any}
 use Rattle.std.proofs.lemmas.List.{take-append-drop}
 use Rattle.std.proofs.lemmas.List.Elements.{Contains-append_left, Contains-append_right, Contains-append_cases}
@@ -47,7 +48,8 @@ In-from_filter : {X : Type 0} (p : X → Bool) (xs : List X) (x : X) → In x (f
 In-from_filter p [] x h = absurd h
 In-from_filter p (y ∷ ys) x h = by_test (p y) refl h (In-from_filter p ys x)
   where
-    by_test : (b : Bool) → p y ≡ b → In x (cond b (y ∷ filter p ys) (filter p ys)) → (In x (filter p ys) → In x ys × (p x ≡ true)) → In x (y ∷ ys) × (p x ≡ true)
+    by_test : (b : Bool) → p y ≡ b → In x (cond b (y ∷ filter p ys) (filter p ys)) → (In x (filter p ys) → In x ys × (p x ≡ true)) →
+        In x (y ∷ ys) × (p x ≡ true)
     by_test true e (inl q) rest = (inl q, ap p q ∙ e)
     by_test true e (inr t) rest = (inr (rest t).0, (rest t).1)
     by_test false e t rest = (inr (rest t).0, (rest t).1)
@@ -74,11 +76,13 @@ pub Contains-from_map : {X A : Type 0} (f : X → A) (xs : List X) (a : A) → C
 Contains-from_map f [] a h = absurd (Contains-nil a h)
 Contains-from_map {X} f (y ∷ ys) a h = at (Contains-cons (f y) (map f ys) a h) (Contains-from_map f ys a)
   where
-    at : (a ≡ f y) ⊎ Contains (map f ys) a → (Contains (map f ys) a → (x : X) × Contains ys x × (f x ≡ a)) → (x : X) × Contains (y ∷ ys) x × (f x ≡ a)
+    at : (a ≡ f y) ⊎ Contains (map f ys) a → (Contains (map f ys) a → (x : X) × Contains ys x × (f x ≡ a)) →
+        (x : X) × Contains (y ∷ ys) x × (f x ≡ a)
     at (inl e) rest = (y, Contains-head y ys, sym e)
     at (inr k) rest = let r = rest k in (r.0, Contains-tail y ys r.0 r.1, r.2)
 
-pub Contains-flat_map : {X A : Type 0} (f : X → List A) (xs : List X) (x : X) (a : A) → Contains xs x → Contains (f x) a → Contains (flat_map f xs) a
+pub Contains-flat_map : {X A : Type 0} (f : X → List A) (xs : List X) (x : X) (a : A) → Contains xs x → Contains (f x) a →
+    Contains (flat_map f xs) a
 Contains-flat_map {X} f xs x a h k = at xs (In-from_Contains x xs h)
   where
     at : (ys : List X) → In x ys → Contains (flat_map f ys) a
@@ -86,11 +90,13 @@ Contains-flat_map {X} f xs x a h k = at xs (In-from_Contains x xs h)
     at (y ∷ ys) (inl e) = Contains-append_left (f y) (flat_map f ys) a (subst (λ (z : X). Contains (f z) a) e k)
     at (y ∷ ys) (inr t) = Contains-append_right (f y) (flat_map f ys) a (at ys t)
 
-pub Contains-from_flat_map : {X A : Type 0} (f : X → List A) (xs : List X) (a : A) → Contains (flat_map f xs) a → (x : X) × Contains xs x × Contains (f x) a
+pub Contains-from_flat_map : {X A : Type 0} (f : X → List A) (xs : List X) (a : A) → Contains (flat_map f xs) a →
+    (x : X) × Contains xs x × Contains (f x) a
 Contains-from_flat_map f [] a h = absurd (Contains-nil a h)
 Contains-from_flat_map {X} f (y ∷ ys) a h = at (Contains-append_cases (f y) (flat_map f ys) a h) (Contains-from_flat_map f ys a)
   where
-    at : Contains (f y) a ⊎ Contains (flat_map f ys) a → (Contains (flat_map f ys) a → (x : X) × Contains ys x × Contains (f x) a) → (x : X) × Contains (y ∷ ys) x × Contains (f x) a
+    at : Contains (f y) a ⊎ Contains (flat_map f ys) a → (Contains (flat_map f ys) a → (x : X) × Contains ys x × Contains (f x) a) →
+        (x : X) × Contains (y ∷ ys) x × Contains (f x) a
     at (inl k) rest = (y, Contains-head y ys, k)
     at (inr k) rest = let r = rest k in (r.0, Contains-tail y ys r.0 r.1, r.2)
 
@@ -122,7 +128,8 @@ pub Contains-from_list_any : {X : Type 0} (p : X → Bool) (xs : List X) → lis
 Contains-from_list_any p [] h = cc
 Contains-from_list_any {X} p (y ∷ ys) h = by_test (p y) refl h (Contains-from_list_any p ys)
   where
-    by_test : (b : Bool) → p y ≡ b → b || list_any p ys ≡ true → (list_any p ys ≡ true → (x : X) × Contains ys x × (p x ≡ true)) → (x : X) × Contains (y ∷ ys) x × (p x ≡ true)
+    by_test : (b : Bool) → p y ≡ b → b || list_any p ys ≡ true → (list_any p ys ≡ true → (x : X) × Contains ys x × (p x ≡ true)) →
+        (x : X) × Contains (y ∷ ys) x × (p x ≡ true)
     by_test true e h rest = (y, Contains-head y ys, e)
     by_test false e h rest = let r = rest h in (r.0, Contains-tail y ys r.0 r.1, r.2)
 

@@ -30,7 +30,8 @@ module _ {X : Type 0} (cmp : X → X → Ordering) (total : IsTotalOrder cmp) wh
   In-once [] c d s h k e = absurd h
   In-once (x ∷ xs) c d s (inl h) (inl k) e = h ∙ sym k
   In-once (x ∷ xs) c d s (inl h) (inr k) e = absurd (not_less x d (subst (λ (z : X). cmp z d ≡ Equal) h e) (below x xs d s.0 k))
-  In-once (x ∷ xs) c d s (inr h) (inl k) e = absurd (not_less x c (tied_back total c x (subst (λ (z : X). cmp c z ≡ Equal) k e)) (below x xs c s.0 h))
+  In-once (x ∷ xs) c d s (inr h) (inl k) e =
+      absurd (not_less x c (tied_back total c x (subst (λ (z : X). cmp c z ≡ Equal) k e)) (below x xs c s.0 h))
   In-once (x ∷ xs) c d s (inr h) (inr k) e = In-once xs c d s.1 h k e
 
   -- Two members that compare equal are equal.
@@ -38,14 +39,16 @@ module _ {X : Type 0} (cmp : X → X → Ordering) (total : IsTotalOrder cmp) wh
   tied_once xs c d s h k e = In-once xs c d s (In-from_Contains c xs h) (In-from_Contains d xs k) e
 
   -- Two such lists with the same members are equal.
-  same_list : (xs ys : List X) → IsStrictlySortedBy cmp xs → IsStrictlySortedBy cmp ys → ((x : X) → In x xs → In x ys) → ((x : X) → In x ys → In x xs) → xs ≡ ys
+  same_list : (xs ys : List X) → IsStrictlySortedBy cmp xs → IsStrictlySortedBy cmp ys → ((x : X) → In x xs → In x ys) →
+      ((x : X) → In x ys → In x xs) → xs ≡ ys
   unfolding IsStrictlySortedBy
   same_list [] [] s t f g = refl
   same_list [] (y ∷ ys) s t f g = absurd (g y (inl refl))
   same_list (x ∷ xs) [] s t f g = absurd (f x (inl refl))
   same_list (x ∷ xs) (y ∷ ys) s t f g =
       let e : x ≡ y = heads (f x (inl refl)) (g y (inl refl)) in
-      let r : xs ≡ ys = same_list xs ys s.1 t.1 (λ z h. in_rest x y z ys e (below x xs z s.0 h) (f z (inr h))) (λ z h. in_rest y x z xs (sym e) (below y ys z t.0 h) (g z (inr h))) in
+      let r : xs ≡ ys = same_list xs ys s.1 t.1 (λ z h. in_rest x y z ys e (below x xs z s.0 h) (f z (inr h)))
+      (λ z h. in_rest y x z xs (sym e) (below y ys z t.0 h) (g z (inr h))) in
       cc
     where
       heads : In x (y ∷ ys) → In y (x ∷ xs) → x ≡ y
@@ -57,6 +60,8 @@ module _ {X : Type 0} (cmp : X → X → Ordering) (total : IsTotalOrder cmp) wh
       in_rest v w z zs e l (inl q) = absurd (not_less v z (subst (λ (u : X). cmp v u ≡ Equal) (e ∙ sym q) (tied_itself total v)) l)
       in_rest v w z zs e l (inr h) = h
 
-  pub same_members : (xs ys : List X) → IsStrictlySortedBy cmp xs → IsStrictlySortedBy cmp ys → ((x : X) → Contains xs x → Contains ys x) → ((x : X) → Contains ys x → Contains xs x) → xs ≡ ys
+  pub same_members : (xs ys : List X) → IsStrictlySortedBy cmp xs → IsStrictlySortedBy cmp ys → ((x : X) → Contains xs x → Contains ys x) →
+      ((x : X) → Contains ys x → Contains xs x) → xs ≡ ys
   same_members xs ys s t f g =
-      same_list xs ys s t (λ x h. In-from_Contains x ys (f x (Contains-from_In x xs h))) (λ x h. In-from_Contains x xs (g x (Contains-from_In x ys h)))
+      same_list xs ys s t (λ x h. In-from_Contains x ys (f x (Contains-from_In x xs h)))
+      (λ x h. In-from_Contains x xs (g x (Contains-from_In x ys h)))

@@ -1,5 +1,5 @@
 -- Changes, and the conditions under which four parts are one.
-use Rattle.std.specs.Prelude.{◌≡◌, ◌≢◌, ℕ, ◌<◌, ◌≤◌, ◌^◌, ◌==◌, Bool, true, false, ◌&&◌, List}
+use Rattle.std.specs.Prelude.{◌≡◌, ◌≢◌, ℕ, ◌<◌, ◌≤◌, ◌^◌, ◌==◌, Bool, true, false, ◌&&◌, List, []}
 use Rattle.ds_names.specs.Name.{IsName, rs_name}
 use Rattle.ds_names.specs.Endpoint.{IsEndpoint}
 use Rattle.ds_names.specs.declared.kind.Kind.{Kind}
@@ -64,6 +64,18 @@ IsInPlace (values.Mem b) = ⊥
 abbrev pub IsBodyInPlace : Body → Type 0
 IsBodyInPlace (Put value) = IsInPlace value
 IsBodyInPlace Gone = Unit {0}
+
+-- A copy of the value takes memory: it is a text or a blob that isn't empty.
+abbrev pub ValueCopyTakesMemory : Value → Type 0
+ValueCopyTakesMemory (values.Label e) = ⊥
+ValueCopyTakesMemory (values.U32 n) = ⊥
+ValueCopyTakesMemory (values.Str t) = t ≢ []
+ValueCopyTakesMemory (values.Mem b) = b ≢ []
+
+-- A copy of the body takes memory: a copy of its value does.
+abbrev pub BodyCopyTakesMemory : Body → Type 0
+BodyCopyTakesMemory (Put value) = ValueCopyTakesMemory value
+BodyCopyTakesMemory Gone = ⊥
 
 -- The rule of a label's body: a put has number 0 and its endpoint's generation as its epoch, a tombstone has number 1.
 abbrev pub IsLabelBody : Version → Body → Type 0

@@ -4,7 +4,7 @@ use Rattle.std.specs.declared.cmp.Ordering.{Ordering}
 use Rattle.std.specs.declared.cmp.Ordering.TheVariants.{Less, Greater}
 use Rattle.ds_names.specs.declared.key.Key.{Key}
 use Rattle.ds_names.specs.Key.{name_cmp}
-use Rattle.ds_entry.specs.Change.{IsChange, IsBodyInPlace}
+use Rattle.ds_entry.specs.Change.{IsChange, IsBodyInPlace, BodyCopyTakesMemory}
 use Rattle.ds_entry.specs.Covers.{change_cmp}
 use Rattle.ds_entry.specs.Floor.{IsFloor}
 use Rattle.ds_entry.specs.declared.item.Item.{Item}
@@ -19,6 +19,11 @@ IsItem (Floored f) = IsFloor f
 abbrev pub IsItemInPlace : Item → Type 0
 IsItemInPlace (Changed c) = IsBodyInPlace c.body
 IsItemInPlace (Floored f) = Unit {0}
+
+-- A copy of the item takes memory: a copy of its body does.
+abbrev pub ItemCopyTakesMemory : Item → Type 0
+ItemCopyTakesMemory (Changed c) = BodyCopyTakesMemory c.body
+ItemCopyTakesMemory (Floored f) = ⊥
 
 -- Whether the item is under a query of keys. A change is if its key is; a floor always is.
 abbrev pub passes : (Key → Bool) → Item → Bool

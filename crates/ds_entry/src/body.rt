@@ -1,8 +1,8 @@
 //! What a change leaves under its key.
 
-ghost use Rattle.std.specs.Prelude.{◌≡◌, ◌<◌, ◌^◌, ◌↔◌, IsTrue, IfOk, IsOk};
+ghost use Rattle.std.specs.Prelude.{◌≡◌, ◌<◌, ◌^◌, ◌↔◌, IsTrue, IfOk, IsOk, OnErr};
 ghost use Rattle.ds_entry.specs.Change.{kind_of, is_of_kind, is_label_body, IsOfKind, IsLabelBody};
-ghost use Rattle.ds_entry.specs.Change.{IsValue, IsBody, IsInPlace, IsBodyInPlace};
+ghost use Rattle.ds_entry.specs.Change.{IsValue, IsBody, IsInPlace, IsBodyInPlace, ValueCopyTakesMemory, BodyCopyTakesMemory};
 ghost use Rattle.ds_entry.specs.Left.{value_in};
 ghost use Rattle.std.specs.Option.{option_copied};
 
@@ -63,11 +63,12 @@ impl Value {
         }
     }
 
-    /// Copies the value. Fails only if memory runs out; the copy of a label or a number takes none.
+    /// Copies the value. Fails only if memory runs out; the copy of a label, a number, an empty text or an empty blob takes none.
     #[inline(always)]
     pub fn copy(&self, alloc: Global) -> Result<Value, NoRoom>
         ensures same { IfOk result (λ value. value ≡ self.now) }
         ensures in_place { IsInPlace self.now → IsOk result }
+        ensures room { OnErr result (ValueCopyTakesMemory self.now) }
     {
         match self {
             Value::Label(endpoint) => Ok(Value::Label(*endpoint)),
@@ -118,11 +119,12 @@ impl Body {
         }
     }
 
-    /// Copies the body. Fails only if memory runs out; the copy of a tombstone, a label or a number takes none.
+    /// Copies the body. Fails only if memory runs out; only the copy of a text or a blob that isn't empty takes memory.
     #[inline(always)]
     pub fn copy(&self, alloc: Global) -> Result<Body, NoRoom>
         ensures same { IfOk result (λ body. body ≡ self.now) }
         ensures in_place { IsBodyInPlace self.now → IsOk result }
+        ensures room { OnErr result (BodyCopyTakesMemory self.now) }
     {
         match self {
             Body::Put(value) => Ok(Body::Put(value.copy(alloc)?)),

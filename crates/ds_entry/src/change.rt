@@ -1,9 +1,9 @@
 //! Changes.
 
-ghost use Rattle.std.specs.Prelude.{◌≡◌, ◌<◌, ◌≤◌, ◌^◌, ◌↔◌, IsTrue, IsOk, IfOk, IfErr, IfNone, IfSome, Some};
+ghost use Rattle.std.specs.Prelude.{◌≡◌, ◌<◌, ◌≤◌, ◌^◌, ◌↔◌, IsTrue, IsOk, IfOk, IfErr, OnErr, IfNone, IfSome, Some};
 ghost use Rattle.ds_names.specs.Name.{IsName, rs_name};
 ghost use Rattle.ds_entry.specs.Change.{ChangeRecord, change_of, IsChange, IsLabelChange, IsLabelBody};
-ghost use Rattle.ds_entry.specs.Change.{IsBelowSweeps, IsOfKind, IsBody, IsBodyInPlace};
+ghost use Rattle.ds_entry.specs.Change.{IsBelowSweeps, IsOfKind, IsBody, IsBodyInPlace, BodyCopyTakesMemory};
 ghost use Rattle.ds_entry.specs.ChangeFault.{IsEntryFault};
 ghost use Rattle.ds_entry.specs.declared.item.Item.TheVariants.{Change as Changed};
 
@@ -98,11 +98,12 @@ impl Change {
         }
     }
 
-    /// Copies the change. Fails only if memory runs out; only the copy of a text or a blob takes memory.
+    /// Copies the change. Fails only if memory runs out; only the copy of a text or a blob that isn't empty takes memory.
     #[inline(always)]
     pub fn copy(&self, alloc: Global) -> Result<Change, NoRoom>
         ensures same { IfOk result (λ change. change ≡ self.now) }
         ensures in_place { IsBodyInPlace self.now.body → IsOk result }
+        ensures room { OnErr result (BodyCopyTakesMemory self.now.body) }
         ensures change { IsChange self.now }
     {
         let body = self.body.copy(alloc)?;

@@ -1,10 +1,10 @@
 //! Items.
 
-ghost use Rattle.std.specs.Prelude.{◌≡◌, IfOk, IsOk};
+ghost use Rattle.std.specs.Prelude.{◌≡◌, IfOk, IsOk, OnErr};
 ghost use Rattle.std.specs.Ordering.{eq_by_cmp};
 ghost use Rattle.ds_names.specs.Key.{key_cmp};
 ghost use Rattle.ds_entry.specs.Covers.{covers as change_covers};
-ghost use Rattle.ds_entry.specs.Item.{IsItem, IsItemInPlace, item_cmp};
+ghost use Rattle.ds_entry.specs.Item.{IsItem, IsItemInPlace, ItemCopyTakesMemory, item_cmp};
 ghost use Rattle.ds_entry.specs.Left.{is_put};
 ghost use Rattle.ds_entry.specs.Lent.{item_lent};
 ghost use Rattle.ds_entry.specs.ItemCovers.{covers};
@@ -30,10 +30,11 @@ pub enum ItemRef<'a> {
 }
 
 impl ItemRef<'_> {
-    /// Copies the item. Fails only if memory runs out; only the copy of a text or a blob takes memory.
+    /// Copies the item. Fails only if memory runs out; only the copy of a text or a blob that isn't empty takes memory.
     pub fn copy(self, alloc: Global) -> Result<Item, NoRoom>
         ensures same { IfOk result (λ item. item ≡ item_lent self.entry) }
         ensures in_place { IsItemInPlace (item_lent self.entry) → IsOk result }
+        ensures room { OnErr result (ItemCopyTakesMemory (item_lent self.entry)) }
     {
         match self {
             ItemRef::Change(change) => Ok(Item::Change(change.copy(alloc)?)),
@@ -84,11 +85,12 @@ impl Item {
         }
     }
 
-    /// Copies the item. Fails only if memory runs out; only the copy of a text or a blob takes memory.
+    /// Copies the item. Fails only if memory runs out; only the copy of a text or a blob that isn't empty takes memory.
     #[inline(always)]
     pub fn copy(&self, alloc: Global) -> Result<Item, NoRoom>
         ensures same { IfOk result (λ item. item ≡ self.now) }
         ensures in_place { IsItemInPlace self.now → IsOk result }
+        ensures room { OnErr result (ItemCopyTakesMemory self.now) }
         ensures item { IsItem self.now }
     {
         match self {

@@ -19,10 +19,12 @@ use Rattle.ds_held.specs.Raise.{RaiseAnswer, after_raise}
 use Rattle.ds_held.specs.Kept.{owned, holding_of, left_by_floor, put_at, AreKept, IsPlaceOf, IsPlace, IsFloorPlace, IsGap, IsPlaceIn}
 use Rattle.ds_held.proofs.PlaceLemmas.{get_none}
 use Rattle.ds_held.proofs.FloorLemmas.{floors_are}
-use Rattle.ds_held.proofs.KeptLemmas.{changes_are, change_none, held_answer, new_answer, merged_after, merged_kept, raised_after, raised_kept, raised_joins}
+use Rattle.ds_held.proofs.KeptLemmas.{changes_are, change_none, held_answer, new_answer, merged_after, merged_kept, raised_after}
+use Rattle.ds_held.proofs.KeptLemmas.{raised_kept, raised_joins}
 
 -- A place that was found is one of the list.
-place_within : {K X : Type 0} (R : K → K → Ordering) (key : X → K) (xs : List X) (sought : K) (place : Result ℕ ℕ) → IsPlaceOf R key xs sought place → IsPlaceIn place (length xs)
+place_within : {K X : Type 0} (R : K → K → Ordering) (key : X → K) (xs : List X) (sought : K) (place : Result ℕ ℕ) →
+    IsPlaceOf R key xs sought place → IsPlaceIn place (length xs)
 place_within R key xs sought (Ok i) p = p.0
 place_within R key xs sought (Err i) p = p.0
 
@@ -31,21 +33,25 @@ module _ (fs : List Floor) (xs : List ChangeRecord) (lim : LimitsRecord) (kept :
   held = holding_of fs xs lim
 
   -- What a change leaves at its place, or that memory runs out for it.
-  pub record IsPutIn {U E : Type 0} (h : Holding) (c : ChangeRecord) (place : Result ℕ ℕ) (r : Result U E) (ys : List ChangeRecord) : Type 0 where
+  pub record IsPutIn {U E : Type 0} (h : Holding) (c : ChangeRecord) (place : Result ℕ ℕ) (r : Result U E) (ys : List ChangeRecord) : Type
+      0 where
     pub still : AreKept fs ys lim
     pub after : OnOk r (holding_of fs ys lim ≡ after_merge h c (Ok Taken))
     pub list : OnOk r (held_changes (holding_of fs ys lim) ≡ put_at (held_changes h) place c)
     pub same : OnErr r (holding_of fs ys lim ≡ h)
     pub new : OnErr r (held_for h c.key ≡ None)
 
-  pub change_place : (h : Holding) → held ≡ h → (c : ChangeRecord) (place : Result ℕ ℕ) → IsPlace (held_changes h) c.key place → IsPlace xs c.key place
+  pub change_place : (h : Holding) → held ≡ h → (c : ChangeRecord) (place : Result ℕ ℕ) → IsPlace (held_changes h) c.key place →
+      IsPlace xs c.key place
   change_place h is c place p = subst (λ l. IsPlace l c.key place) (ap held_changes (sym is) ∙ changes_are fs xs lim kept.keys) p
 
-  pub change_within : (h : Holding) → held ≡ h → (c : ChangeRecord) (place : Result ℕ ℕ) → IsPlace (held_changes h) c.key place → IsPlaceIn place (length xs)
+  pub change_within : (h : Holding) → held ≡ h → (c : ChangeRecord) (place : Result ℕ ℕ) → IsPlace (held_changes h) c.key place →
+      IsPlaceIn place (length xs)
   change_within h is c place p = place_within key_cmp (λ (x : ChangeRecord). x.key) xs c.key place (change_place h is c place p)
 
   put_facts : {U E : Type 0} (c : ChangeRecord) → IsChange c → (place : Result ℕ ℕ) → IsPlace xs c.key place → MergeAnswer held c (Ok Taken)
-      → (r : Result U E) (ys : List ChangeRecord) → OnOk r (ys ≡ put_at xs place c) → OnErr r (ys ≡ xs) → OnErr r (IsGap place) → IsPutIn held c place r ys
+      → (r : Result U E) (ys : List ChangeRecord) → OnOk r (ys ≡ put_at xs place c) → OnErr r (ys ≡ xs) → OnErr r (IsGap place) →
+      IsPutIn held c place r ys
   put_facts c valid place p a (Ok u) ys ok err gap =
       let still = subst (λ l. AreKept fs l lim) (sym ok) (merged_kept fs xs lim kept c valid place p (Ok Taken) a) in record {
         still = still;
@@ -66,8 +72,10 @@ module _ (fs : List Floor) (xs : List ChangeRecord) (lim : LimitsRecord) (kept :
       by_place (Ok i) q gap = absurd gap
       by_place (Err i) q gap = change_none xs c.key i q
 
-  pub put_in : {U E : Type 0} (h : Holding) → held ≡ h → (c : ChangeRecord) → IsChange c → (place : Result ℕ ℕ) → IsPlace (held_changes h) c.key place → MergeAnswer h c (Ok Taken)
-      → (r : Result U E) (ys : List ChangeRecord) → OnOk r (ys ≡ put_at xs place c) → OnErr r (ys ≡ xs) → OnErr r (IsGap place) → IsPutIn h c place r ys
+  pub put_in : {U E : Type 0} (h : Holding) → held ≡ h → (c : ChangeRecord) → IsChange c → (place : Result ℕ ℕ) →
+      IsPlace (held_changes h) c.key place → MergeAnswer h c (Ok Taken)
+      → (r : Result U E) (ys : List ChangeRecord) → OnOk r (ys ≡ put_at xs place c) → OnErr r (ys ≡ xs) → OnErr r (IsGap place) →
+      IsPutIn h c place r ys
   put_in h is c valid place p a r ys ok err gap =
       subst (λ g. IsPutIn g c place r ys) is
       (put_facts c valid place (change_place h is c place p) (subst (λ g. MergeAnswer g c (Ok Taken)) (sym is) a) r ys ok err gap)
@@ -76,12 +84,15 @@ module _ (fs : List Floor) (xs : List ChangeRecord) (lim : LimitsRecord) (kept :
   pub answer_in_place : (h : Holding) → held ≡ h → (c : ChangeRecord) (i : ℕ) (d : ChangeRecord) (void : Bool) (r : Result Merge JoinFault)
       → IsPlace (held_changes h) c.key (Ok i) → void ≡ is_void_at h c → AnswersHeld (get_or xs i d) void c r → MergeAnswer h c r
   answer_in_place h is c i d void r p v a =
-      subst (λ g. MergeAnswer g c r) is (held_answer fs xs lim kept c i d void r (change_place h is c (Ok i) p) (v ∙ ap (λ g. is_void_at g c) (sym is)) a)
+      subst (λ g. MergeAnswer g c r) is (held_answer fs xs lim kept c i d void r (change_place h is c (Ok i) p)
+      (v ∙ ap (λ g. is_void_at g c) (sym is)) a)
 
   pub answer_in_gap : (h : Holding) → held ≡ h → (c : ChangeRecord) (i n : ℕ) (void : Bool) (r : Result Merge JoinFault)
-      → IsPlace (held_changes h) c.key (Err i) → n ≡ length xs → void ≡ is_void_at h c → UnlessVoid void (AnswersNew n lim.keys r) r → MergeAnswer h c r
+      → IsPlace (held_changes h) c.key (Err i) → n ≡ length xs → void ≡ is_void_at h c → UnlessVoid void (AnswersNew n lim.keys r) r →
+      MergeAnswer h c r
   answer_in_gap h is c i n void r p e v a =
-      subst (λ g. MergeAnswer g c r) is (new_answer fs xs lim kept c i n void r (change_place h is c (Err i) p) e (v ∙ ap (λ g. is_void_at g c) (sym is)) a)
+      subst (λ g. MergeAnswer g c r) is (new_answer fs xs lim kept c i n void r (change_place h is c (Err i) p) e
+      (v ∙ ap (λ g. is_void_at g c) (sym is)) a)
 
   -- what a floor leaves
   pub record IsRaisedIn (h : Holding) (f : Floor) (gs : List Floor) (ys : List ChangeRecord) : Type 0 where
@@ -90,10 +101,14 @@ module _ (fs : List Floor) (xs : List ChangeRecord) (lim : LimitsRecord) (kept :
     pub list : held_changes (holding_of gs ys lim) ≡ left_by_floor f (held_changes h)
     pub joined : IsTop (held_items (holding_of gs ys lim)) (held_items h ++ Floored f ∷ [])
 
-  raise_facts : (f : Floor) (place : Result ℕ ℕ) → IsFloorPlace fs f.owner place → RaiseAnswer held f (Ok Taken) → (gs : List Floor) (ys : List ChangeRecord) → gs ≡ put_at fs place f → ys ≡ left_by_floor f xs → IsRaisedIn held f gs ys
+  raise_facts : (f : Floor) (place : Result ℕ ℕ) → IsFloorPlace fs f.owner place → RaiseAnswer held f (Ok Taken) →
+      (gs : List Floor) (ys : List ChangeRecord) → gs ≡ put_at fs place f → ys ≡ left_by_floor f xs → IsRaisedIn held f gs ys
   raise_facts f place p a gs ys floors changes =
-      let still = subst (λ l. AreKept l ys lim) (sym floors) (subst (λ l. AreKept (put_at fs place f) l lim) (sym changes) (raised_kept fs xs lim kept f place p (Ok Taken) a)) in
-      let after : holding_of gs ys lim ≡ after_raise held f (Ok Taken) = ap (λ l. holding_of l ys lim) floors ∙ ap (λ l. holding_of (put_at fs place f) l lim) changes ∙ raised_after fs xs lim kept f place p (Ok Taken) in record {
+      let still = subst (λ l. AreKept l ys lim) (sym floors)
+      (subst (λ l. AreKept (put_at fs place f) l lim) (sym changes) (raised_kept fs xs lim kept f place p (Ok Taken) a)) in
+      let after : holding_of gs ys lim ≡ after_raise held f (Ok Taken) =
+      ap (λ l. holding_of l ys lim) floors ∙ ap (λ l. holding_of (put_at fs place f) l lim) changes ∙
+      raised_after fs xs lim kept f place p (Ok Taken) in record {
         still = still;
         after = after;
         list = changes_are gs ys lim still.keys ∙ changes ∙ ap (left_by_floor f) (sym (changes_are fs xs lim kept.keys));
@@ -113,11 +128,15 @@ module _ (fs : List Floor) (xs : List ChangeRecord) (lim : LimitsRecord) (kept :
     -- an owner whose place is one more has no floor
     pub no_floor : (owner : List ℕ) (place : Result ℕ ℕ) → IsFloorPlace (held_floors h) owner place → IsGap place → floor_for h owner ≡ None
     no_floor owner (Ok i) p gap = absurd gap
-    no_floor owner (Err i) p gap = ap (λ g. floor_for g owner) (sym is) ∙ get_none name_cmp nat_list_cmp_total exact_bytes owned fs owner i (floor_place owner (Err i) p)
+    no_floor owner (Err i) p gap = ap (λ g. floor_for g owner) (sym is) ∙
+        get_none name_cmp nat_list_cmp_total exact_bytes owned fs owner i (floor_place owner (Err i) p)
 
-    pub raised_over : (f : Floor) (place : Result ℕ ℕ) → IsFloorPlace fs f.owner place → RaiseAnswer held f (Ok Taken) → (gs : List Floor) (ys : List ChangeRecord) → gs ≡ put_at fs place f → ys ≡ left_by_floor f xs → IsRaisedIn h f gs ys
+    pub raised_over : (f : Floor) (place : Result ℕ ℕ) → IsFloorPlace fs f.owner place → RaiseAnswer held f (Ok Taken) →
+        (gs : List Floor) (ys : List ChangeRecord) → gs ≡ put_at fs place f → ys ≡ left_by_floor f xs → IsRaisedIn h f gs ys
     raised_over f place p a gs ys floors changes = subst (λ g. IsRaisedIn g f gs ys) is (raise_facts f place p a gs ys floors changes)
 
-    pub raised_in : (f : Floor) (place : Result ℕ ℕ) → IsFloorPlace (held_floors h) f.owner place → RaiseAnswer h f (Ok Taken) → (gs : List Floor) (ys : List ChangeRecord) →
+    pub raised_in : (f : Floor) (place : Result ℕ ℕ) → IsFloorPlace (held_floors h) f.owner place → RaiseAnswer h f (Ok Taken) →
+        (gs : List Floor) (ys : List ChangeRecord) →
         gs ≡ put_at fs place f → ys ≡ left_by_floor f xs → IsRaisedIn h f gs ys
-    raised_in f place p a gs ys floors changes = raised_over f place (floor_place f.owner place p) (subst (λ g. RaiseAnswer g f (Ok Taken)) (sym is) a) gs ys floors changes
+    raised_in f place p a gs ys floors changes =
+        raised_over f place (floor_place f.owner place p) (subst (λ g. RaiseAnswer g f (Ok Taken)) (sym is) a) gs ys floors changes

@@ -38,16 +38,19 @@ In-from_map f (z ∷ xs) y (inl e) = (z, inl refl, e)
 In-from_map f (z ∷ xs) y (inr h) = let r = In-from_map f xs y h in (r.0, inr r.1, r.2)
 
 -- two lists in order, of which the first is below the second
-pub sorted_append : {X : Type 0} (cmp : X → X → Ordering) (xs ys : List X) → IsStrictlySortedBy cmp xs → IsStrictlySortedBy cmp ys → ((x y : X) → In x xs → In y ys → cmp x y ≡ Less) → IsStrictlySortedBy cmp (xs ++ ys)
+pub sorted_append : {X : Type 0} (cmp : X → X → Ordering) (xs ys : List X) → IsStrictlySortedBy cmp xs → IsStrictlySortedBy cmp ys →
+    ((x y : X) → In x xs → In y ys → cmp x y ≡ Less) → IsStrictlySortedBy cmp (xs ++ ys)
 unfolding IsStrictlySortedBy
 sorted_append cmp [] ys s t f = t
 sorted_append cmp (x ∷ xs) ys s t f = (
-  along (λ z. cmp x z ≡ Less) (xs ++ ys) (λ z h. elim (In-append xs ys z h) [ inl k ↦ from_along (λ z. cmp x z ≡ Less) xs z s.0 k | inr k ↦ f x z (inl refl) k ]),
+  along (λ z. cmp x z ≡ Less) (xs ++ ys) (λ z h.
+      elim (In-append xs ys z h) [ inl k ↦ from_along (λ z. cmp x z ≡ Less) xs z s.0 k | inr k ↦ f x z (inl refl) k ]),
   sorted_append cmp xs ys s.1 t (λ a b h k. f a b (inr h) k),
 )
 
 -- A key that compares equal to one above another doesn't compare equal to that other.
-pub unlike : {K : Type 0} (R : K → K → Ordering) (total : IsTotalOrder R) (x q y : K) → eq_by_cmp R q y ≡ true → T (is_lt (R x y)) → eq_by_cmp R q x ≡ false
+pub unlike : {K : Type 0} (R : K → K → Ordering) (total : IsTotalOrder R) (x q y : K) → eq_by_cmp R q y ≡ true → T (is_lt (R x y)) →
+    eq_by_cmp R q x ≡ false
 unlike R total x q y tied less =
     elim (R q x) as (λ r. R q x ≡ r → is_eq r ≡ false) [
       | Less ↦ λ _. refl
@@ -76,13 +79,16 @@ module _ {K V : Type 0} (R : K → K → Ordering) (total : IsTotalOrder R) (exa
   find-from_In q v (e ∷ es) s (inl p) =
       let key : q ≡ e.0 = ap (λ (z : K × V). z.0) p in
       let val : v ≡ e.1 = ap (λ (z : K × V). z.1) p in
-      ap (λ b. cond b (Some e.1) (find R q es)) (subst (λ k. eq_by_cmp R q k ≡ true) key (ap is_eq (tied_itself total q))) ∙ ap (λ w. Some w) (sym val)
+      ap (λ b. cond b (Some e.1) (find R q es)) (subst (λ k. eq_by_cmp R q k ≡ true) key (ap is_eq (tied_itself total q))) ∙
+      ap (λ w. Some w) (sym val)
   find-from_In q v (e ∷ es) s (inr h) =
-      ap (λ b. cond b (Some e.1) (find R q es)) (unlike R total e.0 q q (ap is_eq (tied_itself total q)) (below_is e.0 es (q, v) (both _ _ s).0 h))
+      ap (λ b. cond b (Some e.1) (find R q es))
+      (unlike R total e.0 q q (ap is_eq (tied_itself total q)) (below_is e.0 es (q, v) (both _ _ s).0 h))
       ∙ find-from_In q v es (both _ _ s).1 h
 
   -- Items built from entries are ordered as the keys are.
-  pub sorted_items : {X : Type 0} (cmp : X → X → Ordering) (f : K × V → X) (es : List (K × V)) → T (is_sorted R es) → ((a b : K × V) → In a es → In b es → cmp (f a) (f b) ≡ R a.0 b.0) → IsStrictlySortedBy cmp (map f es)
+  pub sorted_items : {X : Type 0} (cmp : X → X → Ordering) (f : K × V → X) (es : List (K × V)) → T (is_sorted R es) →
+      ((a b : K × V) → In a es → In b es → cmp (f a) (f b) ≡ R a.0 b.0) → IsStrictlySortedBy cmp (map f es)
   unfolding IsStrictlySortedBy
   sorted_items cmp f [] s same = tt
   sorted_items {X} cmp f (e ∷ es) s same = (

@@ -22,5 +22,6 @@ pub floors_back : (fs : List Floor) → map floor_from (by_owner fs) ≡ fs
 floors_back [] = refl
 floors_back (f ∷ fs) = ap (λ l. f ∷ l) (floors_back fs)
 
-pub floors_are : (fs : List Floor) (xs : List ChangeRecord) (lim : LimitsRecord) → AreOwnersRising fs → held_floors (holding_of fs xs lim) ≡ fs
+pub floors_are : (fs : List Floor) (xs : List ChangeRecord) (lim : LimitsRecord) → AreOwnersRising fs →
+    held_floors (holding_of fs xs lim) ≡ fs
 floors_are fs xs lim s = ap (λ es. map floor_from es) (entries_are name_cmp nat_list_cmp_total exact_bytes owned fs s) ∙ floors_back fs

@@ -14,7 +14,8 @@ never_room h true c (inr a) = absurd (cc)
 never_room h false c (inr a) = a.1
 
 pub held_key_needs_none : HeldKeyNeedsNoRoom
-held_key_needs_none old h c e a = never_room h (is_void_at old c) c (subst (λ o. AnswersFor o (is_void_at old c) (held_count old) old.limits.keys c (Err NoRoom)) e a)
+held_key_needs_none old h c e a = never_room h (is_void_at old c) c
+    (subst (λ o. AnswersFor o (is_void_at old c) (held_count old) old.limits.keys c (Err NoRoom)) e a)
 
 pub copy_in_place_needs_none : CopyInPlaceNeedsNoRoom
 copy_in_place_needs_none old h c e b a = by_cause a.1

@@ -12,11 +12,15 @@ use Rattle.ds_held.proofs.JoinLemmas.{get_front, get_back}
 
 module _ (fs : List Floor) (cs : List ChangeRecord) where
   -- The element at an index of floors and then changes, as items.
-  pub floor_item_at : (i : ℕ) (f : Floor) → i < length fs → f ≡ get_or fs i f → Some (floored f) ≡ slice_get (map floored fs ++ map change_item cs) i
+  pub floor_item_at : (i : ℕ) (f : Floor) → i < length fs → f ≡ get_or fs i f →
+      Some (floored f) ≡ slice_get (map floored fs ++ map change_item cs) i
   floor_item_at i f within is =
-      sym (get_front i (map floored fs) (map change_item cs) (omega (arith, within, length-map fs floored)) ∙ slice_get-map floored fs i ∙ ap (option_map floored) (slice_get_read fs (length fs) i f refl within is))
+      sym (get_front i (map floored fs) (map change_item cs) (omega (arith, within, length-map fs floored)) ∙ slice_get-map floored fs i ∙
+      ap (option_map floored) (slice_get_read fs (length fs) i f refl within is))
 
-  pub change_item_at : (i : ℕ) (o : Option ChangeRecord) → length fs ≤ i → o ≡ slice_get cs (i - length fs) → option_map change_item o ≡ slice_get (map floored fs ++ map change_item cs) i
+  pub change_item_at : (i : ℕ) (o : Option ChangeRecord) → length fs ≤ i → o ≡ slice_get cs (i - length fs) →
+      option_map change_item o ≡ slice_get (map floored fs ++ map change_item cs) i
   change_item_at i o past is =
-      ap (option_map change_item) is ∙ sym (slice_get-map change_item cs (i - length fs)) ∙ sym (get_back (i - length fs) (map floored fs) (map change_item cs))
+      ap (option_map change_item) is ∙ sym (slice_get-map change_item cs (i - length fs)) ∙
+      sym (get_back (i - length fs) (map floored fs) (map change_item cs))
       ∙ ap (slice_get (map floored fs ++ map change_item cs)) (omega (arith, past, length-map fs floored))

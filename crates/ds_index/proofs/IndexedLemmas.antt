@@ -1,5 +1,6 @@
 -- What is listed of what is held.
-use Rattle.std.proofs.Common.{◌≡◌, ℕ, ◌⊎◌, ◌==◌, Bool, true, false, cond, List, [], ◌∷◌, Option, Some, None, refl, sym, ap, ◌∙◌, subst, inl, inr, Contains}
+use Rattle.std.proofs.Common.{◌≡◌, ℕ, ◌⊎◌, ◌==◌, Bool, true, false, cond, List, [], ◌∷◌, Option, Some, None, refl, sym, ap, ◌∙◌, subst, inl}
+use Rattle.std.proofs.Common.{inr, Contains}
 use Rattle.std.specs.declared.cmp.Ordering.{Ordering}
 use Rattle.std.specs.declared.cmp.Ordering.TheVariants.{Less, Equal, Greater}
 use Rattle.std.specs.Ordering.{nat_cmp, is_eq, eq_by_cmp, ordering_then, ordering_reverse}
@@ -55,10 +56,13 @@ module _ (old : FinMap key_cmp ChangeRecord) (c : ChangeRecord) where
   abbrev pub taken : FinMap key_cmp ChangeRecord
   taken = insert old c.key c
 
-  holder_after : (name : List ℕ) (b : Bool) → eq_by_cmp key_cmp (label_key name) c.key ≡ b → holder_for taken name ≡ cond b (Some (endpoint_left c)) (holder_for old name)
-  holder_after name b e = ap (option_map endpoint_left) (get-insert keys_total old c.key c (label_key name) ∙ ap (λ t. cond t (Some c) (get old (label_key name))) e) ∙ by_test b
+  holder_after : (name : List ℕ) (b : Bool) → eq_by_cmp key_cmp (label_key name) c.key ≡ b →
+      holder_for taken name ≡ cond b (Some (endpoint_left c)) (holder_for old name)
+  holder_after name b e = ap (option_map endpoint_left)
+      (get-insert keys_total old c.key c (label_key name) ∙ ap (λ t. cond t (Some c) (get old (label_key name))) e) ∙ by_test b
     where
-      by_test : (b : Bool) → option_map endpoint_left (cond b (Some c) (get old (label_key name))) ≡ cond b (Some (endpoint_left c)) (holder_for old name)
+      by_test : (b : Bool) → option_map endpoint_left (cond b (Some c) (get old (label_key name))) ≡ cond b (Some (endpoint_left c))
+          (holder_for old name)
       by_test true = refl
       by_test false = refl
 
@@ -76,7 +80,8 @@ module _ (old : FinMap key_cmp ChangeRecord) (c : ChangeRecord) where
           by_test true e = absurd (other (ap (λ (k : Key). k.kind) (sym (same_key (label_key name) c.key e))))
           by_test false e = holder_after name false e
 
-  module _ (names news : List Named) (after : Named) (i : IsIndexed old names) (label : c.key.kind ≡ Label) (is : after ≡ named_at (endpoint_left c) c.key.name) where
+  module _ (names news : List Named) (after : Named) (i : IsIndexed old names) (label : c.key.kind ≡ Label)
+      (is : after ≡ named_at (endpoint_left c) c.key.name) where
     own_key : eq_by_cmp key_cmp (label_key c.key.name) c.key ≡ true
     own_key = same_key-refl (label_key c.key.name) c.key (sym (label_key_is c.key label))
 
@@ -85,27 +90,36 @@ module _ (old : FinMap key_cmp ChangeRecord) (c : ChangeRecord) where
 
     after_listed : (p : Named) → eq_by_cmp key_cmp (label_key p.name) c.key ≡ true → holder_for taken p.name ≡ Some p.endpoint → p ≡ after
     after_listed p e h =
-        same_pair (sym (same_Some (endpoint_left c) p.endpoint (sym (holder_after p.name true e) ∙ h))) (ap (λ (k : Key). k.name) (same_key (label_key p.name) c.key e)) ∙ sym is
+        same_pair (sym (same_Some (endpoint_left c) p.endpoint (sym (holder_after p.name true e) ∙ h)))
+        (ap (λ (k : Key). k.name) (same_key (label_key p.name) c.key e)) ∙ sym is
 
     -- a new label was
     pub new_indexed : get old c.key ≡ None → IsAdded names news after → IsIndexed taken news
     new_indexed none added = record {
       listed = λ p e. by_listed p (eq_by_cmp key_cmp (label_key p.name) c.key) refl e;
-      held = λ p h. elim (added.only p h) [ inl e ↦ after_held p e | inr k ↦ by_held p (eq_by_cmp key_cmp (label_key p.name) c.key) refl k ];
+      held = λ p h. elim (added.only p h) [
+        | inl e ↦ after_held p e
+        | inr k ↦ by_held p (eq_by_cmp key_cmp (label_key p.name) c.key) refl k
+      ];
     }
       where
-        by_listed : (p : Named) (b : Bool) → eq_by_cmp key_cmp (label_key p.name) c.key ≡ b → holder_for taken p.name ≡ Some p.endpoint → Contains news p
+        by_listed : (p : Named) (b : Bool) → eq_by_cmp key_cmp (label_key p.name) c.key ≡ b → holder_for taken p.name ≡ Some p.endpoint →
+            Contains news p
         by_listed p true e h = subst (λ (q : Named). Contains news q) (sym (after_listed p e h)) added.here
         by_listed p false e h = added.keeps p (i.listed p (sym (holder_after p.name false e) ∙ h))
 
-        by_held : (p : Named) (b : Bool) → eq_by_cmp key_cmp (label_key p.name) c.key ≡ b → Contains names p → holder_for taken p.name ≡ Some p.endpoint
-        by_held p true e k = none_is (sym (ap (λ (key : Key). option_map endpoint_left (get old key)) (same_key (label_key p.name) c.key e) ∙ ap (option_map endpoint_left) none) ∙ i.held p k)
+        by_held : (p : Named) (b : Bool) → eq_by_cmp key_cmp (label_key p.name) c.key ≡ b → Contains names p →
+            holder_for taken p.name ≡ Some p.endpoint
+        by_held p true e k = none_is (sym (ap (λ (key : Key). option_map endpoint_left (get old key)) (same_key (label_key p.name) c.key e)
+            ∙ ap (option_map endpoint_left) none) ∙ i.held p k)
         by_held p false e k = holder_after p.name false e ∙ i.held p k
 
     pub not_listed : get old c.key ≡ None → Contains names after → ⊥
     not_listed none h =
         none_is
-        (sym (ap (λ (q : Named). holder_for old q.name) is ∙ ap (λ (key : Key). option_map endpoint_left (get old key)) (sym (label_key_is c.key label)) ∙ ap (option_map endpoint_left) none) ∙ i.held after h)
+        (sym (ap (λ (q : Named). holder_for old q.name) is ∙
+        ap (λ (key : Key). option_map endpoint_left (get old key)) (sym (label_key_is c.key label)) ∙ ap (option_map endpoint_left) none) ∙
+        i.held after h)
 
     -- a label took the place of the one that was held
     module _ (before : Named) (name : before.name ≡ c.key.name) (held : holder_for old before.name ≡ Some before.endpoint) where
@@ -117,16 +131,23 @@ module _ (old : FinMap key_cmp ChangeRecord) (c : ChangeRecord) where
       pub over_indexed : IsReplaced names news before after → IsIndexed taken news
       over_indexed replaced = record {
         listed = λ p e. by_listed p (eq_by_cmp key_cmp (label_key p.name) c.key) refl e;
-        held = λ p h. elim (replaced.only p h) [ inl e ↦ after_held p e | inr k ↦ by_held p (eq_by_cmp key_cmp (label_key p.name) c.key) refl k.0 k.1 ];
+        held = λ p h. elim (replaced.only p h) [
+          | inl e ↦ after_held p e
+          | inr k ↦ by_held p (eq_by_cmp key_cmp (label_key p.name) c.key)
+              refl k.0 k.1
+        ];
       }
         where
-          by_listed : (p : Named) (b : Bool) → eq_by_cmp key_cmp (label_key p.name) c.key ≡ b → holder_for taken p.name ≡ Some p.endpoint → Contains news p
+          by_listed : (p : Named) (b : Bool) → eq_by_cmp key_cmp (label_key p.name) c.key ≡ b → holder_for taken p.name ≡ Some p.endpoint →
+              Contains news p
           by_listed p true e h = subst (λ (q : Named). Contains news q) (sym (after_listed p e h)) replaced.here
           by_listed p false e h =
               replaced.keeps p (i.listed p (sym (holder_after p.name false e) ∙ h)) (λ q.
-              (let no : true ≡ false = sym own_key ∙ ap (λ n. eq_by_cmp key_cmp (label_key n) c.key) (sym name ∙ ap (λ (r : Named). r.name) (sym q)) ∙ e in absurd (cc)))
+              (let no : true ≡ false = sym own_key ∙
+              ap (λ n. eq_by_cmp key_cmp (label_key n) c.key) (sym name ∙ ap (λ (r : Named). r.name) (sym q)) ∙ e in absurd (cc)))
 
-          by_held : (p : Named) (b : Bool) → eq_by_cmp key_cmp (label_key p.name) c.key ≡ b → Contains names p → (p ≡ before → ⊥) → holder_for taken p.name ≡ Some p.endpoint
+          by_held : (p : Named) (b : Bool) → eq_by_cmp key_cmp (label_key p.name) c.key ≡ b → Contains names p → (p ≡ before → ⊥) →
+              holder_for taken p.name ≡ Some p.endpoint
           by_held p true e k n =
               let same : p.name ≡ before.name = ap (λ (key : Key). key.name) (same_key (label_key p.name) c.key e) ∙ sym name in
               absurd (n (same_pair (same_Some p.endpoint before.endpoint (sym (i.held p k) ∙ ap (holder_for old) same ∙ held)) same))
@@ -134,7 +155,8 @@ module _ (old : FinMap key_cmp ChangeRecord) (c : ChangeRecord) where
 
 pub nothing_indexed : (changes : FinMap key_cmp ChangeRecord) (names : List Named) → changes ≡ empty → names ≡ [] → IsIndexed changes names
 nothing_indexed changes names e f = record {
-  listed = λ p q. none_is (sym (ap (λ (x : FinMap key_cmp ChangeRecord). holder_for x p.name) e ∙ ap (option_map endpoint_left) (get-empty key_cmp (label_key p.name))) ∙ q);
+  listed = λ p q. none_is (sym (ap (λ (x : FinMap key_cmp ChangeRecord). holder_for x p.name) e ∙
+      ap (option_map endpoint_left) (get-empty key_cmp (label_key p.name))) ∙ q);
   held = λ p k. absurd (Contains-nil p (subst (λ (l : List Named). Contains l p) f k));
 }
 
@@ -166,13 +188,16 @@ module _ {X : Type 0} where
       by_test false q s (inr k) rest = rest s k
 
   -- the first that passes comes before all others that do
-  first_is_least : (R : X → X → Ordering) (p : X → Bool) (xs : List X) → IsStrictlySortedBy R xs → (x y : X) → find p xs ≡ Some x → In y xs → p y ≡ true → (x ≡ y) ⊎ (R x y ≡ Less)
+  first_is_least : (R : X → X → Ordering) (p : X → Bool) (xs : List X) → IsStrictlySortedBy R xs → (x y : X) → find p xs ≡ Some x →
+      In y xs → p y ≡ true → (x ≡ y) ⊎ (R x y ≡ Less)
   first_is_least R p [] s x y e h t = absurd h
   first_is_least R p (z ∷ zs) s x y e h t = by_test (p z) refl e h (λ f k. first_is_least R p zs (sorted_tail R z zs s) x y f k t)
     where
-      by_test : (b : Bool) → p z ≡ b → cond b (Some z) (find p zs) ≡ Some x → In y (z ∷ zs) → (find p zs ≡ Some x → In y zs → (x ≡ y) ⊎ (R x y ≡ Less)) → (x ≡ y) ⊎ (R x y ≡ Less)
+      by_test : (b : Bool) → p z ≡ b → cond b (Some z) (find p zs) ≡ Some x → In y (z ∷ zs) →
+          (find p zs ≡ Some x → In y zs → (x ≡ y) ⊎ (R x y ≡ Less)) → (x ≡ y) ⊎ (R x y ≡ Less)
       by_test true q f (inl r) rest = inl (sym (same_Some z x f) ∙ sym r)
-      by_test true q f (inr k) rest = inr (subst (λ w. R w y ≡ Less) (same_Some z x f) (from_along (λ w. R z w ≡ Less) zs y (sorted_head R z zs s) k))
+      by_test true q f (inr k) rest = inr (subst (λ w. R w y ≡ Less) (same_Some z x f)
+          (from_along (λ w. R z w ≡ Less) zs y (sorted_head R z zs s) k))
       by_test false q f (inl r) rest = let no : true ≡ false = sym t ∙ ap p r ∙ q in absurd (cc)
       by_test false q f (inr k) rest = rest f k
 
@@ -196,7 +221,9 @@ holds_value : (e : EndpointRecord) (o : Option Value) → option_and_then endpoi
 holds_value e None h = none_is h
 holds_value e (Some (values.Label d)) h =
     let same : d ≡ e = same_Some d e h in
-    and_from (d.generation == e.generation) (d.slot == e.slot) (eq-eqb d.generation e.generation (ap (λ (x : EndpointRecord). x.generation) same)) (eq-eqb d.slot e.slot (ap (λ (x : EndpointRecord). x.slot) same))
+    and_from (d.generation == e.generation) (d.slot == e.slot)
+    (eq-eqb d.generation e.generation (ap (λ (x : EndpointRecord). x.generation) same))
+    (eq-eqb d.slot e.slot (ap (λ (x : EndpointRecord). x.slot) same))
 holds_value e (Some (values.U32 n)) h = none_is h
 holds_value e (Some (values.Str t)) h = none_is h
 holds_value e (Some (values.Mem b)) h = none_is h
@@ -209,19 +236,22 @@ label_kind e kind (Put (values.Str t)) k h = none_is h
 label_kind e kind (Put (values.Mem b)) k h = none_is h
 label_kind e kind Gone k h = none_is h
 
-module _ (changes : FinMap key_cmp ChangeRecord) (own : (key : Key) (c : ChangeRecord) → get changes key ≡ Some c → c.key ≡ key) (fit : All IsChange (values changes))
+module _ (changes : FinMap key_cmp ChangeRecord) (own : (key : Key) (c : ChangeRecord) → get changes key ≡ Some c → c.key ≡ key)
+    (fit : All IsChange (values changes))
     (names : List Named) (sorted : IsStrictlySortedBy named_cmp names) (i : IsIndexed changes names) (e : EndpointRecord) where
   -- a held label of the endpoint is listed
   held_label : (c : ChangeRecord) → In c (values changes) → names_endpoint e c ≡ true → c.key ≡ label_key c.key.name
   held_label c k t =
-      label_key_is c.key (label_kind e c.key.kind c.body (All-contains IsChange (values changes) c fit (Contains-from_In c (values changes) k)).kind (value_holds e (value_of c) t))
+      label_key_is c.key (label_kind e c.key.kind c.body
+      (All-contains IsChange (values changes) c fit (Contains-from_In c (values changes) k)).kind (value_holds e (value_of c) t))
 
   held_listed : (c : ChangeRecord) → In c (values changes) → names_endpoint e c ≡ true → In (named_at (Some e) c.key.name) names
   held_listed c k t =
       In-from_Contains (named_at (Some e) c.key.name) names
       (i.listed (named_at (Some e) c.key.name)
       (ap (λ (key : Key). option_map endpoint_left (get changes key)) (sym (held_label c k t)) ∙
-      ap (option_map endpoint_left) (held_at_key changes own c (Contains-from_In c (values changes) k)) ∙ ap (λ o. Some o) (value_holds e (value_of c) t)))
+      ap (option_map endpoint_left) (held_at_key changes own c (Contains-from_In c (values changes) k)) ∙
+      ap (λ o. Some o) (value_holds e (value_of c) t)))
 
   -- and a listed one of the endpoint is held
   pub record Holder (name : List ℕ) : Type 0 where
@@ -240,8 +270,15 @@ module _ (changes : FinMap key_cmp ChangeRecord) (own : (key : Key) (c : ChangeR
       by_held None q = none_is (sym (ap (option_map endpoint_left) q) ∙ i.held p (Contains-from_In p names k))
       by_held (Some c) q =
           let holds : endpoint_left c ≡ Some e =
-          same_Some (endpoint_left c) (Some e) (sym (ap (option_map endpoint_left) q) ∙ i.held p (Contains-from_In p names k) ∙ ap (λ o. Some o) (of_endpoint p t)) in
-          record { change = c; among = In-from_Contains c (values changes) (Contains-held changes (label_key p.name) c q); holds = holds_value e (value_of c) holds; key = own (label_key p.name) c q }
+          same_Some (endpoint_left c) (Some e) (sym (ap (option_map endpoint_left) q) ∙ i.held p (Contains-from_In p names k) ∙
+          ap (λ o. Some o) (of_endpoint p t)) in
+          record {
+            change = c;
+            among = In-from_Contains c (values changes) (Contains-held changes (label_key p.name) c q);
+            holds =
+                holds_value e (value_of c) holds;
+            key = own (label_key p.name) c q;
+          }
 
   is_of_itself : (name : List ℕ) → holds_endpoint e (named_at (Some e) name) ≡ true
   is_of_itself name = ap is_eq (tied_itself holders_total (Some e))
@@ -257,19 +294,26 @@ module _ (changes : FinMap key_cmp ChangeRecord) (own : (key : Key) (c : ChangeR
       by_order Equal m = absurd (let no : Equal ≡ Less = m in cc)
       by_order Greater m = absurd (let no : Greater ≡ Less = m in cc)
 
-  pub name_found : option_map (λ (p : Named). p.name) (find (holds_endpoint e) names) ≡ option_map (λ (c : ChangeRecord). c.key.name) (find (names_endpoint e) (values changes))
+  pub name_found : option_map (λ (p : Named). p.name) (find (holds_endpoint e) names) ≡ option_map (λ (c : ChangeRecord). c.key.name)
+      (find (names_endpoint e) (values changes))
   name_found = by_found (find (holds_endpoint e) names) refl (find (names_endpoint e) (values changes)) refl
     where
-      least : (p : Named) (c : ChangeRecord) → find (holds_endpoint e) names ≡ Some p → find (names_endpoint e) (values changes) ≡ Some c → (hold : Holder p.name) → In c (values changes) → names_endpoint e c ≡ true → p.endpoint ≡ Some e
-          → (c ≡ hold.change) ⊎ (change_cmp c hold.change ≡ Less) → (p ≡ named_at (Some e) c.key.name) ⊎ (named_cmp p (named_at (Some e) c.key.name) ≡ Less) → p.name ≡ c.key.name
+      least : (p : Named) (c : ChangeRecord) → find (holds_endpoint e) names ≡ Some p → find (names_endpoint e) (values changes) ≡ Some c →
+          (hold : Holder p.name) → In c (values changes) → names_endpoint e c ≡ true → p.endpoint ≡ Some e
+          → (c ≡ hold.change) ⊎ (change_cmp c hold.change ≡ Less) →
+          (p ≡ named_at (Some e) c.key.name) ⊎ (named_cmp p (named_at (Some e) c.key.name) ≡ Less) → p.name ≡ c.key.name
       least p c f g hold k t at (inl q) r = sym (ap (λ (x : ChangeRecord). x.key.name) q ∙ ap (λ (key : Key). key.name) hold.key)
       least p c f g hold k t at (inr l) (inl q) = ap (λ (x : Named). x.name) q
       least p c f g hold k t at (inr l) (inr m) =
-          let first : key_cmp (label_key c.key.name) (label_key p.name) ≡ Less = ap (λ (key : Key). key_cmp key (label_key p.name)) (sym (held_label c k t)) ∙ ap (key_cmp c.key) (sym hold.key) ∙ l in
-          let second : named_cmp (named_at (Some e) p.name) (named_at (Some e) c.key.name) ≡ Less = ap (λ o. named_cmp (named_at o p.name) (named_at (Some e) c.key.name)) (sym at) ∙ m in
+          let first : key_cmp (label_key c.key.name) (label_key p.name) ≡ Less =
+          ap (λ (key : Key). key_cmp key (label_key p.name)) (sym (held_label c k t)) ∙ ap (key_cmp c.key) (sym hold.key) ∙ l in
+          let second : named_cmp (named_at (Some e) p.name) (named_at (Some e) c.key.name) ≡ Less =
+          ap (λ o. named_cmp (named_at o p.name) (named_at (Some e) c.key.name)) (sym at) ∙ m in
           absurd (not_both c.key.name p.name (key_before c.key.name p.name first) (name_before p.name c.key.name second))
 
-      by_found : (o : Option Named) → find (holds_endpoint e) names ≡ o → (r : Option ChangeRecord) → find (names_endpoint e) (values changes) ≡ r → option_map (λ (p : Named). p.name) o ≡ option_map (λ (c : ChangeRecord). c.key.name) r
+      by_found : (o : Option Named) → find (holds_endpoint e) names ≡ o → (r : Option ChangeRecord) →
+          find (names_endpoint e) (values changes) ≡ r →
+          option_map (λ (p : Named). p.name) o ≡ option_map (λ (c : ChangeRecord). c.key.name) r
       by_found None f None g = refl
       by_found None f (Some c) g =
           let k = among (names_endpoint e) (values changes) c g in
@@ -283,5 +327,7 @@ module _ (changes : FinMap key_cmp ChangeRecord) (own : (key : Key) (c : ChangeR
           let k = among (names_endpoint e) (values changes) c g in
           let t = passes (names_endpoint e) (values changes) c g in
           ap (λ n. Some n)
-          (least p c f g hold k t (of_endpoint p (passes (holds_endpoint e) names p f)) (first_is_least change_cmp (names_endpoint e) (values changes) (held_in_order changes own) c hold.change g hold.among hold.holds)
-          (first_is_least named_cmp (holds_endpoint e) names sorted p (named_at (Some e) c.key.name) f (held_listed c k t) (is_of_itself c.key.name)))
+          (least p c f g hold k t (of_endpoint p (passes (holds_endpoint e) names p f))
+          (first_is_least change_cmp (names_endpoint e) (values changes) (held_in_order changes own) c hold.change g hold.among hold.holds)
+          (first_is_least named_cmp (holds_endpoint e) names sorted p (named_at (Some e) c.key.name) f (held_listed c k t)
+          (is_of_itself c.key.name)))

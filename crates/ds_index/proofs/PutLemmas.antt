@@ -16,14 +16,16 @@ use Rattle.ds_index.proofs.FloorMarkLemmas.{floor_beside_raised, floor_marks_rai
 
 module _ {M : Type 0} (h : Holding) (ms fs : List M) (beside : IsBeside h ms) (floors : IsBesideFloors h fs) where
   -- a change and its mark
-  pub record IsPutBeside {U E : Type 0} (old : MarkedHolding M) (c : ChangeRecord) (m : M) (r : Result U E) (new : Holding) (ns : List M) : Type 0 where
+  pub record IsPutBeside {U E : Type 0} (old : MarkedHolding M) (c : ChangeRecord) (m : M) (r : Result U E) (new : Holding) (ns : List M) :
+      Type 0 where
     pub marks : IsBeside new ns
     pub floor_marks : IsBesideFloors new fs
     pub put : OnOk r (IsPutMarked old c m (marked_by new ns fs))
     pub same : OnErr r (marked_by new ns fs ≡ old)
 
   module _ (c : ChangeRecord) (place : Result ℕ ℕ) (at : IsPlace (held_changes h) c.key place) (m : M) where
-    put_facts : {U E : Type 0} (r : Result U E) (new : Holding) (ns : List M) → IsSound new → OnOk r (new ≡ after_merge h c (Ok Taken)) → OnOk r (held_changes new ≡ put_at (held_changes h) place c)
+    put_facts : {U E : Type 0} (r : Result U E) (new : Holding) (ns : List M) → IsSound new → OnOk r (new ≡ after_merge h c (Ok Taken)) →
+        OnOk r (held_changes new ≡ put_at (held_changes h) place c)
         → OnOk r (ns ≡ put_at ms place m) → OnErr r (new ≡ h) → OnErr r (ns ≡ ms) → IsPutBeside (marked_by h ms fs) c m r new ns
     put_facts (Ok u) new ns sound after list marks same same_marks = record {
       marks = beside_put h ms beside c place at m new ns marks list sound;
@@ -42,21 +44,26 @@ module _ {M : Type 0} (h : Holding) (ms fs : List M) (beside : IsBeside h ms) (f
       same = ap (λ (x : Holding). marked_by x ns fs) same ∙ ap (λ l. marked_by h l fs) same_marks;
     }
 
-    pub put_beside : {U E : Type 0} (old : MarkedHolding M) → marked_by h ms fs ≡ old → (r : Result U E) (new : Holding) (ns : List M) → IsSound new → OnOk r (new ≡ after_merge h c (Ok Taken))
-        → OnOk r (held_changes new ≡ put_at (held_changes h) place c) → OnOk r (ns ≡ put_at ms place m) → OnErr r (new ≡ h) → OnErr r (ns ≡ ms) → IsPutBeside old c m r new ns
+    pub put_beside : {U E : Type 0} (old : MarkedHolding M) → marked_by h ms fs ≡ old → (r : Result U E) (new : Holding) (ns : List M) →
+        IsSound new → OnOk r (new ≡ after_merge h c (Ok Taken))
+        → OnOk r (held_changes new ≡ put_at (held_changes h) place c) → OnOk r (ns ≡ put_at ms place m) → OnErr r (new ≡ h) →
+        OnErr r (ns ≡ ms) → IsPutBeside old c m r new ns
     put_beside old is r new ns sound after list marks same same_marks =
         subst (λ (o : MarkedHolding M). IsPutBeside o c m r new ns) is (put_facts r new ns sound after list marks same same_marks)
 
   -- a floor and its mark
-  pub record IsRaisedBeside {U E : Type 0} (old : MarkedHolding M) (f : Floor) (m : M) (r : Result U E) (new : Holding) (ns gs : List M) : Type 0 where
+  pub record IsRaisedBeside {U E : Type 0} (old : MarkedHolding M) (f : Floor) (m : M) (r : Result U E) (new : Holding) (ns gs : List M) :
+      Type 0 where
     pub marks : IsBeside new ns
     pub floor_marks : IsBesideFloors new gs
     pub raised : OnOk r (IsRaisedMarked old f m (marked_by new ns gs))
     pub same : OnErr r (marked_by new ns gs ≡ old)
 
   module _ (f : Floor) (place : Result ℕ ℕ) (at : IsFloorPlace (held_floors h) f.owner place) (m : M) where
-    raised_facts : {U E : Type 0} (r : Result U E) (new : Holding) (ns gs : List M) → IsSound new → OnOk r (new ≡ after_raise h f (Ok Taken)) → OnOk r (held_changes new ≡ left_by_floor f (held_changes h))
-        → OnOk r (ns ≡ marks_left f (held_changes h) ms) → OnOk r (gs ≡ put_at fs place m) → OnErr r (new ≡ h) → OnErr r (ns ≡ ms) → OnErr r (gs ≡ fs) → IsRaisedBeside (marked_by h ms fs) f m r new ns gs
+    raised_facts : {U E : Type 0} (r : Result U E) (new : Holding) (ns gs : List M) → IsSound new →
+        OnOk r (new ≡ after_raise h f (Ok Taken)) → OnOk r (held_changes new ≡ left_by_floor f (held_changes h))
+        → OnOk r (ns ≡ marks_left f (held_changes h) ms) → OnOk r (gs ≡ put_at fs place m) → OnErr r (new ≡ h) → OnErr r (ns ≡ ms) →
+        OnErr r (gs ≡ fs) → IsRaisedBeside (marked_by h ms fs) f m r new ns gs
     raised_facts (Ok u) new ns gs sound after list marks floor_marks same same_marks same_floor_marks = record {
       marks = beside_raised h ms beside f new ns marks list sound;
       floor_marks = floor_beside_raised h fs floors f place at m new gs after floor_marks;
@@ -74,8 +81,11 @@ module _ {M : Type 0} (h : Holding) (ms fs : List M) (beside : IsBeside h ms) (f
       same = ap (λ (x : Holding). marked_by x ns gs) same ∙ ap (λ l. marked_by h l gs) same_marks ∙ ap (marked_by h ms) same_floor_marks;
     }
 
-    pub raised_with : {U E : Type 0} (old : MarkedHolding M) → marked_by h ms fs ≡ old → (r : Result U E) (new : Holding) (ns gs : List M) → IsSound new → OnOk r (new ≡ after_raise h f (Ok Taken))
-        → OnOk r (held_changes new ≡ left_by_floor f (held_changes h)) → OnOk r (ns ≡ marks_left f (held_changes h) ms) → OnOk r (gs ≡ put_at fs place m) → OnErr r (new ≡ h) → OnErr r (ns ≡ ms) → OnErr r (gs ≡ fs)
+    pub raised_with : {U E : Type 0} (old : MarkedHolding M) → marked_by h ms fs ≡ old →
+        (r : Result U E) (new : Holding) (ns gs : List M) → IsSound new → OnOk r (new ≡ after_raise h f (Ok Taken))
+        → OnOk r (held_changes new ≡ left_by_floor f (held_changes h)) → OnOk r (ns ≡ marks_left f (held_changes h) ms) →
+        OnOk r (gs ≡ put_at fs place m) → OnErr r (new ≡ h) → OnErr r (ns ≡ ms) → OnErr r (gs ≡ fs)
         → IsRaisedBeside old f m r new ns gs
     raised_with old is r new ns gs sound after list marks floor_marks same same_marks same_floor_marks =
-        subst (λ (o : MarkedHolding M). IsRaisedBeside o f m r new ns gs) is (raised_facts r new ns gs sound after list marks floor_marks same same_marks same_floor_marks)
+        subst (λ (o : MarkedHolding M). IsRaisedBeside o f m r new ns gs) is
+        (raised_facts r new ns gs sound after list marks floor_marks same same_marks same_floor_marks)

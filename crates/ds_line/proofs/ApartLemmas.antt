@@ -35,13 +35,16 @@ Alike (p ∷ ps) [] = ⊥
 Alike (p ∷ ps) (q ∷ qs) = (p.class ≡ q.class) × (p.text ≡ q.text → Alike ps qs)
 
 -- Parts that are all at one front are equal.
-pub same_parts : (ps qs : List Part) (bytes r s : List ℕ) → AllTexts ps → AllTexts qs → Alike ps qs → Stand (length ps) ps bytes r → Stand (length qs) qs bytes s → (ps ≡ qs) × (r ≡ s)
+pub same_parts : (ps qs : List Part) (bytes r s : List ℕ) → AllTexts ps → AllTexts qs → Alike ps qs → Stand (length ps) ps bytes r →
+    Stand (length qs) qs bytes s → (ps ≡ qs) × (r ≡ s)
 same_parts [] [] bytes r s texts_p texts_q alike stand_p stand_q = (refl, sym stand_p ∙ stand_q)
 same_parts [] (q ∷ qs) bytes r s texts_p texts_q alike stand_p stand_q = absurd alike
 same_parts (p ∷ ps) [] bytes r s texts_p texts_q alike stand_p stand_q = absurd alike
 same_parts (p ∷ ps) (q ∷ qs) bytes r s texts_p texts_q alike stand_p stand_q =
-    let one = part_one q.class bytes p.text q.text stand_p.0 stand_q.0 (subst (λ (c : Class). IsText c p.text) alike.0 texts_p.0) texts_q.0 (subst (λ (c : Class). Begins (run_of c) bytes p.text stand_p.0) alike.0 stand_p.1) stand_q.1 in
-    let more = same_parts ps qs stand_q.0 r s texts_p.1 texts_q.1 (alike.1 one.0) (subst (λ (x : List ℕ). Stand (length ps) ps x r) one.1 stand_p.2) stand_q.2 in
+    let one = part_one q.class bytes p.text q.text stand_p.0 stand_q.0 (subst (λ (c : Class). IsText c p.text) alike.0 texts_p.0) texts_q.0
+    (subst (λ (c : Class). Begins (run_of c) bytes p.text stand_p.0) alike.0 stand_p.1) stand_q.1 in
+    let more = same_parts ps qs stand_q.0 r s texts_p.1 texts_q.1 (alike.1 one.0)
+    (subst (λ (x : List ℕ). Stand (length ps) ps x r) one.1 stand_p.2) stand_q.2 in
     let first : p ≡ q = ap (λ (c : Class). part c p.text) alike.0 ∙ ap (λ (t : List ℕ). part q.class t) one.0 in
     (ap (λ (x : Part). x ∷ ps) first ∙ ap (λ (xs : List Part). q ∷ xs) more.0, more.1)
 
@@ -80,7 +83,8 @@ changes_alike c d is_c is_d = (
                   λ _. (
                     refl,
                     λ _.
-                        bodies_alike d.key.kind c.body d.body (subst (λ (k : Kind). IsOfKind k c.body) (word_one c.key.kind d.key.kind word) is_c.kind) is_d.kind,
+                        bodies_alike d.key.kind c.body d.body
+                        (subst (λ (k : Kind). IsOfKind k c.body) (word_one c.key.kind d.key.kind word) is_c.kind) is_d.kind,
                   ),
                 ),
               ),
@@ -97,8 +101,28 @@ body_texts (Put v) is = (refl, (refl, (value_text v is, (refl, tt))))
 body_texts Gone is = (refl, (refl, tt))
 
 pub change_texts : (c : ChangeRecord) → IsChange c → AllTexts (change_parts c)
-change_texts c is =
-    (is.name.allowed, (refl, (word_is_word c.key.kind, (refl, (is.owner.allowed, (refl, ((c.version.epoch, omega (arith, is.epoch), refl), (refl, ((c.version.seq, omega (arith, is.seq), refl), (refl, body_texts c.body is.body))))))))))
+change_texts c is = (
+  is.name.allowed,
+  (
+    refl,
+    (
+      word_is_word c.key.kind,
+      (
+        refl,
+        (
+          is.owner.allowed,
+          (
+            refl,
+            (
+              (c.version.epoch, omega (arith, is.epoch), refl),
+              (refl, ((c.version.seq, omega (arith, is.seq), refl), (refl, body_texts c.body is.body))),
+            ),
+          ),
+        ),
+      ),
+    ),
+  ),
+)
 
 -- ---- the parts determine the change
 
@@ -107,7 +131,8 @@ texts_one a b text = (quoted_one a b [] [] (ap (λ (x : List ℕ). x ++ []) text
 
 pub value_one : (v w : Value) → IsValue v → IsValue w → kind_of v ≡ kind_of w → (value_part v).text ≡ (value_part w).text → v ≡ w
 value_one (values.Label a) (values.Label b) is_v is_w kind text = ap values.Label (endpoint_text_one a b is_v is_w text)
-value_one (values.U32 a) (values.U32 b) is_v is_w kind text = ap values.U32 (decimal_injective a b (omega (arith, is_v)) (omega (arith, is_w)) text)
+value_one (values.U32 a) (values.U32 b) is_v is_w kind text =
+    ap values.U32 (decimal_injective a b (omega (arith, is_v)) (omega (arith, is_w)) text)
 value_one (values.Str a) (values.Str b) is_v is_w kind text = ap values.Str (texts_one a b text)
 value_one (values.Mem a) (values.Mem b) is_v is_w kind text = ap values.Mem (hex_one a b is_v.each is_w.each text)
 value_one (values.Label a) (values.U32 b) is_v is_w kind text = absurd (omega (arith, ap kind_place kind))
@@ -134,10 +159,13 @@ change_one c d is_c is_d eq =
     let kind : c.key.kind ≡ d.key.kind = word_one c.key.kind d.key.kind (ap (text_at 2) eq) in
     let key : c.key ≡ d.key = key_is c.key d.key (ap (text_at 0) eq) kind in
     let owner : c.owner ≡ d.owner = ap (text_at 4) eq in
-    let epoch : c.version.epoch ≡ d.version.epoch = decimal_injective _ _ (omega (arith, is_c.epoch)) (omega (arith, is_d.epoch)) (ap (text_at 6) eq) in
-    let seq : c.version.seq ≡ d.version.seq = decimal_injective _ _ (omega (arith, is_c.seq)) (omega (arith, is_d.seq)) (ap (text_at 8) eq) in
+    let epoch : c.version.epoch ≡ d.version.epoch =
+    decimal_injective _ _ (omega (arith, is_c.epoch)) (omega (arith, is_d.epoch)) (ap (text_at 6) eq) in
+    let seq : c.version.seq ≡ d.version.seq =
+    decimal_injective _ _ (omega (arith, is_c.seq)) (omega (arith, is_d.seq)) (ap (text_at 8) eq) in
     let version : c.version ≡ d.version = version_is c.version d.version epoch seq in
-    let body : c.body ≡ d.body = body_one d.key.kind c.body d.body is_c.body is_d.body (subst (λ (k : Kind). IsOfKind k c.body) kind is_c.kind) is_d.kind (ap (drop 10) eq) in
+    let body : c.body ≡ d.body = body_one d.key.kind c.body d.body is_c.body is_d.body
+    (subst (λ (k : Kind). IsOfKind k c.body) kind is_c.kind) is_d.kind (ap (drop 10) eq) in
     ap (λ (k : Key). change_of k c.owner c.version c.body) key
     ∙ ap (λ (o : List ℕ). change_of d.key o c.version c.body) owner
     ∙ ap (λ (v : Version). change_of d.key d.owner v c.body) version
@@ -145,7 +173,8 @@ change_one c d is_c is_d eq =
 
 pub apart : (c d : ChangeRecord) (r s : List ℕ) → IsChange c → IsChange d → spelling c ++ r ≡ spelling d ++ s → (c ≡ d) × (r ≡ s)
 apart c d r s is_c is_d eq =
-    let same = same_parts (change_parts c) (change_parts d) (spelling c ++ r) r s (change_texts c is_c) (change_texts d is_d) (changes_alike c d is_c is_d) (line_stands c (spelling c ++ r) r refl) (line_stands d (spelling c ++ r) s eq) in
+    let same = same_parts (change_parts c) (change_parts d) (spelling c ++ r) r s (change_texts c is_c) (change_texts d is_d)
+    (changes_alike c d is_c is_d) (line_stands c (spelling c ++ r) r refl) (line_stands d (spelling c ++ r) s eq) in
     (change_one c d is_c is_d same.0, same.1)
 
 pub one_change : (c d : ChangeRecord) → IsChange c → IsChange d → spelling c ≡ spelling d → c ≡ d

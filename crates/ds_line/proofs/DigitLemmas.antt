@@ -1,5 +1,6 @@
 -- Runs of hex digits, and the bytes that they write.
-use Rattle.std.proofs.Common.{◌≡◌, ℕ, zero, suc, ◌/◌, ◌%◌, ◌<◌, Bool, true, ◌&&◌, inl, inr, List, [], ◌∷◌, slice_index, Result, refl, sym, ap, ◌∙◌, arith}
+use Rattle.std.proofs.Common.{◌≡◌, ℕ, zero, suc, ◌/◌, ◌%◌, ◌<◌, Bool, true, ◌&&◌, inl, inr, List, [], ◌∷◌, slice_index, Result, refl, sym}
+use Rattle.std.proofs.Common.{ap, ◌∙◌, arith}
 use Rattle.std.specs.List.{list_all}
 use Rattle.std.specs.Result.{result_unwrap_or}
 use Rattle.std.proofs.lemmas.Bool.{and_parts, cases_lt, and_from}
@@ -40,10 +41,13 @@ unfolding encode_with
 hex_run [] h = refl
 hex_run (b ∷ rest) h =
     let fits : b < 256 = h 0 in
-    and_from (is_written (b / 16)) (list_all is_hex_byte (slice_index lower_digits (b % 16) ∷ encode_lower rest)) (written_at 16 (b / 16) refl (omega (arith, fits)))
-    (and_from (is_written (b % 16)) (list_all is_hex_byte (encode_lower rest)) (written_at 16 (b % 16) refl (omega arith)) (hex_run rest (λ i. h (suc i))))
+    and_from (is_written (b / 16)) (list_all is_hex_byte (slice_index lower_digits (b % 16) ∷ encode_lower rest))
+    (written_at 16 (b / 16) refl (omega (arith, fits)))
+    (and_from (is_written (b % 16)) (list_all is_hex_byte (encode_lower rest)) (written_at 16 (b % 16) refl (omega arith))
+    (hex_run rest (λ i. h (suc i))))
 
 -- Two blobs with the same hex are equal.
 pub hex_one : (a b : List ℕ) → IsBytes a → IsBytes b → encode_lower a ≡ encode_lower b → a ≡ b
 hex_one a b is_a is_b e =
-    ap (λ (r : Result (List ℕ) _). result_unwrap_or r []) (sym (decode_of-encode_lower a is_a) ∙ ap decode_of e ∙ decode_of-encode_lower b is_b)
+    ap (λ (r : Result (List ℕ) _). result_unwrap_or r [])
+    (sym (decode_of-encode_lower a is_a) ∙ ap decode_of e ∙ decode_of-encode_lower b is_b)

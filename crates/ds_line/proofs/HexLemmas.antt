@@ -1,5 +1,6 @@
 -- Reading the hex of a blob byte by byte into a block.
-use Rattle.std.proofs.Common.{◌≡◌, ◌≢◌, ℕ, suc, ◌+◌, ◌*◌, ◌/◌, ◌%◌, ◌<◌, ◌≤◌, true, List, [], ◌∷◌, ◌++◌, length, get_or, slice_index, take, drop, refl, sym, ap, subst, ◌∙◌, append_assoc, arith}
+use Rattle.std.proofs.Common.{◌≡◌, ◌≢◌, ℕ, suc, ◌+◌, ◌*◌, ◌/◌, ◌%◌, ◌<◌, ◌≤◌, true, List, [], ◌∷◌, ◌++◌, length, get_or, slice_index, take}
+use Rattle.std.proofs.Common.{drop, refl, sym, ap, subst, ◌∙◌, append_assoc, arith}
 use Rattle.std.proofs.Math.ListN.{set}
 use Rattle.std.proofs.lemmas.Bool.{false≢true}
 use Rattle.std.proofs.lemmas.List.{length-set, length-take-le}
@@ -18,13 +19,18 @@ unfolding encode_with
 too_short bytes b rest short is = let len = ap length is in omega (arith, len)
 
 -- the two bytes that a byte is written as are digits
-pub pair_written : (h l b : ℕ) (r rest : List ℕ) → b < 256 → h ∷ l ∷ r ≡ encode_lower (b ∷ []) ++ rest → (is_hex_byte h ≡ true) × (is_hex_byte l ≡ true)
+pub pair_written : (h l b : ℕ) (r rest : List ℕ) → b < 256 → h ∷ l ∷ r ≡ encode_lower (b ∷ []) ++ rest →
+    (is_hex_byte h ≡ true) × (is_hex_byte l ≡ true)
 unfolding encode_with
-pair_written h l b r rest lt is =
-    (ap (λ (t : List ℕ). is_hex_byte (get_or t 0 0)) is ∙ first_digit (b / 16) (omega (arith, lt)), ap (λ (t : List ℕ). is_hex_byte (get_or t 1 0)) is ∙ first_digit (b % 16) (omega arith))
+pair_written h l b r rest lt is = (
+  ap (λ (t : List ℕ). is_hex_byte (get_or t 0 0)) is ∙
+      first_digit (b / 16) (omega (arith, lt)),
+  ap (λ (t : List ℕ). is_hex_byte (get_or t 1 0)) is ∙ first_digit (b % 16) (omega arith),
+)
 
 -- two digits are the hex of the byte that their numbers make
-pub pair_is : (h l m n : ℕ) (r : List ℕ) → m < 16 → n < 16 → slice_index lower_digits m ≡ h → slice_index lower_digits n ≡ l → h ∷ l ∷ r ≡ encode_lower ((m * 16 + n) ∷ []) ++ r
+pub pair_is : (h l m n : ℕ) (r : List ℕ) → m < 16 → n < 16 → slice_index lower_digits m ≡ h → slice_index lower_digits n ≡ l →
+    h ∷ l ∷ r ≡ encode_lower ((m * 16 + n) ∷ []) ++ r
 unfolding encode_with
 pair_is h l m n r lt_m lt_n is_h is_l =
     let upper : (m * 16 + n) / 16 ≡ m = omega (arith, lt_m, lt_n) in
@@ -55,10 +61,12 @@ pub paired_first : (bytes block : List ℕ) → length block ≡ 1024 → IsPair
 unfolding encode_with
 paired_first bytes block whole = record { parts = refl; each = λ i. omega arith; whole = whole }
 
-pub paired_more : (bytes block rest past : List ℕ) (n b : ℕ) → IsPaired bytes block rest n → n < 1024 → rest ≡ encode_lower (b ∷ []) ++ past → b < 256 → IsPaired bytes (set block n b) past (n + 1)
+pub paired_more : (bytes block rest past : List ℕ) (n b : ℕ) → IsPaired bytes block rest n → n < 1024 →
+    rest ≡ encode_lower (b ∷ []) ++ past → b < 256 → IsPaired bytes (set block n b) past (n + 1)
 paired_more bytes block rest past n b begun lt is fits =
     let more = block_more block n b (omega (arith, begun.whole)) in
-    let one : encode_lower (take n block ++ b ∷ []) ≡ encode_lower (take n block) ++ encode_lower (b ∷ []) = encode_append (take n block) (b ∷ []) in
+    let one : encode_lower (take n block ++ b ∷ []) ≡ encode_lower (take n block) ++ encode_lower (b ∷ []) =
+    encode_append (take n block) (b ∷ []) in
     record {
       parts = begun.parts ∙ ap (λ (t : List ℕ). encode_lower (take n block) ++ t) is
           ∙ sym (append_assoc (encode_lower (take n block)) (encode_lower (b ∷ [])) past)
@@ -70,11 +78,13 @@ paired_more bytes block rest past n b begun lt is fits =
 
 -- ---- the end of the run
 
-pub paired_ends : (bytes block rest : List ℕ) (n : ℕ) → IsPaired bytes block rest n → Ends is_hex_byte rest → Begins (run_of Hex) bytes (encode_lower (take n block)) rest
+pub paired_ends : (bytes block rest : List ℕ) (n : ℕ) → IsPaired bytes block rest n → Ends is_hex_byte rest →
+    Begins (run_of Hex) bytes (encode_lower (take n block)) rest
 paired_ends bytes block rest n begun ends = record { parts = begun.parts; ends = ends }
 
 pub paired_blob : (bytes block rest : List ℕ) (n : ℕ) → IsPaired bytes block rest n → n ≤ 1024 → IsBlob (take n block)
-paired_blob bytes block rest n begun le = record { limit = omega (arith, length-take-le n block (omega (arith, begun.whole))); each = begun.each }
+paired_blob bytes block rest n begun le = record
+    { limit = omega (arith, length-take-le n block (omega (arith, begun.whole))); each = begun.each }
 
 -- ---- no blob
 
@@ -83,13 +93,15 @@ goes_on : (done blob r s : List ℕ) → IsBytes done → IsBytes blob → encod
     → (more : List ℕ) × (length blob ≡ length done + length more) × IsBytes more × (r ≡ encode_lower more ++ s)
 unfolding encode_with
 goes_on [] blob r s is_d is_b e ends = (blob, omega arith, is_b, e)
-goes_on (b ∷ done) [] r s is_d is_b e ends = absurd (false≢true (sym (subst (Ends is_hex_byte) (sym e) ends) ∙ first_digit (b / 16) (let fits = is_d 0 in omega (arith, fits))))
+goes_on (b ∷ done) [] r s is_d is_b e ends =
+    absurd (false≢true (sym (subst (Ends is_hex_byte) (sym e) ends) ∙ first_digit (b / 16) (let fits = is_d 0 in omega (arith, fits))))
 goes_on (b ∷ done) (c ∷ blob) r s is_d is_b e ends =
     let more = goes_on done blob r s (λ i. is_d (suc i)) (λ i. is_b (suc i)) (ap (drop 2) e) ends in
     (more.0, omega (arith, more.1), more.2, more.3)
 
 -- The run continues after what is read, but not with a byte's two digits.
-pub paired_stops : (bytes block r : List ℕ) (n : ℕ) → IsPaired bytes block r n → ¬ Ends is_hex_byte r → ((b : ℕ) (rest : List ℕ) → b < 256 → r ≢ encode_lower (b ∷ []) ++ rest)
+pub paired_stops : (bytes block r : List ℕ) (n : ℕ) → IsPaired bytes block r n → ¬ Ends is_hex_byte r →
+    ((b : ℕ) (rest : List ℕ) → b < 256 → r ≢ encode_lower (b ∷ []) ++ rest)
     → (blob rest : List ℕ) → IsBlob blob → ¬ Begins (run_of Hex) bytes (encode_lower blob) rest
 unfolding encode_with
 paired_stops bytes block r n begun goes none blob rest is begins =
@@ -100,7 +112,8 @@ paired_stops bytes block r n begun goes none blob rest is begins =
     ] more.2 more.3
 
 -- The blob has 1024 bytes already, and the run continues.
-pub paired_full : (bytes block r : List ℕ) → IsPaired bytes block r 1024 → ¬ Ends is_hex_byte r → (blob rest : List ℕ) → IsBlob blob → ¬ Begins (run_of Hex) bytes (encode_lower blob) rest
+pub paired_full : (bytes block r : List ℕ) → IsPaired bytes block r 1024 → ¬ Ends is_hex_byte r → (blob rest : List ℕ) → IsBlob blob →
+    ¬ Begins (run_of Hex) bytes (encode_lower blob) rest
 unfolding encode_with
 paired_full bytes block r begun goes blob rest is begins =
     let more = goes_on (take 1024 block) blob r rest begun.each is.each (sym begun.parts ∙ begins.parts) begins.ends in

@@ -1,5 +1,6 @@
 -- Items read and written: a line is a change's or a floor's by its first byte.
-use Rattle.std.proofs.Common.{◌≡◌, ◌≢◌, ℕ, zero, suc, ◌+◌, true, false, List, [], ◌∷◌, ◌++◌, length, get_or, Option, None, Some, Result, Ok, Err, refl, sym, ap, subst, ◌∙◌, arith}
+use Rattle.std.proofs.Common.{◌≡◌, ◌≢◌, ℕ, zero, suc, ◌+◌, true, false, List, [], ◌∷◌, ◌++◌, length, get_or, Option, None, Some, Result, Ok}
+use Rattle.std.proofs.Common.{Err, refl, sym, ap, subst, ◌∙◌, arith}
 use Rattle.std.specs.List.{list_all}
 use Rattle.std.specs.Fmt.{decimal}
 use Rattle.std.proofs.lemmas.Bool.{false≢true, and_parts}
@@ -27,7 +28,8 @@ use Rattle.ds_line.specs.declared.fault.LineFault.TheVariants.{BadLine, NoRoom}
 use Rattle.ds_line.proofs.OpeningLemmas.{text_at}
 use Rattle.ds_line.proofs.LineLemmas.{AllStand, byte_stands, name_stands, part_stands, line_stands}
 use Rattle.ds_line.proofs.ApartLemmas.{same_parts, change_texts, changes_alike, apart}
-use Rattle.ds_line.proofs.NewlineLemmas.{ends_then, ends_after_byte, ends_after_space, newline_ends, unbroken_name, unbroken_decimal, line_ends}
+use Rattle.ds_line.proofs.NewlineLemmas.{ends_then, ends_after_byte, ends_after_space, newline_ends, unbroken_name, unbroken_decimal}
+use Rattle.ds_line.proofs.NewlineLemmas.{line_ends}
 use Rattle.ds_line.proofs.PlaceLemmas.{alike_agree, same_rest, LeavesOne, one_place_by}
 use Rattle.ds_line.proofs.FloorLemmas.{floor_texts, floors_alike, floors_rest}
 
@@ -46,11 +48,13 @@ name_opens (b ∷ n) rest more is = λ same.
     false≢true (sym mark_is_none ∙ ap is_name_byte (sym first) ∙ allowed)
 
 -- No part of a change begins with `!`.
-no_change_there : (c : ChangeRecord) (k : ℕ) (bytes more after : List ℕ) → IsChange c → bytes ≡ 33 ∷ more → ¬ Stand (suc k) (change_parts c) bytes after
+no_change_there : (c : ChangeRecord) (k : ℕ) (bytes more after : List ℕ) → IsChange c → bytes ≡ 33 ∷ more →
+    ¬ Stand (suc k) (change_parts c) bytes after
 no_change_there c k bytes more after is mark h = name_opens c.key.name h.0 more is.name (sym h.1.parts ∙ mark)
 
 no_change_line : (c : ChangeRecord) (bytes more rest : List ℕ) → IsChange c → bytes ≡ 33 ∷ more → bytes ≢ spelling c ++ rest
-no_change_line c bytes more rest is mark = λ eq. (let h = line_stands c bytes rest eq in name_opens c.key.name h.0 more is.name (sym h.1.parts ∙ mark))
+no_change_line c bytes more rest is mark = λ eq.
+    (let h = line_stands c bytes rest eq in name_opens c.key.name h.0 more is.name (sym h.1.parts ∙ mark))
 
 -- Where a part of a floor is, `!` is.
 floor_there : (f : Floor) (k : ℕ) (bytes after : List ℕ) → Stand (suc k) (floor_parts f) bytes after → (more : List ℕ) × (bytes ≡ 33 ∷ more)
@@ -74,7 +78,8 @@ floor_line_stands f bytes rest eq = subst (λ (x : List ℕ). Stand 6 (floor_par
 -- ---- faults
 
 -- Where there is no `!`, the fault of a change is the fault of an item.
-pub change_faults : (fault : LineFault) (bytes : List ℕ) → ((more : List ℕ) → bytes ≢ 33 ∷ more) → IsFaultIn fault bytes → IsItemFaultIn fault bytes
+pub change_faults : (fault : LineFault) (bytes : List ℕ) → ((more : List ℕ) → bytes ≢ 33 ∷ more) → IsFaultIn fault bytes →
+    IsItemFaultIn fault bytes
 change_faults NoRoom bytes other h = h
 change_faults (BadLine place) bytes other h =
     record {
@@ -107,7 +112,8 @@ change_line bytes (Ok len) None other h = absurd h
 change_line bytes (Err fault) placed other h = change_faults fault bytes other h
 
 -- Where `!` is, the fault of a floor is the fault of an item.
-pub floor_faults : (bytes more rest : List ℕ) (place : ℕ) → bytes ≡ 33 ∷ more → Breaks a_floor bytes rest → place + length rest ≡ length bytes → IsItemFault bytes place
+pub floor_faults : (bytes more rest : List ℕ) (place : ℕ) → bytes ≡ 33 ∷ more → Breaks a_floor bytes rest →
+    place + length rest ≡ length bytes → IsItemFault bytes place
 floor_faults bytes more rest place mark b begins =
     record {
       none = no_item;
@@ -134,12 +140,15 @@ floor_faults bytes more rest place mark b begins =
 
 items_leave_one : LeavesOne IsItem item_parts
 items_leave_one (Changed c) (Changed d) count bytes r s is_c is_d a b =
-    same_rest count (change_parts c) (change_parts d) bytes r s (change_texts c is_c) (change_texts d is_d) (alike_agree (change_parts c) (change_parts d) (changes_alike c d is_c is_d)) a b
+    same_rest count (change_parts c) (change_parts d) bytes r s (change_texts c is_c) (change_texts d is_d)
+    (alike_agree (change_parts c) (change_parts d) (changes_alike c d is_c is_d)) a b
 items_leave_one (Floored f) (Floored g) count bytes r s is_f is_g a b = floors_rest f g count bytes r s is_f is_g a b
 items_leave_one (Changed c) (Floored g) zero bytes r s is_c is_g a b = sym a ∙ b
-items_leave_one (Changed c) (Floored g) (suc k) bytes r s is_c is_g a b = let t = floor_there g k bytes s b in absurd (no_change_there c k bytes t.0 r is_c t.1 a)
+items_leave_one (Changed c) (Floored g) (suc k) bytes r s is_c is_g a b = let t = floor_there g k bytes s b in
+    absurd (no_change_there c k bytes t.0 r is_c t.1 a)
 items_leave_one (Floored f) (Changed d) zero bytes r s is_f is_d a b = sym a ∙ b
-items_leave_one (Floored f) (Changed d) (suc k) bytes r s is_f is_d a b = let t = floor_there f k bytes r a in absurd (no_change_there d k bytes t.0 s is_d t.1 b)
+items_leave_one (Floored f) (Changed d) (suc k) bytes r s is_f is_d a b = let t = floor_there f k bytes r a in
+    absurd (no_change_there d k bytes t.0 s is_d t.1 b)
 
 pub one_item_place : (bytes : List ℕ) (p q : ℕ) → IsFaultPlace IsItem item_parts bytes p → IsFaultPlace IsItem item_parts bytes q → p ≡ q
 one_item_place = one_place_by IsItem item_parts items_leave_one
@@ -148,14 +157,16 @@ one_item_place = one_place_by IsItem item_parts items_leave_one
 
 floor_one : (f g : Floor) → IsFloor f → IsFloor g → floor_parts f ≡ floor_parts g → f ≡ g
 floor_one f g is_f is_g eq =
-    let generation : f.generation ≡ g.generation = decimal_injective f.generation g.generation (omega (arith, is_f.generation)) (omega (arith, is_g.generation)) (ap (text_at 4) eq) in
+    let generation : f.generation ≡ g.generation =
+    decimal_injective f.generation g.generation (omega (arith, is_f.generation)) (omega (arith, is_g.generation)) (ap (text_at 4) eq) in
     ap (λ (o : List ℕ). floor_of o f.generation) (ap (text_at 2) eq) ∙ ap (λ (n : ℕ). floor_of g.owner n) generation
 
 pub items_apart : (i j : Item) (r s : List ℕ) → IsItem i → IsItem j → item_spelling i ++ r ≡ item_spelling j ++ s → (i ≡ j) × (r ≡ s)
 items_apart (Changed c) (Changed d) r s is_c is_d eq = let a = apart c d r s is_c is_d eq in (ap Changed a.0, a.1)
 items_apart (Floored f) (Floored g) r s is_f is_g eq =
     let bytes : List ℕ = item_spelling (Floored f) ++ r in
-    let same = same_parts (floor_parts f) (floor_parts g) bytes r s (floor_texts f is_f) (floor_texts g is_g) (floors_alike f g) (floor_line_stands f bytes r refl) (floor_line_stands g bytes s eq) in
+    let same = same_parts (floor_parts f) (floor_parts g) bytes r s (floor_texts f is_f) (floor_texts g is_g) (floors_alike f g)
+    (floor_line_stands f bytes r refl) (floor_line_stands g bytes s eq) in
     (ap Floored (floor_one f g is_f is_g same.0), same.1)
 items_apart (Changed c) (Floored g) r s is_c is_g eq = absurd (no_change_line c (spelling c ++ r) _ r is_c eq refl)
 items_apart (Floored f) (Changed d) r s is_f is_d eq = absurd (no_change_line d (spelling d ++ s) _ s is_d (sym eq) refl)
@@ -174,4 +185,5 @@ item_ends (Floored f) is =
     (ends_after_space from_owner
     (ends_then (part Name f.owner) (space ∷ from_generation) (unbroken_name f.owner is.owner.allowed)
     (ends_after_space from_generation
-    (ends_then (part Number (decimal f.generation)) (newline ∷ []) (unbroken_decimal f.generation (omega (arith, is.generation))) newline_ends))))
+    (ends_then (part Number (decimal f.generation)) (newline ∷ []) (unbroken_decimal f.generation (omega (arith, is.generation)))
+    newline_ends))))

@@ -25,19 +25,25 @@ pub some_value_of : (kind : Kind) → IsValueOf kind (some_value kind)
 some_value_of kind = record { valid = some_is kind; of = some_kind kind }
 
 -- No value of the kind is here.
-pub value_missing : (kind : Kind) (bytes : List ℕ) → ((value : Value) (rest : List ℕ) → IsValueOf kind value → ¬ Begins (run_of (value_part value).class) bytes (value_part value).text rest) → Breaks (last_value kind) bytes bytes
-value_missing kind bytes none = part_missing (last_value kind) value_part (λ _. newline ∷ []) (some_value kind) bytes (λ _. refl) (some_value_of kind) none
+pub value_missing : (kind : Kind) (bytes : List ℕ) →
+    ((value : Value) (rest : List ℕ) → IsValueOf kind value →
+    ¬ Begins (run_of (value_part value).class) bytes (value_part value).text rest) → Breaks (last_value kind) bytes bytes
+value_missing kind bytes none = part_missing (last_value kind) value_part (λ _. newline ∷ []) (some_value kind) bytes (λ _. refl)
+    (some_value_of kind) none
 
 -- After two values of the kind at one front, the rest is the same.
-after_one : (kind : Kind) (v w : Value) (bytes r s : List ℕ) → IsValueOf kind v → IsValueOf kind w → Begins (run_of (value_part v).class) bytes (value_part v).text r →
+after_one : (kind : Kind) (v w : Value) (bytes r s : List ℕ) → IsValueOf kind v → IsValueOf kind w →
+    Begins (run_of (value_part v).class) bytes (value_part v).text r →
     Begins (run_of (value_part w).class) bytes (value_part w).text s → s ≡ r
 after_one kind v w bytes r s is_v is_w begins_v begins_w =
     let class : (value_part w).class ≡ (value_part v).class = class_one w v (is_w.of ∙ sym is_v.of) in
-    (part_one (value_part v).class bytes (value_part w).text (value_part v).text s r (subst (λ (c : Class). IsText c (value_part w).text) class (value_text w is_w.valid)) (value_text v is_v.valid)
+    (part_one (value_part v).class bytes (value_part w).text (value_part v).text s r
+    (subst (λ (c : Class). IsText c (value_part w).text) class (value_text w is_w.valid)) (value_text v is_v.valid)
     (subst (λ (c : Class). Begins (run_of c) bytes (value_part w).text s) class begins_w) begins_v).1
 
 -- A value is read, and the newline after it is missing.
-pub end_missing : (kind : Kind) (v : Value) (bytes r : List ℕ) → IsValueOf kind v → Begins (run_of (value_part v).class) bytes (value_part v).text r → ((rest : List ℕ) → r ≢ 10 ∷ rest) → Breaks (last_value kind) bytes r
+pub end_missing : (kind : Kind) (v : Value) (bytes r : List ℕ) → IsValueOf kind v →
+    Begins (run_of (value_part v).class) bytes (value_part v).text r → ((rest : List ℕ) → r ≢ 10 ∷ rest) → Breaks (last_value kind) bytes r
 end_missing kind v bytes r is begins none =
     record {
       count = 1;
@@ -49,45 +55,55 @@ end_missing kind v bytes r is begins none =
     }
 
 -- both are read
-pub value_whole : (kind : Kind) (v : Value) (bytes r rest : List ℕ) → IsValueOf kind v → Begins (run_of (value_part v).class) bytes (value_part v).text r → r ≡ 10 ∷ rest → Found (last_value kind) v bytes rest
+pub value_whole : (kind : Kind) (v : Value) (bytes r rest : List ℕ) → IsValueOf kind v →
+    Begins (run_of (value_part v).class) bytes (value_part v).text r → r ≡ 10 ∷ rest → Found (last_value kind) v bytes rest
 value_whole kind v bytes r rest is begins end = record { can = is; front = (r, begins, (rest, byte_begins 10 r rest end, refl)) }
 
 -- A reader that stops for such a reason.
-pub stops_value : (kind : Kind) (stop : PartFault) (bytes rest : List ℕ) → stop ≡ BadPart (length rest) → Breaks (last_value kind) bytes rest → StopsValue kind stop bytes
+pub stops_value : (kind : Kind) (stop : PartFault) (bytes rest : List ℕ) → stop ≡ BadPart (length rest) →
+    Breaks (last_value kind) bytes rest → StopsValue kind stop bytes
 stops_value kind stop bytes rest is s = subst (λ (x : PartFault). StopsValue kind x bytes) (sym is) (rest, s, refl)
 
 -- ---- no value of each kind
 
-pub endpoint_missing : (bytes : List ℕ) → ((e : EndpointRecord) (rest : List ℕ) → IsEndpoint e → ¬ Begins is_ascii_digit bytes (endpoint_text e) rest) → Breaks (last_value Label) bytes bytes
+pub endpoint_missing : (bytes : List ℕ) → ((e : EndpointRecord) (rest : List ℕ) → IsEndpoint e →
+    ¬ Begins is_ascii_digit bytes (endpoint_text e) rest) → Breaks (last_value Label) bytes bytes
 endpoint_missing bytes none =
-    value_missing Label bytes (λ value rest is begins. elim value as (λ v. IsValueOf Label v → Begins (run_of (value_part v).class) bytes (value_part v).text rest → ⊥) [
+    value_missing Label bytes (λ value rest is begins.
+    elim value as (λ v. IsValueOf Label v → Begins (run_of (value_part v).class) bytes (value_part v).text rest → ⊥) [
       | values.Label e ↦ λ k b. none e rest k.valid b
       | values.U32 n ↦ λ k b. omega (arith, ap kind_place k.of)
       | values.Str t ↦ λ k b. omega (arith, ap kind_place k.of)
       | values.Mem m ↦ λ k b. omega (arith, ap kind_place k.of)
     ] is begins)
 
-pub number_missing : (bytes : List ℕ) → ((n : ℕ) (rest : List ℕ) → n ≤ 4294967295 → ¬ Begins is_ascii_digit bytes (decimal n) rest) → Breaks (last_value U32) bytes bytes
+pub number_missing : (bytes : List ℕ) → ((n : ℕ) (rest : List ℕ) → n ≤ 4294967295 → ¬ Begins is_ascii_digit bytes (decimal n) rest) →
+    Breaks (last_value U32) bytes bytes
 number_missing bytes none =
-    value_missing U32 bytes (λ value rest is begins. elim value as (λ v. IsValueOf U32 v → Begins (run_of (value_part v).class) bytes (value_part v).text rest → ⊥) [
+    value_missing U32 bytes (λ value rest is begins.
+    elim value as (λ v. IsValueOf U32 v → Begins (run_of (value_part v).class) bytes (value_part v).text rest → ⊥) [
       | values.Label e ↦ λ k b. omega (arith, ap kind_place k.of)
       | values.U32 n ↦ λ k b. none n rest (omega (arith, k.valid)) b
       | values.Str t ↦ λ k b. omega (arith, ap kind_place k.of)
       | values.Mem m ↦ λ k b. omega (arith, ap kind_place k.of)
     ] is begins)
 
-pub text_missing : (bytes : List ℕ) → ((text rest : List ℕ) → IsPrintable text → ¬ Begins (run_of Quoted) bytes (quoted text) rest) → Breaks (last_value Str) bytes bytes
+pub text_missing : (bytes : List ℕ) → ((text rest : List ℕ) → IsPrintable text → ¬ Begins (run_of Quoted) bytes (quoted text) rest) →
+    Breaks (last_value Str) bytes bytes
 text_missing bytes none =
-    value_missing Str bytes (λ value rest is begins. elim value as (λ v. IsValueOf Str v → Begins (run_of (value_part v).class) bytes (value_part v).text rest → ⊥) [
+    value_missing Str bytes (λ value rest is begins.
+    elim value as (λ v. IsValueOf Str v → Begins (run_of (value_part v).class) bytes (value_part v).text rest → ⊥) [
       | values.Label e ↦ λ k b. omega (arith, ap kind_place k.of)
       | values.U32 n ↦ λ k b. omega (arith, ap kind_place k.of)
       | values.Str t ↦ λ k b. none t rest k.valid b
       | values.Mem m ↦ λ k b. omega (arith, ap kind_place k.of)
     ] is begins)
 
-pub blob_missing : (bytes : List ℕ) → ((blob rest : List ℕ) → IsBlob blob → ¬ Begins (run_of Hex) bytes (encode_lower blob) rest) → Breaks (last_value Mem) bytes bytes
+pub blob_missing : (bytes : List ℕ) → ((blob rest : List ℕ) → IsBlob blob → ¬ Begins (run_of Hex) bytes (encode_lower blob) rest) →
+    Breaks (last_value Mem) bytes bytes
 blob_missing bytes none =
-    value_missing Mem bytes (λ value rest is begins. elim value as (λ v. IsValueOf Mem v → Begins (run_of (value_part v).class) bytes (value_part v).text rest → ⊥) [
+    value_missing Mem bytes (λ value rest is begins.
+    elim value as (λ v. IsValueOf Mem v → Begins (run_of (value_part v).class) bytes (value_part v).text rest → ⊥) [
       | values.Label e ↦ λ k b. omega (arith, ap kind_place k.of)
       | values.U32 n ↦ λ k b. omega (arith, ap kind_place k.of)
       | values.Str t ↦ λ k b. omega (arith, ap kind_place k.of)

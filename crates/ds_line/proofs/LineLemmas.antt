@@ -18,7 +18,8 @@ use Rattle.ds_line.proofs.PartLemmas.{byte_ends}
 pub stand_length : (count : ℕ) (parts : List Part) (bytes rest : List ℕ) → Stand count parts bytes rest → length rest ≤ length bytes
 stand_length zero parts bytes rest h = omega (arith, ap length h)
 stand_length (suc count) [] bytes rest h = absurd h
-stand_length (suc count) (p ∷ parts) bytes rest h = omega (arith, stand_length count parts h.0 rest h.2, ap length h.1.parts, length-append p.text h.0)
+stand_length (suc count) (p ∷ parts) bytes rest h =
+    omega (arith, stand_length count parts h.0 rest h.2, ap length h.1.parts, length-append p.text h.0)
 
 -- what can't be read is no longer than the bytes
 pub rest_fits : (bytes rest : List ℕ) → ChangeStops [] bytes rest → length rest ≤ length bytes
@@ -34,7 +35,8 @@ spelled parts rest = texts parts ++ rest
 abbrev pub AllStand : List Part → List ℕ → Type 0
 AllStand parts rest = Stand (length parts) parts (spelled parts rest) rest
 
-pub part_stands : (p : Part) (parts : List Part) (rest : List ℕ) → Ends (run_of p.class) (spelled parts rest) → AllStand parts rest → AllStand (p ∷ parts) rest
+pub part_stands : (p : Part) (parts : List Part) (rest : List ℕ) → Ends (run_of p.class) (spelled parts rest) → AllStand parts rest →
+    AllStand (p ∷ parts) rest
 part_stands p parts rest ends h = (spelled parts rest, record { parts = append_assoc p.text (texts parts) rest; ends = ends }, h)
 
 pub byte_stands : (b : ℕ) (parts : List Part) (rest : List ℕ) → AllStand parts rest → AllStand (byte b ∷ parts) rest
@@ -44,7 +46,8 @@ name_ends : (bytes : List ℕ) → Ends (run_of Name) (32 ∷ bytes)
 unfolding is_name_byte
 name_ends bytes = refl
 
-pub name_stands : (n : List ℕ) (parts : List Part) (rest : List ℕ) → AllStand (space ∷ parts) rest → AllStand (part Name n ∷ space ∷ parts) rest
+pub name_stands : (n : List ℕ) (parts : List Part) (rest : List ℕ) → AllStand (space ∷ parts) rest →
+    AllStand (part Name n ∷ space ∷ parts) rest
 name_stands n parts rest h = part_stands (part Name n) (space ∷ parts) rest (name_ends (spelled parts rest)) h
 
 -- a value's part ends before a newline
@@ -88,8 +91,10 @@ change_stands c rest =
     (byte_stands 32 (body_parts c.body) rest (body_stands c.body rest))))))))))
 
 -- A line at the front is there part by part.
-pub line_stands : (c : ChangeRecord) (bytes rest : List ℕ) → bytes ≡ spelling c ++ rest → Stand (length (change_parts c)) (change_parts c) bytes rest
-line_stands c bytes rest eq = subst (λ (x : List ℕ). Stand (length (change_parts c)) (change_parts c) x rest) (sym eq) (change_stands c rest)
+pub line_stands : (c : ChangeRecord) (bytes rest : List ℕ) → bytes ≡ spelling c ++ rest →
+    Stand (length (change_parts c)) (change_parts c) bytes rest
+line_stands c bytes rest eq = subst (λ (x : List ℕ). Stand (length (change_parts c)) (change_parts c) x rest) (sym eq)
+    (change_stands c rest)
 
 pub no_line : (bytes rest : List ℕ) → ChangeStops [] bytes rest → HasNoLine bytes
 no_line bytes rest s = λ c after line eq. s.none c (change_parts c) after line refl (line_stands c bytes after eq)

@@ -1,5 +1,6 @@
 -- A line ends with its only newline.
-use Rattle.std.proofs.Common.{◌≡◌, ◌≢◌, ℕ, ◌^◌, ◌<◌, Bool, true, false, inl, inr, List, [], ◌∷◌, ◌++◌, refl, sym, ap, subst, ◌∙◌, append_assoc, arith}
+use Rattle.std.proofs.Common.{◌≡◌, ◌≢◌, ℕ, ◌^◌, ◌<◌, Bool, true, false, inl, inr, List, [], ◌∷◌, ◌++◌, refl, sym, ap, subst, ◌∙◌}
+use Rattle.std.proofs.Common.{append_assoc, arith}
 use Rattle.std.specs.List.{All, list_all}
 use Rattle.std.specs.Char.{is_ascii_digit, is_ascii_alphanumeric}
 use Rattle.std.specs.Fmt.{decimal}
@@ -29,7 +30,8 @@ abbrev pub Unbroken : List ℕ → Type 0
 Unbroken bytes = All (λ (b : ℕ). b ≢ 10) bytes
 
 pub unbroken_run : (run : ℕ → Bool) → run 10 ≡ false → (bytes : List ℕ) → list_all run bytes ≡ true → Unbroken bytes
-unbroken_run run not_one bytes all k d lt = λ same. false≢true (sym not_one ∙ ap run (sym same) ∙ AllPass-from_list_all run bytes all k d lt)
+unbroken_run run not_one bytes all k d lt = λ same.
+    false≢true (sym not_one ∙ ap run (sym same) ∙ AllPass-from_list_all run bytes all k d lt)
 
 pub unbroken_name : (n : List ℕ) → list_all is_name_byte n ≡ true → Unbroken n
 unfolding is_name_byte
@@ -40,7 +42,8 @@ unbroken_decimal n lt = unbroken_run is_ascii_digit refl (decimal n) (digits_dec
 
 pub unbroken_endpoint : (a : EndpointRecord) → IsEndpoint a → Unbroken (endpoint_text a)
 unbroken_endpoint a is =
-    All-append (λ (b : ℕ). b ≢ 10) (decimal a.generation) (47 ∷ decimal a.slot) (unbroken_decimal a.generation (omega (arith, is.generation)))
+    All-append (λ (b : ℕ). b ≢ 10) (decimal a.generation) (47 ∷ decimal a.slot)
+    (unbroken_decimal a.generation (omega (arith, is.generation)))
     (All-cons (λ (b : ℕ). b ≢ 10) 47 (decimal a.slot) (λ same. omega (arith, same)) (unbroken_decimal a.slot (omega (arith, is.slot))))
 
 pub unbroken_one : (b : ℕ) (rest : List ℕ) → b ≢ 10 → Unbroken rest → Unbroken (b ∷ rest)
@@ -64,7 +67,8 @@ unbroken_escaped (b ∷ text) all =
 unbroken_quoted : (text : List ℕ) → list_all is_text_byte text ≡ true → Unbroken (quoted text)
 unbroken_quoted text all =
     let quote : Unbroken (34 ∷ []) = unbroken_one 34 [] (λ same. omega (arith, same)) (All-nil (λ (x : ℕ). x ≢ 10)) in
-    unbroken_one 34 (escaped text ++ 34 ∷ []) (λ same. omega (arith, same)) (All-append (λ (x : ℕ). x ≢ 10) (escaped text) (34 ∷ []) (unbroken_escaped text all) quote)
+    unbroken_one 34 (escaped text ++ 34 ∷ []) (λ same. omega (arith, same))
+    (All-append (λ (x : ℕ). x ≢ 10) (escaped text) (34 ∷ []) (unbroken_escaped text all) quote)
 
 pub unbroken_value : (v : Value) → IsValue v → Unbroken (value_part v).text
 unbroken_value (values.Label e) is = unbroken_endpoint e is
@@ -106,7 +110,8 @@ line_ends c is =
     let from_kind : List Part = part Word (kind_word c.key.kind) ∷ space ∷ from_owner in
     ends_then (part Name c.key.name) (space ∷ from_kind) (unbroken_name c.key.name is.name.allowed)
     (ends_after_space from_kind
-    (ends_then (part Word (kind_word c.key.kind)) (space ∷ from_owner) (unbroken_run is_ascii_alphanumeric refl (kind_word c.key.kind) (word_is_word c.key.kind))
+    (ends_then (part Word (kind_word c.key.kind)) (space ∷ from_owner)
+    (unbroken_run is_ascii_alphanumeric refl (kind_word c.key.kind) (word_is_word c.key.kind))
     (ends_after_space from_owner
     (ends_then (part Name c.owner) (space ∷ from_epoch) (unbroken_name c.owner is.owner.allowed)
     (ends_after_space from_epoch

@@ -1,9 +1,11 @@
 -- Reading the hex of a blob sixteen bytes at a time.
-use Rattle.std.proofs.Common.{◌≡◌, ℕ, zero, suc, ◌+◌, ◌*◌, ◌-◌, ◌/◌, ◌%◌, ◌==◌, ◌<◌, ◌≤◌, Bool, true, ◌&&◌, inl, inr, List, [], ◌∷◌, ◌++◌, length, get_or, slice_index, take, drop, refl, sym, ap, subst, ◌∙◌, append_assoc, arith}
+use Rattle.std.proofs.Common.{◌≡◌, ℕ, zero, suc, ◌+◌, ◌*◌, ◌-◌, ◌/◌, ◌%◌, ◌==◌, ◌<◌, ◌≤◌, Bool, true, ◌&&◌, inl, inr, List, [], ◌∷◌, ◌++◌}
+use Rattle.std.proofs.Common.{length, get_or, slice_index, take, drop, refl, sym, ap, subst, ◌∙◌, append_assoc, arith}
 use Rattle.std.proofs.Math.ListN.{set}
 use Rattle.std.proofs.lemmas.Bool.{and_parts, cases_lt, eqb-true}
 use Rattle.std.proofs.Math.Seq.{take-append_seam, take-append-add, take-length}
-use Rattle.std.proofs.lemmas.List.{append-nil, length-set, length-append, length-drop, length-take-le, take_more, take-append-drop, get_or-set_same, get_or-set_other}
+use Rattle.std.proofs.lemmas.List.{append-nil, length-set, length-append, length-drop, length-take-le, take_more, take-append-drop}
+use Rattle.std.proofs.lemmas.List.{get_or-set_same, get_or-set_other}
 use Rattle.hex.specs.Hex.{IsBytes, encode_with, encode_lower, lower_digits}
 use Rattle.ds_line.specs.Numbers.{AreNumbersOf}
 use Rattle.ds_line.proofs.DigitLemmas.{bytes_more}
@@ -32,7 +34,8 @@ digit_number b ge le = same_at (λ n. slice_index lower_digits n) (λ n. n + 48)
 
 -- and one from a to f
 pub letter_number : (b : ℕ) → 97 ≤ b → b ≤ 102 → slice_index lower_digits (b - 97 + 10) ≡ b
-letter_number b ge le = same_at (λ n. slice_index lower_digits (n + 10)) (λ n. n + 97) 6 (b - 97) refl (omega (arith, ge, le)) ∙ omega (arith, ge)
+letter_number b ge le = same_at (λ n. slice_index lower_digits (n + 10)) (λ n. n + 97) 6 (b - 97) refl (omega (arith, ge, le)) ∙
+    omega (arith, ge)
 
 -- the digits of numbers
 pub low_digit : (n : ℕ) → n < 10 → slice_index lower_digits n ≡ 48 + n
@@ -54,14 +57,18 @@ pub record IsJudged (digits numbers : List ℕ) (alone : Bool) (n : ℕ) : Type 
 pub judged_first : (digits numbers : List ℕ) → length numbers ≡ 32 → IsJudged digits numbers true 0
 judged_first digits numbers whole = record { are = λ _ i lt. absurd (omega (arith, lt)); whole = whole }
 
-pub judged_more : (digits numbers : List ℕ) (alone next : Bool) (n k : ℕ) → IsJudged digits numbers alone n → n < 32 → (k < 16 → slice_index lower_digits k ≡ get_or digits n 0)
+pub judged_more : (digits numbers : List ℕ) (alone next : Bool) (n k : ℕ) → IsJudged digits numbers alone n → n < 32 →
+    (k < 16 → slice_index lower_digits k ≡ get_or digits n 0)
     → (next ≡ true → (alone ≡ true) × (k < 16)) → IsJudged digits (set numbers n k) next (n + 1)
 judged_more digits numbers alone next n k begun lt is both =
     let same : get_or (set numbers n k) n 0 ≡ k = get_or-set_same numbers n k 0 (omega (arith, lt, begun.whole)) in
-    let other : (i : ℕ) → i < n → get_or (set numbers n k) i 0 ≡ get_or numbers i 0 = λ i below. get_or-set_other numbers n i k 0 (λ e. omega (arith, e, below)) in
-    let last : next ≡ true → (get_or (set numbers n k) n 0 < 16) × (slice_index lower_digits (get_or (set numbers n k) n 0) ≡ get_or digits n 0) =
+    let other : (i : ℕ) → i < n → get_or (set numbers n k) i 0 ≡ get_or numbers i 0 = λ i below.
+    get_or-set_other numbers n i k 0 (λ e. omega (arith, e, below)) in
+    let last : next ≡ true → (get_or (set numbers n k) n 0 < 16) ×
+    (slice_index lower_digits (get_or (set numbers n k) n 0) ≡ get_or digits n 0) =
     λ t. (rw same (both t).1, rw same (is (both t).1)) in
-    let before : next ≡ true → (i : ℕ) → i < n → (get_or (set numbers n k) i 0 < 16) × (slice_index lower_digits (get_or (set numbers n k) i 0) ≡ get_or digits i 0) =
+    let before : next ≡ true → (i : ℕ) → i < n →
+    (get_or (set numbers n k) i 0 < 16) × (slice_index lower_digits (get_or (set numbers n k) i 0) ≡ get_or digits i 0) =
     λ t i below. rw (other i below) (begun.are (both t).0 i below) in
     record {
       are = λ t i le. elim (cases_lt i n) [
@@ -84,7 +91,8 @@ unfolding encode_with
 written_first digits block whole = record { front = refl; each = λ i. omega arith; whole = whole }
 
 -- two digits more
-take_two : (digits : List ℕ) (at : ℕ) → 2 * at + 1 < length digits → take (2 * (at + 1)) digits ≡ take (2 * at) digits ++ (get_or digits (2 * at) 0 ∷ get_or digits (2 * at + 1) 0 ∷ [])
+take_two : (digits : List ℕ) (at : ℕ) → 2 * at + 1 < length digits →
+    take (2 * (at + 1)) digits ≡ take (2 * at) digits ++ (get_or digits (2 * at) 0 ∷ get_or digits (2 * at + 1) 0 ∷ [])
 take_two digits at lt =
     let e : 2 * (at + 1) ≡ 2 * at + 1 + 1 = omega arith in
     ap (λ (n : ℕ). take n digits) e
@@ -92,7 +100,8 @@ take_two digits at lt =
     ∙ ap (λ (t : List ℕ). t ++ get_or digits (2 * at + 1) 0 ∷ []) (take_more digits (2 * at) 0 (omega (arith, lt)))
     ∙ append_assoc (take (2 * at) digits) (get_or digits (2 * at) 0 ∷ []) (get_or digits (2 * at + 1) 0 ∷ [])
 
-pub written_more : (digits numbers block : List ℕ) (at : ℕ) → IsWritten digits block at → at < 16 → length digits ≡ 32 → AreNumbersOf digits 32 numbers
+pub written_more : (digits numbers block : List ℕ) (at : ℕ) → IsWritten digits block at → at < 16 → length digits ≡ 32 →
+    AreNumbersOf digits 32 numbers
     → IsWritten digits (set block at (get_or numbers (2 * at) 0 * 16 + get_or numbers (2 * at + 1) 0)) (at + 1)
 written_more digits numbers block at begun lt len are =
     let high = are (2 * at) (omega (arith, lt)) in
@@ -117,7 +126,8 @@ written_more digits numbers block at begun lt len are =
 pub take_whole : (xs : List ℕ) (n : ℕ) → length xs ≡ n → take n xs ≡ xs
 take_whole xs n e = ap (λ (m : ℕ). take m xs) (sym e) ∙ take-length xs
 
-pub written_all : (digits block rest bytes : List ℕ) → IsWritten digits block 16 → length digits ≡ 32 → bytes ≡ digits ++ rest → bytes ≡ encode_lower block ++ rest
+pub written_all : (digits block rest bytes : List ℕ) → IsWritten digits block 16 → length digits ≡ 32 → bytes ≡ digits ++ rest →
+    bytes ≡ encode_lower block ++ rest
 written_all digits block rest bytes done len is =
     is ∙ ap (λ (t : List ℕ). t ++ rest) (sym (take_whole digits 32 len) ∙ done.front ∙ ap encode_lower (take_whole block 16 done.whole))
 
@@ -130,23 +140,27 @@ bytes_both : (xs ys : List ℕ) → IsBytes xs → IsBytes ys → IsBytes (xs ++
 bytes_both [] ys h k = k
 bytes_both (x ∷ xs) ys h k = bytes_more x (xs ++ ys) (h 0) (bytes_both xs ys (λ i. h (suc i)) k)
 
-pub paired_sixteen : (bytes block rest past sixteen : List ℕ) (n : ℕ) → IsPaired bytes block rest n → n + length sixteen ≤ 1024 → rest ≡ encode_lower sixteen ++ past → IsBytes sixteen
+pub paired_sixteen : (bytes block rest past sixteen : List ℕ) (n : ℕ) → IsPaired bytes block rest n → n + length sixteen ≤ 1024 →
+    rest ≡ encode_lower sixteen ++ past → IsBytes sixteen
     → IsPaired bytes (take n block ++ (sixteen ++ drop (n + length sixteen) block)) past (n + length sixteen)
 paired_sixteen bytes block rest past sixteen n begun le is fits =
     let k : ℕ = n + length sixteen in
     let front : List ℕ = take n block in
     let len : length front ≡ n = length-take-le n block (omega (arith, le, begun.whole)) in
     let both : length (front ++ sixteen) ≡ k = length-append front sixteen ∙ ap (λ (m : ℕ). m + length sixteen) len in
-    let joined : front ++ (sixteen ++ drop k block) ≡ (front ++ sixteen) ++ drop k block = sym (append_assoc front sixteen (drop k block)) in
+    let joined : front ++ (sixteen ++ drop k block) ≡ (front ++ sixteen) ++ drop k block =
+    sym (append_assoc front sixteen (drop k block)) in
     let more : take k (front ++ (sixteen ++ drop k block)) ≡ front ++ sixteen =
-    ap (λ (t : List ℕ). take k t) joined ∙ ap (λ (m : ℕ). take m ((front ++ sixteen) ++ drop k block)) (sym both) ∙ take-append_seam (front ++ sixteen) (drop k block) in
+    ap (λ (t : List ℕ). take k t) joined ∙ ap (λ (m : ℕ). take m ((front ++ sixteen) ++ drop k block)) (sym both) ∙
+    take-append_seam (front ++ sixteen) (drop k block) in
     record {
       parts = begun.parts ∙ ap (λ (t : List ℕ). encode_lower front ++ t) is
           ∙ sym (append_assoc (encode_lower front) (encode_lower sixteen) past)
           ∙ ap (λ (t : List ℕ). t ++ past) (sym (encode_append front sixteen))
           ∙ ap (λ (t : List ℕ). encode_lower t ++ past) (sym more);
       each = subst IsBytes (sym more) (bytes_both front sixteen begun.each fits);
-      whole = ap length joined ∙ length-append (front ++ sixteen) (drop k block) ∙ omega (arith, both, length-drop k block, begun.whole, le);
+      whole = ap length joined ∙ length-append (front ++ sixteen) (drop k block) ∙
+          omega (arith, both, length-drop k block, begun.whole, le);
     }
 
 -- ---- sixteen bytes written
@@ -177,7 +191,8 @@ spelled_more bytes digits at m n begun lt len is_m is_n =
     ∙ block_more one (2 * at + 1) n (omega (arith, lt, long))
     ∙ ap (λ (t : List ℕ). t ++ n ∷ []) (block_more digits (2 * at) m (omega (arith, lt, begun.whole)))
     ∙ append_assoc (take (2 * at) digits) (m ∷ []) (n ∷ []) in
-    let last : m ∷ n ∷ [] ≡ encode_lower (b ∷ []) = ap (λ (x : ℕ). x ∷ n ∷ []) is_m ∙ ap (λ (x : ℕ). slice_index lower_digits (b / 16) ∷ x ∷ []) is_n ∙ sym (digits_one b) in
+    let last : m ∷ n ∷ [] ≡ encode_lower (b ∷ []) =
+    ap (λ (x : ℕ). x ∷ n ∷ []) is_m ∙ ap (λ (x : ℕ). slice_index lower_digits (b / 16) ∷ x ∷ []) is_n ∙ sym (digits_one b) in
     record {
       front = two
           ∙ ap (λ (t : List ℕ). t ++ (m ∷ n ∷ [])) begun.front
@@ -212,7 +227,8 @@ unfolding encode_with
 encode_length [] = refl
 encode_length (x ∷ xs) = omega (arith, encode_length xs)
 
-pub out_more : (blob block sixteen digits : List ℕ) (n : ℕ) → IsWrittenOut blob block n → n + 16 ≤ length blob → length blob ≤ 1024 → sixteen ≡ take 16 (drop n blob) → digits ≡ encode_lower sixteen
+pub out_more : (blob block sixteen digits : List ℕ) (n : ℕ) → IsWrittenOut blob block n → n + 16 ≤ length blob → length blob ≤ 1024 →
+    sixteen ≡ take 16 (drop n blob) → digits ≡ encode_lower sixteen
     → IsWrittenOut blob (take (2 * n) block ++ (digits ++ drop (2 * n + length digits) block)) (n + 16)
 out_more blob block sixteen digits n begun le limit is spelled =
     let k : ℕ = 2 * n + length digits in
@@ -234,16 +250,19 @@ out_more blob block sixteen digits n begun le limit is spelled =
           ∙ sym (encode_append (take n blob) next)
           ∙ ap encode_lower (sym (take_on n blob le));
       within = le;
-      whole = ap length joined ∙ length-append (front ++ digits) (drop k block) ∙ omega (arith, both, length-drop k block, begun.whole, le, limit, long);
+      whole = ap length joined ∙ length-append (front ++ digits) (drop k block) ∙
+          omega (arith, both, length-drop k block, begun.whole, le, limit, long);
     }
 
 -- The hex of a blob in two parts, after a list and between two texts.
-pub out_joined : (old before after blob block digits : List ℕ) (n : ℕ) → take (2 * n) block ≡ encode_lower (take n blob) → digits ≡ encode_lower (drop n blob)
+pub out_joined : (old before after blob block digits : List ℕ) (n : ℕ) → take (2 * n) block ≡ encode_lower (take n blob) →
+    digits ≡ encode_lower (drop n blob)
     → old ++ (before ++ (take (2 * n) block ++ (digits ++ (after ++ [])))) ≡ old ++ (before ++ (encode_lower blob ++ after))
 out_joined old before after blob block digits n is_front is_rest =
     let one : List ℕ = encode_lower (take n blob) in
     let two : List ℕ = encode_lower (drop n blob) in
-    let whole : one ++ two ≡ encode_lower blob = sym (encode_append (take n blob) (drop n blob)) ∙ ap encode_lower (take-append-drop n blob) in
+    let whole : one ++ two ≡ encode_lower blob =
+    sym (encode_append (take n blob) (drop n blob)) ∙ ap encode_lower (take-append-drop n blob) in
     ap (λ (t : List ℕ). old ++ (before ++ t))
     (ap (λ (t : List ℕ). t ++ (digits ++ (after ++ []))) is_front
     ∙ ap (λ (t : List ℕ). one ++ (t ++ (after ++ []))) is_rest

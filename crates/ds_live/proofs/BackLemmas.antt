@@ -1,5 +1,6 @@
 -- Jobs that come back.
-use Rattle.std.proofs.Common.{All, ◌≡◌, Option, None, Some, IfNone, IfSome, ◌+◌, ◌<◌, ◌≤◌, ℕ, zero, suc, List, [], ◌∷◌, ◌++◌, length, sum_by, refl, sym, ap, subst, ◌∙◌, arith}
+use Rattle.std.proofs.Common.{All, ◌≡◌, Option, None, Some, IfNone, IfSome, ◌+◌, ◌<◌, ◌≤◌, ℕ, zero, suc, List, [], ◌∷◌, ◌++◌, length}
+use Rattle.std.proofs.Common.{sum_by, refl, sym, ap, subst, ◌∙◌, arith}
 use Rattle.std.proofs.lemmas.List.Elements.{All-cons, All-head, All-nil, All-pop, All-same, All-tail}
 use Rattle.std.proofs.lemmas.List.Sums.{sum_by-cons}
 use Rattle.ds_live.specs.Back.{AreBack}
@@ -16,7 +17,8 @@ module _ {J : Type 0} (back : J → J → Type 0) where
   same_length (suc n) (v ∷ vs) (w ∷ ws) all = ap suc (same_length n vs ws all.1)
 
   -- one more job comes back after the others
-  last_back : (n : ℕ) (vs ws : List J) (v w : J) → n ≤ length vs → AreBack back n vs ws → back v w → AreBack back n (vs ++ v ∷ []) (ws ++ w ∷ [])
+  last_back : (n : ℕ) (vs ws : List J) (v w : J) → n ≤ length vs → AreBack back n vs ws → back v w →
+      AreBack back n (vs ++ v ∷ []) (ws ++ w ∷ [])
   last_back zero [] [] v w few none one = (one, refl)
   last_back (suc n) [] ws v w few none one = absurd (omega arith)
   last_back zero [] (x ∷ ws) v w few none one = cc
@@ -25,9 +27,11 @@ module _ {J : Type 0} (back : J → J → Type 0) where
   last_back zero (u ∷ vs) (x ∷ ws) v w few all one = (all.0, last_back zero vs ws v w (omega arith) all.1 one)
   last_back (suc n) (u ∷ vs) (x ∷ ws) v w few all one = (all.0, last_back n vs ws v w (omega arith) all.1 one)
 
-  one_back : (n : ℕ) (old vs ws new : List J) (v p w : J) → old ≡ vs ++ v ∷ [] → new ≡ ws ++ w ∷ [] → n ≤ length vs → AreBack back n vs ws → p ≡ v → back p w → AreBack back n old new
+  one_back : (n : ℕ) (old vs ws new : List J) (v p w : J) → old ≡ vs ++ v ∷ [] → new ≡ ws ++ w ∷ [] → n ≤ length vs →
+      AreBack back n vs ws → p ≡ v → back p w → AreBack back n old new
   one_back n old vs ws new v p w was is few all same one =
-      subst (λ k. AreBack back n k new) (sym was) (subst (λ k. AreBack back n (vs ++ v ∷ []) k) (sym is) (last_back n vs ws v w few all (subst (λ k. back k w) same one)))
+      subst (λ k. AreBack back n k new) (sym was)
+      (subst (λ k. AreBack back n (vs ++ v ∷ []) k) (sym is) (last_back n vs ws v w few all (subst (λ k. back k w) same one)))
 
   -- where none was started
   left : (vs : List J) → AreBack back (length vs) vs vs
@@ -35,20 +39,24 @@ module _ {J : Type 0} (back : J → J → Type 0) where
   left (v ∷ vs) = (refl, left vs)
 
   -- where the others weren't started
-  pub alone_back : (n : ℕ) (old vs new : List J) (v p w : J) → n ≡ length vs → old ≡ vs ++ v ∷ [] → new ≡ vs ++ w ∷ [] → p ≡ v → back p w → AreBack back n old new
+  pub alone_back : (n : ℕ) (old vs new : List J) (v p w : J) → n ≡ length vs → old ≡ vs ++ v ∷ [] → new ≡ vs ++ w ∷ [] → p ≡ v → back p w →
+      AreBack back n old new
   alone_back n old vs new v p w all was is same one =
       subst (λ k. AreBack back k old new) (sym all) (one_back (length vs) old vs vs new v p w was is (omega arith) (left vs) same one)
 
   -- the same, where `r` answers how many weren't started
-  pub same_length_of : (r : Option ℕ) (vs ws : List J) → IfNone r (AreBack back 0 vs ws) → IfSome r (λ n. AreBack back n vs ws) → length ws ≡ length vs
+  pub same_length_of : (r : Option ℕ) (vs ws : List J) → IfNone r (AreBack back 0 vs ws) → IfSome r (λ n. AreBack back n vs ws) →
+      length ws ≡ length vs
   same_length_of None vs ws none some = same_length 0 vs ws none
   same_length_of (Some n) vs ws none some = same_length n vs ws some
 
-  pub one_of_none : (r : Option ℕ) (old vs ws new : List J) (v p w : J) → old ≡ vs ++ v ∷ [] → new ≡ ws ++ w ∷ [] → IfNone r (AreBack back 0 vs ws) → p ≡ v → back p w → IfNone r (AreBack back 0 old new)
+  pub one_of_none : (r : Option ℕ) (old vs ws new : List J) (v p w : J) → old ≡ vs ++ v ∷ [] → new ≡ ws ++ w ∷ [] →
+      IfNone r (AreBack back 0 vs ws) → p ≡ v → back p w → IfNone r (AreBack back 0 old new)
   one_of_none None old vs ws new v p w was is all same one = one_back 0 old vs ws new v p w was is (omega arith) all same one
   one_of_none (Some n) old vs ws new v p w was is all same one = tt
 
-  pub one_of_some : (r : Option ℕ) (old vs ws new : List J) (v p w : J) → old ≡ vs ++ v ∷ [] → new ≡ ws ++ w ∷ [] → IfSome r (λ n. n < length vs) →
+  pub one_of_some : (r : Option ℕ) (old vs ws new : List J) (v p w : J) → old ≡ vs ++ v ∷ [] → new ≡ ws ++ w ∷ [] →
+      IfSome r (λ n. n < length vs) →
       IfSome r (λ n. AreBack back n vs ws) → p ≡ v → back p w → IfSome r (λ n. AreBack back n old new)
   one_of_some None old vs ws new v p w was is few all same one = tt
   one_of_some (Some n) old vs ws new v p w was is few all same one = one_back n old vs ws new v p w was is (omega (arith, few)) all same one

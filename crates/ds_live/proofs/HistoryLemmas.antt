@@ -32,7 +32,8 @@ module _ {A B : Type 0} (f : A → B) where
   total_mapped h (x ∷ xs) = ap (λ (n : ℕ). h (f x) + n) (total_mapped h xs)
 
 module _ {Z : Type 0} {G : Ghosts (View (Boxed Z) Command Reply)} where
-  opened_alike : (home : Home) (passes : List (StorePass Z G)) (content : ContentRecord) → home.content ≡ content → All (λ (p : StorePass Z G). IsAtHome home p) passes
+  opened_alike : (home : Home) (passes : List (StorePass Z G)) (content : ContentRecord) → home.content ≡ content →
+      All (λ (p : StorePass Z G). IsAtHome home p) passes
       → AllByRecursion (λ (p : StorePass Z G). (pass_record p).opened ≡ Some content) passes
   opened_alike home [] content same from = tt
   opened_alike home (p ∷ ps) content same from = (
@@ -40,8 +41,18 @@ module _ {Z : Type 0} {G : Ghosts (View (Boxed Z) Command Reply)} where
     opened_alike home ps content same (All-tail (λ (p : StorePass Z G). IsAtHome home p) p ps from),
   )
 
-  pub closes_after : (incarnation : ℕ) (home : Home) (opened : Boxed Z) (first : ℕ) (passes : List (StorePass Z G)) (closed : Closed (Boxed Z)) (plain : List PassRecord) → home.content ≡ opened.value
-      → ContentStands opened.value (opening incarnation 0 256 larger) → All (λ (p : StorePass Z G). IsAtHome home p) passes → LeavesHistory is_content Turn owed_by opened first passes closed → map pass_record passes ≡ plain
+  first_alike : (home : Home) (passes : List (StorePass Z G)) → All (λ (p : StorePass Z G). IsAtHome home p) passes
+      → AllByRecursion (λ (p : StorePass Z G). (pass_record p).origin.first ≡ 0) passes
+  first_alike home [] from = tt
+  first_alike home (p ∷ ps) from = (
+    (All-head (λ (p : StorePass Z G). IsAtHome home p) p ps from).first_is,
+    first_alike home ps (All-tail (λ (p : StorePass Z G). IsAtHome home p) p ps from),
+  )
+
+  pub closes_after : (incarnation : ℕ) (home : Home) (opened : Boxed Z) (first : ℕ) (passes : List (StorePass Z G))
+      (closed : Closed (Boxed Z)) (plain : List PassRecord) → home.content ≡ opened.value
+      → ContentStands opened.value (opening incarnation 0 256 larger) → All (λ (p : StorePass Z G). IsAtHome home p) passes →
+      LeavesHistory is_content Turn owed_by opened first passes closed → map pass_record passes ≡ plain
       → ClosesAfter incarnation plain closed.machine.value
   closes_after incarnation home opened first passes closed plain content new from leaves same =
       let history = leaves.0 in let is = leaves.2 in
@@ -49,7 +60,9 @@ module _ {Z : Type 0} {G : Ghosts (View (Boxed Z) Command Reply)} where
       subst (λ (l : List PassRecord). ClosesAfter incarnation l closed.machine.value) same (record {
         opened = opened.value;
         new = new;
-        same_opening = all_mapped pass_record (λ (p : PassRecord). p.opened ≡ Some opened.value) passes (opened_alike home passes opened.value content from);
+        same_opening = all_mapped pass_record (λ (p : PassRecord). p.opened ≡ Some opened.value) passes
+            (opened_alike home passes opened.value content from);
+        same_first = all_mapped pass_record (λ (p : PassRecord). p.origin.first ≡ 0) passes (first_alike home passes from);
         history = history;
         run = subst (λ (c : ContentRecord). Run Turn opened.value history c) (sym run.2) run.1;
         begins = all_mapped pass_record (λ (p : PassRecord). IsPrefix p.history history) passes is.begins;

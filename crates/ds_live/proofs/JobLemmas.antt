@@ -36,7 +36,8 @@ no_length [] e = refl
 no_length (x ∷ l) e = absurd (omega (arith, e))
 
 module _ {Z : Type 0} {G : Ghosts (View (Boxed Z) Command Reply)} where
-  pub other_of : (second : Home) (index : ℕ) (pass : StorePass Z G) (task : Task (StorePass Z G)) → IsTask second index pass task → IsOther second task
+  pub other_of : (second : Home) (index : ℕ) (pass : StorePass Z G) (task : Task (StorePass Z G)) → IsTask second index pass task →
+      IsOther second task
   other_of second index pass Publish is = tt
   other_of second index pass (Follow follower) is = tt
   other_of second index pass (Exchange other cursor) is = is

@@ -10,5 +10,6 @@ pub mod FaultLemmas
 pub mod HireLemmas
 pub mod HistoryLemmas
 pub mod JobLemmas
+pub mod LeftLemmas
 pub mod ReportLemmas
 pub mod RunLemmas

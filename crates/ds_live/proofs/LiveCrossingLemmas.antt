@@ -22,7 +22,8 @@ use Rattle.ds_live.proofs.worker.Worker.TheSendSync as worker
 
 -- what a slot holds, a store on the heap
 pub store_slot_send : IsSend (Option.the_row (Home.the_row (Box.the_row Store.the_row Heap.the_row ghosts) Command.the_row Reply.the_row))
-store_slot_send = slot_send (Box.the_row Store.the_row Heap.the_row ghosts) Command.the_row Reply.the_row (Box-send Store.the_row store_send)
+store_slot_send = slot_send (Box.the_row Store.the_row Heap.the_row ghosts) Command.the_row Reply.the_row
+    (Box-send Store.the_row store_send)
 
 pub desks_sync : (D : RattleType) → IsSync D → IsSync (Desks.the_row D)
 desks_sync D d = declared_sync (Desks.the_type D) (search (d, sendable) depth 40, (search (d, sendable) depth 40, tt))

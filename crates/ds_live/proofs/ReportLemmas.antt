@@ -1,5 +1,6 @@
 -- Accounts whose rows are exact.
-use Rattle.std.proofs.Common.{◌≡◌, ℕ, suc, ◌+◌, ◌*◌, ◌/◌, ◌%◌, ◌<◌, ◌==◌, ◌&&◌, Bool, true, false, Some, List, [], ◌∷◌, length, take, refl, ap, subst, ◌∙◌, arith}
+use Rattle.std.proofs.Common.{◌≡◌, ℕ, suc, ◌+◌, ◌*◌, ◌/◌, ◌%◌, ◌<◌, ◌==◌, ◌&&◌, Bool, true, false, Some, List, [], ◌∷◌, length, take, refl}
+use Rattle.std.proofs.Common.{ap, subst, ◌∙◌, arith}
 use Rattle.std.specs.List.{slice_get}
 use Rattle.std.proofs.Math.ListN.{get_or}
 use Rattle.std.proofs.lemmas.List.Folds.{list_all_at, list_all_more}
@@ -15,7 +16,8 @@ use Rattle.desk.specs.Pass.{Pass}
 use Rattle.ds_live.specs.Report.{are_exact, is_exact}
 
 -- what each index tells of an element holds of all
-all_by_index : (rows : List Row) → ((k : ℕ) → k < length rows → (r : Row) × (get_elem? rows k ≡ some r) × (is_exact r ≡ true)) → are_exact rows ≡ true
+all_by_index : (rows : List Row) → ((k : ℕ) → k < length rows → (r : Row) × (get_elem? rows k ≡ some r) × (is_exact r ≡ true)) →
+    are_exact rows ≡ true
 all_by_index [] each = refl
 all_by_index (x ∷ rows) each =
     let first = each 0 (omega arith) in
@@ -35,10 +37,12 @@ module _ {M C R : Type 0} {G : Ghosts (View M C R)} where
 
 -- a row that isn't exact settles it
 pub not_exact : (rows : List Row) (i : ℕ) (row : Row) → slice_get rows i ≡ Some row → is_exact row ≡ false → are_exact rows ≡ false
-not_exact rows i row at wrong = list_all_at is_exact rows i row (slice_get_within rows i row at) (ap is_exact (get_or_from_slice_get rows i row row at) ∙ wrong)
+not_exact rows i row at wrong = list_all_at is_exact rows i row (slice_get_within rows i row at)
+    (ap is_exact (get_or_from_slice_get rows i row row at) ∙ wrong)
 
 -- one more that is
-pub exact_more : (rows : List Row) (i : ℕ) (row : Row) → slice_get rows i ≡ Some row → is_exact row ≡ true → are_exact (take i rows) ≡ true → are_exact (take (i + 1) rows) ≡ true
+pub exact_more : (rows : List Row) (i : ℕ) (row : Row) → slice_get rows i ≡ Some row → is_exact row ≡ true →
+    are_exact (take i rows) ≡ true → are_exact (take (i + 1) rows) ≡ true
 exact_more rows i row at right before =
     let more = list_all_more is_exact rows i row (slice_get_within rows i row at) in
     let here : is_exact (get_or rows i row) ≡ true = ap is_exact (get_or_from_slice_get rows i row row at) ∙ right in

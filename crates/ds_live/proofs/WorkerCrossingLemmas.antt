@@ -11,6 +11,12 @@ turns_send κ R G D W r g d w = declared_send (Turns.the_type κ R G D W) (
   search (r, sendable) depth 40,
   (
     search sendable depth 40,
-    (search (g, sendable) depth 40, (search (sendable, crosses) depth 40, (search (d, sendable) depth 40, (search (w, sendable) depth 40, tt)))),
+    (
+      search (g, sendable) depth 40,
+      (
+        search (sendable, crosses) depth 40,
+        (search (d, sendable) depth 40, (search (w, sendable) depth 40, tt)),
+      ),
+    ),
   ),
 )

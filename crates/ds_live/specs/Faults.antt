@@ -1,22 +1,15 @@
 -- The fault of a run, from the faults of its workers.
-use Rattle.std.specs.Prelude.{◌≡◌, ◌⊎◌, ℕ, ◌<◌, Bool, true, false, List, [], ◌∷◌, Option, Some, None, IfSome}
+use Rattle.std.specs.Prelude.{◌≡◌, ◌⊎◌, Bool, true, false, List, [], ◌∷◌, Option, Some, None, IfSome}
 use Rattle.desk_store.specs.declared.exchange_fault.ExchangeFault.{ExchangeFault}
 use Rattle.desk_store.specs.declared.exchange_fault.ExchangeFault.TheVariants as exchanges
 use Rattle.ds_live.specs.declared.live_fault.LiveFault.{LiveFault}
 use Rattle.ds_live.specs.declared.live_fault.LiveFault.TheVariants.{BadLimit, Desk, GateShut, NoRoom, NoThread, Refused, Stopped}
 use Rattle.desk_store.specs.declared.call_fault.CallFault.{CallFault}
 use Rattle.desk_store.specs.declared.call_fault.CallFault.TheVariants as calls
-use Rattle.desk_store.specs.CallFaults.{FailsAsking}
-use Rattle.desk_store.specs.Record.{PassRecord}
 use Rattle.desk_store.specs.declared.refresh_fault.RefreshFault.{RefreshFault}
 use Rattle.desk_store.specs.declared.refresh_fault.RefreshFault.TheVariants as refreshes
-use Rattle.ds_live.specs.Commands.{each_below, publisher_label}
-use Rattle.ds_live.specs.Homes.{Home, IsOfHome}
-use Rattle.ds_live.specs.Turns.{WereAccepted}
-use Rattle.ds_live.specs.Workers.{EndsBy, FailsToFinish}
 use Rattle.ds_live.specs.declared.worker_fault.WorkerFault.{WorkerFault}
 use Rattle.ds_live.specs.declared.worker_fault.WorkerFault.TheVariants as workers
-use Rattle.ds_live.specs.declared.worker.Worker.{Worker}
 
 -- ---- a fault, as a run reports it
 abbrev pub call_fault : CallFault → LiveFault
@@ -60,46 +53,19 @@ abbrev pub lowest_fault : List (Option WorkerFault) → Option LiveFault
 lowest_fault [] = None
 lowest_fault (f ∷ fs) = fault_or (lowest_fault fs) (own_fault f)
 
+-- Like `lowest_fault`, in a list that begins with worker 0.
+abbrev pub first_fault : List (Option WorkerFault) → Option LiveFault
+first_fault [] = None
+first_fault (f ∷ fs) = fault_or (own_fault f) (first_fault fs)
+
 -- Whether the fault is that of the lowest worker that failed. If none did, a thread couldn't be made, or there is no fault.
 abbrev pub HasWorkersFault : List (Option WorkerFault) → Option LiveFault → Type 0
 HasWorkersFault fs fault = (fault ≡ lowest_fault fs) ⊎ (fault ≡ fault_or (lowest_fault fs) (Some NoThread))
-
--- Whether the fault is that of a worker's turns. v is the worker before them.
-pub record FailsTurns (answers : ℕ → ℕ → Bool → Type 0) (v : Worker PassRecord) (fault : LiveFault) : Type 0 where
-  pub w : Worker PassRecord
-  pub cause : WorkerFault
-  pub ends : EndsBy answers v w cause
-  pub fault_is : own_fault (Some cause) ≡ Some fault
-
--- Whether the fault is that of one of the jobs.
-abbrev pub OneFails : {J : Type 0} → (J → LiveFault → Type 0) → List J → LiveFault → Type 0
-OneFails fails [] fault = ⊥
-OneFails fails (j ∷ js) fault = fails j fault ⊎ OneFails fails js fault
 
 -- Whether a worker took all of its turns.
 abbrev pub has_ended : Option WorkerFault → Bool
 has_ended None = true
 has_ended (Some fault) = false
-
--- Whether the fault is that of the call of a label, after those of all lower publishers were accepted.
-abbrev pub FailsLabels : ℕ → PassRecord → PassRecord → CallFault → Type 0
-FailsLabels count p q fault =
-    (index : ℕ) × (mid : PassRecord) × (index < count) × WereAccepted p mid (each_below publisher_label index)
-    × FailsAsking mid q (publisher_label index) fault
-
--- Whether the fault is why RS's labels couldn't be published by a pass of this desk that had called nothing: memory ran out, or one of the
--- calls failed.
-abbrev pub FailsHiring : ℕ → Home → LiveFault → Type 0
-FailsHiring count home fault =
-    (fault ≡ NoRoom)
-    ⊎ ((p q : PassRecord) × (call : CallFault) × IsOfHome home p × (p.calls ≡ []) × FailsLabels count p q call × (fault ≡ call_fault call))
-
--- Whether the fault is why the worker can't finish after its turns.
-pub record CantFinish (v : Worker PassRecord) (fault : LiveFault) : Type 0 where
-  pub w : Worker PassRecord
-  pub cause : WorkerFault
-  pub fails : FailsToFinish v w cause
-  pub fault_is : fault ≡ worker_fault cause
 
 -- Whether a fault, if there is one, is an earlier one. If there is no earlier one, the property holds of it.
 abbrev pub IsFaultOr : (LiveFault → Type 0) → Option LiveFault → Option LiveFault → Type 0

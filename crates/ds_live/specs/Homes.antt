@@ -19,19 +19,14 @@ pub record Home : Type 0 where
 abbrev pub home_of : {S V Q Z : Type 0} {G : Ghosts (Opening (Boxed Z))} → DeskOf S V (Opening (Boxed Z)) Q G → Home
 home_of d = record { desk = identity d; content = (opened_with d).value }
 
--- Whether the pass is one of the desk's, and made and learnt no note.
+-- Whether the pass is one of the desk's, whose first call has place 0, and made and learnt no note.
 pub record IsOfHome (home : Home) (p : PassRecord) : Type 0 where
   pub desk_is : p.origin.desk ≡ home.desk
   pub content_is : p.opened ≡ Some home.content
+  pub first_is : p.origin.first ≡ 0
   pub none_made : p.origin.made ≡ 0
   pub none_learnt : p.origin.learnt ≡ 0
 
 -- Whether a desk was opened with a new store of this incarnation, whose journal keeps 256 items.
 abbrev pub IsNewHome : ℕ → Home → Type 0
 IsNewHome incarnation home = ContentStands home.content (opening incarnation 0 256 larger)
-
--- Whether the pass is of such a desk.
-pub record IsOfNew (incarnation : ℕ) (p : PassRecord) : Type 0 where
-  pub home : Home
-  pub new : IsNewHome incarnation home
-  pub from : IsOfHome home p

@@ -40,13 +40,12 @@ module _ (sizes : Sizes) where
 
   -- ---- before the turns
 
-  -- Whether the worker has called nothing but, as RS, the labels of all publishers by the pass of the last worker.
+  -- Whether the worker has called nothing.
   abbrev pub IsReadyTask : ℕ → PassRecord → Task PassRecord → Type 0
   IsReadyTask index p Publish = (index < sizes.publishers) × (p.calls ≡ [])
   IsReadyTask index p (Follow f) = IsSubscriber sizes index f × (p.calls ≡ [])
   IsReadyTask index p (Exchange r from) =
-      (index ≡ sizes.publishers + sizes.subscribers) × AreAccepted (each_below publisher_label sizes.publishers) p.calls
-      × (r.calls ≡ []) × (from ≡ None)
+      (index ≡ sizes.publishers + sizes.subscribers) × (p.calls ≡ []) × (r.calls ≡ []) × (from ≡ None)
 
   pub record IsReady (w : Worker PassRecord) : Type 0 where
     pub turns : w.turns ≡ sizes.changes
@@ -55,16 +54,17 @@ module _ (sizes : Sizes) where
 
   -- ---- after the turns
 
-  -- Whether the worker took `changes` turns. A publisher's calls are these, of 0, 1 and so on, and the store took each. A subscriber's are
-  -- its follower's. The last worker called the labels first, and then made exchanges from no cursor on.
+  -- Whether the worker took `changes` turns. A publisher's calls are its label, as RS, and then its numbers 0, 1 and so on, and the store
+  -- took each. A subscriber's are its follower's. The last worker made exchanges from no cursor on.
   abbrev pub HasTakenTask : ℕ → PassRecord → Task PassRecord → Type 0
-  HasTakenTask index p Publish = (index < sizes.publishers) × AreAccepted (each_below (publisher_number index) sizes.changes) p.calls
+  HasTakenTask index p Publish =
+      (index < sizes.publishers) × AreAccepted (publisher_label index ∷ each_below (publisher_number index) sizes.changes) p.calls
   HasTakenTask index p (Follow g) =
       IsSubscriber sizes index g × (sizes.changes ≤ length p.calls) × AreOfFollower g.sub every_key p.calls
   HasTakenTask index p (Exchange r next) =
       (index ≡ sizes.publishers + sizes.subscribers)
-      × ((q s : PassRecord) × (count : ℕ) × AreAccepted (each_below publisher_label sizes.publishers) q.calls × (s.calls ≡ [])
-      × (sizes.changes ≤ count) × HasExchangedOften count q p s r None next)
+      × ((q s : PassRecord) × (count : ℕ) × (q.calls ≡ []) × (s.calls ≡ []) × (sizes.changes ≤ count)
+      × HasExchangedOften count q p s r None next)
 
   abbrev pub HasTaken : Worker PassRecord → Type 0
   HasTaken w = HasTakenTask w.index w.pass w.task
@@ -78,11 +78,12 @@ module _ (sizes : Sizes) where
 -- ---- the stores
 
 -- Whether the content is that of a store after a legal history, from a new store of this incarnation on, with which the desk of these
--- passes was opened. The history extends what each pass has seen, and its entries are exactly the passes' calls.
+-- passes was opened at place 0. The history extends what each pass has seen, and its entries are exactly the passes' calls.
 pub record ClosesAfter (incarnation : ℕ) (passes : List PassRecord) (closed : ContentRecord) : Type 0 where
   pub opened : ContentRecord
   pub new : ContentStands opened (opening incarnation 0 256 larger)
   pub same_opening : AllByRecursion (λ (p : PassRecord). p.opened ≡ Some opened) passes
+  pub same_first : AllByRecursion (λ (p : PassRecord). p.origin.first ≡ 0) passes
   pub history : List (Entry Command Reply)
   pub run : Run Turn opened history closed
   pub begins : AllByRecursion (λ (p : PassRecord). IsPrefix p.history history) passes

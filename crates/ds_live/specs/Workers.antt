@@ -1,5 +1,5 @@
 -- Workers that come back from their threads.
-use Rattle.std.specs.Prelude.{◌≡◌, ◌⊎◌, ℕ, zero, suc, ◌<◌, ◌≤◌, Bool, true, false, List, Option, Some, None}
+use Rattle.std.specs.Prelude.{◌≡◌, ◌⊎◌, ℕ, zero, suc, ◌<◌, ◌≤◌, Bool, true, false, List, [], ◌∷◌, ◌++◌, Option, Some, None}
 use Rattle.history.specs.declared.entry.Entry.{Entry}
 use Rattle.ds_live.specs.declared.given_up.Told.{Told}
 use Rattle.desk_rule.specs.declared.view.View.{View}
@@ -13,18 +13,18 @@ use Rattle.desk_store.specs.Record.{Boxed, PassRecord, pass_record}
 use Rattle.desk_store.specs.declared.call_fault.CallFault.{CallFault}
 use Rattle.desk_store.specs.Follower.{FollowerRecord, IsSameFollower}
 use Rattle.desk_store.specs.KeepsUp.{KeepsUpWith}
-use Rattle.desk_store.specs.Refresh.{AreOfFollower}
+use Rattle.desk_store.specs.FollowerCalls.{AreOpenCalls, ChecksLast}
 use Rattle.desk_store.specs.declared.refresh_fault.RefreshFault.{RefreshFault}
-use Rattle.desk_store.specs.ExchangeFaults.{IsExchangeFault}
 use Rattle.desk_store.specs.declared.exchange_fault.ExchangeFault.{ExchangeFault}
 use Rattle.ds_live.specs.declared.worker_fault.WorkerFault.{WorkerFault}
 use Rattle.ds_live.specs.declared.worker_fault.WorkerFault.TheVariants as faults
 use Rattle.ds_live.specs.declared.task.Task.{Task}
 use Rattle.ds_live.specs.declared.task.Task.TheVariants.{Exchange, Follow, Publish}
 use Rattle.ds_live.specs.declared.worker.Worker.{Worker}
-use Rattle.ds_live.specs.Commands.{each_below, publisher_number}
+use Rattle.ds_live.specs.Commands.{each_below, publisher_label, publisher_number}
 use Rattle.ds_live.specs.Homes.{Home, IsOfHome}
-use Rattle.ds_live.specs.Turns.{FailsBringingUp, FailsFollowing, FailsHandingOver, HasCalled, HasExchanged, HasExchangedOften}
+use Rattle.ds_live.specs.Turns.{FailsBringingUp, FailsExchanging, FailsFollowing, FailsHandingOver, HasCalled, HasExchanged}
+use Rattle.ds_live.specs.Turns.{HasExchangedOften, HasHandedOver}
 use Rattle.ds_live.specs.Turns.{HasFollowedOn, HasRefreshed, IsBroughtUp, IsHandedOver, WasAccepted, WereAccepted}
 
 -- The type of a pass at a store's desk.
@@ -82,10 +82,10 @@ TakesTask index turn p q Publish task = ⊥
 TakesTask index turn p q (Follow f) task = ⊥
 TakesTask index turn p q (Exchange r from) task = ⊥
 
--- The effect of this many turns from turn 0 on. A publisher's calls overwrite its number by 0, 1 and so on. A follower made at least one
--- call in each turn. Each exchange begins at the cursor of the one before it.
+-- The effect of this many turns from turn 0 on. A publisher first publishes its label, as RS; then its calls overwrite its number by 0, 1
+-- and so on. A follower made 1 to 8 calls in each turn. Each exchange begins at the cursor of the one before it.
 abbrev pub TookTask : ℕ → ℕ → PassRecord → PassRecord → Task PassRecord → Task PassRecord → Type 0
-TookTask index count p q Publish Publish = WereAccepted p q (each_below (publisher_number index) count)
+TookTask index count p q Publish Publish = WereAccepted p q (publisher_label index ∷ each_below (publisher_number index) count)
 TookTask index count p q (Follow f) (Follow g) = HasFollowedOn count p q f g
 TookTask index count p q (Exchange r from) (Exchange s next) = HasExchangedOften count p q r s from next
 TookTask index count p q Publish task = ⊥
@@ -98,10 +98,21 @@ FailsTask index turn p q Publish Publish fault =
     (call : CallFault) × (fault ≡ faults.Call call) × FailsAsking p q (publisher_number index turn) call
 FailsTask index turn p q (Follow f) (Follow g) fault = FailsFollowing p q f fault
 FailsTask index turn p q (Exchange r from) (Exchange s next) fault =
-    (exchange : ExchangeFault) × (fault ≡ faults.Exchange exchange) × IsExchangeFault p q r s exchange
+    (exchange : ExchangeFault) × (fault ≡ faults.Exchange exchange) × FailsExchanging p q r s from exchange
 FailsTask index turn p q Publish task fault = ⊥
 FailsTask index turn p q (Follow f) task fault = ⊥
 FailsTask index turn p q (Exchange r from) task fault = ⊥
+
+-- Whether the fault is that of a publisher's label.
+abbrev pub FailsToBeginTask : ℕ → PassRecord → PassRecord → Task PassRecord → Task PassRecord → WorkerFault → Type 0
+FailsToBeginTask index p q Publish Publish fault =
+    (call : CallFault) × (fault ≡ faults.Call call) × FailsAsking p q (publisher_label index) call
+FailsToBeginTask index p q Publish task fault = ⊥
+FailsToBeginTask index p q (Follow f) task fault = ⊥
+FailsToBeginTask index p q (Exchange r from) task fault = ⊥
+
+abbrev pub FailsToBegin : Worker PassRecord → Worker PassRecord → WorkerFault → Type 0
+FailsToBegin v w fault = FailsToBeginTask v.index v.pass w.pass v.task w.task fault
 
 abbrev pub TurnTaken : ℕ → Worker PassRecord → Worker PassRecord → Type 0
 TurnTaken turn v w = TakesTask v.index turn v.pass w.pass v.task w.task
@@ -124,16 +135,21 @@ module _ (answers : ℕ → ℕ → Bool → Type 0) where
   TookAll v w = TookTurns v.turns v w × LetsThrough v.index (suc v.turns)
 
   -- Whether the fault ended the worker's turns: after some of them the gate turned it away, the run was given up, or the next turn failed.
+  -- A publisher may fail before them, by its label.
   abbrev pub EndsBy : Worker PassRecord → Worker PassRecord → WorkerFault → Type 0
   EndsBy v w fault =
       ((count : ℕ) × (count ≤ v.turns) × TookTurns count v w × (fault ≡ faults.GateShut) × answers v.index count false)
       ⊎ (((count : ℕ) × (count ≤ v.turns) × TookTurns count v w × (told : Told) × (fault ≡ faults.GivenUp told))
-      ⊎ ((count : ℕ) × (count < v.turns) × (u : Worker PassRecord) × TookTurns count v u × (u.index ≡ v.index)
-      × FailsTurn count u w fault))
+      ⊎ (((count : ℕ) × (count < v.turns) × (u : Worker PassRecord) × TookTurns count v u × (u.index ≡ v.index)
+      × FailsTurn count u w fault) ⊎ FailsToBegin v w fault))
 
   abbrev pub HasEnded : Worker PassRecord → Worker PassRecord → Option WorkerFault → Type 0
   HasEnded v w None = TookAll v w
   HasEnded v w (Some fault) = EndsBy v w fault
+
+  -- Whether w is the worker v that wasn't started, or whose turns ended as its fault says.
+  abbrev pub StopsTurns : Worker PassRecord → Worker PassRecord → Type 0
+  StopsTurns v w = (w ≡ v) ⊎ HasEnded v w w.fault
 
   -- Whether w is the worker v after its turns.
   pub record Worked {Z : Type 0} {G : Ghosts (View (Boxed Z) Command Reply)} (v w : Worker (StorePass Z G)) : Type 0 where
@@ -142,11 +158,15 @@ module _ (answers : ℕ → ℕ → Bool → Type 0) where
 
 -- ---- after the turns of all workers
 
--- Whether q is the pass p after calls that are all the follower's, and the map of the follower, now g, is up to date.
+-- Whether q is the pass p after calls of the follower f, now g, of which only the last ended a refresh, and its map is up to date.
 pub record HasBroughtUp (p q : PassRecord) (f g : FollowerRecord) : Type 0 where
   pub own : List (Entry Command Reply)
-  pub made : Made p q own
-  pub theirs : AreOfFollower f.sub f.map.query own
+  pub last : Entry Command Reply
+  pub stamp : ℕ
+  pub after : ℕ
+  pub made : Made p q (own ++ last ∷ [])
+  pub open_calls : AreOpenCalls f.sub f.map.query f.stamp own (Some stamp)
+  pub ends : ChecksLast f.sub last stamp after
   pub same : IsSameFollower f g
   pub brought : IsBroughtUp q g
 
@@ -154,7 +174,7 @@ pub record HasBroughtUp (p q : PassRecord) (f g : FollowerRecord) : Type 0 where
 abbrev pub FinishesTask : PassRecord → PassRecord → Task PassRecord → Task PassRecord → Type 0
 FinishesTask p q Publish Publish = q ≡ p
 FinishesTask p q (Follow f) (Follow g) = HasBroughtUp p q f g
-FinishesTask p q (Exchange r from) (Exchange s next) = ((count : ℕ) × HasExchangedOften count p q r s from next) × IsHandedOver q s
+FinishesTask p q (Exchange r from) (Exchange s next) = HasHandedOver p q r s from next × IsHandedOver q s
 FinishesTask p q Publish task = ⊥
 FinishesTask p q (Follow f) task = ⊥
 FinishesTask p q (Exchange r from) task = ⊥

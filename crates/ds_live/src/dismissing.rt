@@ -1,11 +1,11 @@
 //! The end of the workers, which hand their passes back.
 
-ghost use Rattle.std.specs.Prelude.{All, ◌≡◌, ◌⊎◌, ◌≤◌, ◌<◌, ◌+◌, ◌++◌, ◌∷◌, [], length, map, sum_by};
+ghost use Rattle.std.specs.Prelude.{All, ◌≡◌, ◌≤◌, ◌<◌, ◌+◌, ◌++◌, ◌∷◌, [], length, map, sum_by, None};
 ghost use Rattle.std.specs.Prelude.{vec_capacity, OnOk, IfErr, IfNone, IfSome};
 ghost use Rattle.std.specs.declared.option.Option.TheVariants.{Some};
 ghost use Rattle.ds_live.specs.Workers.{ComesBack, Finishes, IsAtHome, IsOf, others_in, plain};
-ghost use Rattle.ds_live.specs.Dismissed.{HandBack};
-ghost use Rattle.ds_live.specs.Faults.{CantFinish, IsFaultOr, OneFails};
+ghost use Rattle.ds_live.specs.Dismissed.{HandBack, IsLeft, KeepsOwn, Leaves};
+ghost use Rattle.ds_live.specs.Faults.{IsFaultOr};
 ghost use Rattle.ds_live.specs.Homes.{home_of};
 ghost use Rattle.ds_live.specs.Tasks.{IsOther, followers_in, passes_in};
 
@@ -15,6 +15,7 @@ use crate::live_fault::LiveFault;
 use crate::task::Task;
 use crate::turns::{Desks, StoreTurns, Turns};
 use crate::worker::{StoreWorker, Worker};
+use crate::working::own_fault;
 use desk::{Desk, Pass};
 use ds_store::Store;
 use std::alloc::Global;
@@ -31,6 +32,7 @@ pub(crate) fn dismiss<R: Wait, G: Gate>(
     back: &mut Back<Pass<Box<Store>>>,
 ) -> Option<LiveFault>
     requires of_desks { All (λ j. IsOf (home_of desks.now.first) (home_of desks.now.second) j.worker) jobs.items }
+    requires idle { IfNone fault (All (λ j. j.worker.fault ≡ None) jobs.items) }
     requires taken { (back.old.passes.items ≡ []) × (back.old.others.items ≡ []) × (back.old.followers.items ≡ []) }
     requires room { length jobs.items ≤ vec_capacity back.old.passes }
     requires others_room { sum_by (λ j. others_in j.worker.task) jobs.items ≤ vec_capacity back.old.others }
@@ -40,10 +42,8 @@ pub(crate) fn dismiss<R: Wait, G: Gate>(
     ensures all_others { length back.new.others.items ≡ sum_by (λ j. others_in j.worker.task) jobs.entry.items }
     ensures finished { IfNone result (HandBack (map (λ j. j.worker) jobs.entry.items)
         back.new.passes.items back.new.others.items back.new.followers.items) }
+    ensures left { Leaves fault result (map (λ j. j.worker) jobs.entry.items) back.new.passes.items back.new.others.items }
     ensures kept { IfSome fault (λ was. result ≡ Some was) }
-    ensures cause { IsFaultOr
-        (λ told. (told ≡ LiveFault.NoRoom) ⊎ OneFails (λ j. CantFinish (plain j.worker)) jobs.entry.items told)
-        fault result }
 {
     while let Some(job) = jobs.pop() {
         let Turns { mut worker, .. } = job;
@@ -82,7 +82,7 @@ fn hand_back(
     }
 }
 
-// Lets a worker finish, unless there is a fault. Returns that fault, or the worker's.
+// Lets a worker finish, unless there is a fault. Returns that fault, or the worker's, which the worker keeps.
 fn finish<W: Wait>(
     rt: &W,
     alloc: Global,
@@ -94,14 +94,18 @@ fn finish<W: Wait>(
     ensures back { ComesBack worker.old worker.new }
     ensures kept { IfSome fault (λ was. result ≡ Some was) }
     ensures done { IfNone result (Finishes (plain worker.old) (plain worker.new)) }
-    ensures cause { IsFaultOr (CantFinish (plain worker.old)) fault result }
+    ensures left { IsLeft fault (plain worker.old) (plain worker.new) }
+    ensures own { KeepsOwn fault result worker.old.fault worker.new.fault }
 {
     if fault.is_some() {
         return fault;
     }
     match worker.finish(rt, alloc, &desks.first, &desks.second) {
         Ok(()) => None,
-        Err(fault) => Some(LiveFault::from(fault)),
+        Err(fault) => {
+            worker.fault = Some(fault);
+            own_fault(worker.fault)
+        }
     }
 }
 

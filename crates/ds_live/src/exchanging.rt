@@ -1,11 +1,11 @@
 //! Exchanges from the first desk's store to the second's.
 
-ghost use Rattle.std.specs.Prelude.{◌≡◌, ℕ, IfErr, IfOk, OnOk};
+ghost use Rattle.std.specs.Prelude.{◌≡◌, IfErr, IfOk, OnOk};
 ghost use Rattle.desk.specs.Desk.{identity};
 ghost use Rattle.desk.specs.Pass.{desk_of};
 ghost use Rattle.desk_store.specs.Record.{pass_record as seen};
-ghost use Rattle.desk_store.specs.ExchangeFaults.{IsExchangeFault};
-ghost use Rattle.ds_live.specs.Turns.{FailsHandingOver, HasCalled, HasExchanged, HasExchangedOften, IsHandedOver, SeatHasCalled};
+ghost use Rattle.ds_live.specs.Turns.{FailsExchanging, FailsHandingOver, HasCalled, HasExchanged, HasHandedOver, IsHandedOver};
+ghost use Rattle.ds_live.specs.Turns.{SeatHasCalled};
 
 use desk::{Desk, Pass};
 use desk_store::{CallFault, ExchangeFault, Seat, exchange_once};
@@ -30,7 +30,7 @@ pub(crate) fn exchange<W: Wait>(
     ensures other_stays { desk_of other.new ≡ desk_of other.old }
     ensures called { HasCalled (seen pass.old) (seen pass.new) × HasCalled (seen other.old) (seen other.new) }
     ensures exchanged { IfOk result (HasExchanged (seen pass.old) (seen pass.new) (seen other.old) (seen other.new) cursor.old cursor.new) }
-    ensures fault { IfErr result (IsExchangeFault (seen pass.old) (seen pass.new) (seen other.old) (seen other.new)) }
+    ensures fault { IfErr result (FailsExchanging (seen pass.old) (seen pass.new) (seen other.old) (seen other.new) cursor.old) }
 {
     let mut here = Seat::new(rt, first, pass);
     let mut there = Seat::new(rt, second, other);
@@ -48,7 +48,7 @@ fn exchange_at<W: Wait>(
 ) -> Result<bool, ExchangeFault>
     ensures called { SeatHasCalled first.old first.new × SeatHasCalled second.old second.new }
     ensures exchanged { IfOk result (HasExchanged first.old.pass first.new.pass second.old.pass second.new.pass cursor.old cursor.new) }
-    ensures fault { IfErr result (IsExchangeFault first.old.pass first.new.pass second.old.pass second.new.pass) }
+    ensures fault { IfErr result (FailsExchanging first.old.pass first.new.pass second.old.pass second.new.pass cursor.old) }
 {
     match exchange_once(first.rt(), first, second, *cursor) {
         Ok(exchanged) => {
@@ -78,8 +78,8 @@ pub(crate) fn hand_over<W: Wait>(
     ensures other_stays { desk_of other.new ≡ desk_of other.old }
     ensures called { HasCalled (seen pass.old) (seen pass.new) × HasCalled (seen other.old) (seen other.new) }
     ensures handed { OnOk result (IsHandedOver (seen pass.new) (seen other.new)) }
-    ensures exchanged { OnOk result ((count : ℕ)
-        × HasExchangedOften count (seen pass.old) (seen pass.new) (seen other.old) (seen other.new) cursor.old cursor.new) }
+    ensures exchanged { OnOk result
+        (HasHandedOver (seen pass.old) (seen pass.new) (seen other.old) (seen other.new) cursor.old cursor.new) }
     ensures fault { IfErr result (FailsHandingOver (seen pass.old) (seen pass.new) (seen other.old) (seen other.new) cursor.old) }
 {
     let mut here = Seat::new(rt, first, pass);
@@ -98,8 +98,7 @@ fn hand_over_at<W: Wait>(
 ) -> Result<(), ExchangeFault>
     ensures called { SeatHasCalled first.old first.new × SeatHasCalled second.old second.new }
     ensures handed { OnOk result (IsHandedOver first.new.pass second.new.pass) }
-    ensures exchanged { OnOk result ((count : ℕ)
-        × HasExchangedOften count first.old.pass first.new.pass second.old.pass second.new.pass cursor.old cursor.new) }
+    ensures exchanged { OnOk result (HasHandedOver first.old.pass first.new.pass second.old.pass second.new.pass cursor.old cursor.new) }
     ensures fault { IfErr result (FailsHandingOver first.old.pass first.new.pass second.old.pass second.new.pass cursor.old) }
 {
     for _ in first.rt().forever() {

@@ -6,6 +6,7 @@ ghost use Rattle.desk.specs.Pass.{desk_of};
 ghost use Rattle.desk_store.specs.Record.{pass_record as seen};
 ghost use Rattle.desk_store.specs.Follower.{IsSameFollower};
 ghost use Rattle.desk_store.specs.KeepsUp.{KeepsUpWith};
+ghost use Rattle.desk_store.specs.Refresh.{CallsOnly};
 ghost use Rattle.desk_store.specs.RefreshFaults.{IsRefreshFault};
 ghost use Rattle.ds_live.specs.Turns.{FailsBringingUp, FailsFollowing, HasCalled, HasFollowed, HasRefreshed, SeatHasCalled};
 ghost use Rattle.ds_live.specs.Workers.{HasBroughtUp};
@@ -60,6 +61,7 @@ fn refresh_once<W: Wait>(
     ensures same { IsSameFollower follower.old follower.new }
     ensures refreshed { OnOk result (HasRefreshed (seen pass.old) (seen pass.new) follower.old) }
     ensures lost { turn ≡ 1 → OnOk result (follower.new.stamp ≡ None) }
+    ensures only { CallsOnly (seen pass.old) (seen pass.new) follower.old 8 }
     ensures fault { IfErr result (IsRefreshFault 8 (seen pass.old) (seen pass.new) follower.old) }
 {
     let mut seat = Seat::new(rt, desk, pass);
@@ -81,6 +83,7 @@ fn refresh_at<W: Wait>(
     ensures same { IsSameFollower follower.old follower.new }
     ensures refreshed { OnOk result (HasRefreshed seat.old.pass seat.new.pass follower.old) }
     ensures lost { turn ≡ 1 → OnOk result (follower.new.stamp ≡ None) }
+    ensures only { CallsOnly seat.old.pass seat.new.pass follower.old 8 }
     ensures fault { IfErr result (IsRefreshFault 8 seat.old.pass seat.new.pass follower.old) }
 {
     let _fresh = refresh(seat, alloc, follower, 8)?;

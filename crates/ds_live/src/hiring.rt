@@ -1,15 +1,12 @@
 //! The beginning of a run.
 
-ghost use Rattle.std.specs.Prelude.{All, ◌≡◌, ◌≤◌, ◌<◌, ◌+◌, ◌-◌, ◌*◌, [], length, map, sum_by, vec_capacity, None};
+ghost use Rattle.std.specs.Prelude.{All, ◌≡◌, ◌≤◌, ◌<◌, ◌+◌, ◌-◌, ◌*◌, [], length, map, sum_by, vec_capacity};
 ghost use Rattle.std.specs.Prelude.{IfErr, IfOk, IsTrue, OnOk};
-ghost use Rattle.desk.specs.Desk.{identity, pass_count};
-ghost use Rattle.desk.specs.Pass.{calls, desk_of};
-ghost use Rattle.desk_store.specs.Record.{pass_record};
+ghost use Rattle.desk.specs.Desk.{pass_count};
+ghost use Rattle.desk.specs.Pass.{calls};
 ghost use Rattle.desk_store.specs.Follower.{new_follower};
-ghost use Rattle.ds_live.specs.Commands.{each_below, every_key, publisher_label};
-ghost use Rattle.ds_live.specs.Turns.{HasCalled, WereAccepted};
+ghost use Rattle.ds_live.specs.Commands.{every_key};
 ghost use Rattle.ds_live.specs.Workers.{IsAtHome, IsOf, IsTask, others_in, plain};
-ghost use Rattle.ds_live.specs.Faults.{FailsHiring, FailsLabels};
 ghost use Rattle.ds_live.specs.Homes.{Home, IsNewHome, home_of};
 ghost use Rattle.ds_live.specs.Run.{IsReady, downward};
 ghost use Rattle.ds_live.specs.Sizes.{are_fit};
@@ -20,13 +17,12 @@ use crate::commands::everything;
 use crate::gate::Gate;
 use crate::given_up::GivenUp;
 use crate::live_fault::LiveFault;
-use crate::publishing::publish_label;
 use crate::sizes::Sizes;
 use crate::task::Task;
 use crate::turns::{Desks, StoreTurns, Turns};
 use crate::worker::Worker;
-use desk::{Desk, Pass};
-use desk_store::{CallFault, Follower};
+use desk::{AccountRoom, Desk, Pass};
+use desk_store::Follower;
 use ds_store::Store;
 use std::alloc::Global;
 use std::sync::Wait;
@@ -34,16 +30,16 @@ use std::sync::Wait;
 // The number of items that a store's journal keeps.
 const RING: u32 = 256;
 
-/// Opens a desk with a new store of this incarnation, and returns it with its 1 to 64 passes.
+/// Opens a desk with a new store of this incarnation, and returns it with the memory for its account and its 1 to 64 passes.
 pub(crate) fn open_desk(
     alloc: Global,
     incarnation: u64,
     passes: u32,
-) -> Result<(Desk<Box<Store>>, Vec<Pass<Box<Store>>>), LiveFault>
+) -> Result<(Desk<Box<Store>>, AccountRoom, Vec<Pass<Box<Store>>>), LiveFault>
     requires { (0 < passes) × (passes ≤ 64) }
-    ensures home { IfOk result (λ d. All (λ p. IsAtHome (home_of d.0) p) d.1.items) }
-    ensures count { IfOk result (λ d. (pass_count d.0 ≡ passes) × (length d.1.items ≡ passes)) }
-    ensures fresh { IfOk result (λ d. All (λ p. calls p ≡ []) d.1.items) }
+    ensures home { IfOk result (λ d. All (λ p. IsAtHome (home_of d.0) p) d.2.items) }
+    ensures count { IfOk result (λ d. (pass_count d.0 ≡ passes) × (length d.2.items ≡ passes)) }
+    ensures fresh { IfOk result (λ d. All (λ p. calls p ≡ []) d.2.items) }
     ensures opened { IfOk result (λ d. IsNewHome incarnation (home_of d.0)) }
     ensures cause { IfErr result (λ fault. fault ≡ LiveFault.NoRoom) }
 {
@@ -53,13 +49,16 @@ pub(crate) fn open_desk(
     let Ok(store) = Box::new(alloc, store) else {
         return Err(LiveFault::NoRoom);
     };
+    let Ok(room) = AccountRoom::new(alloc) else {
+        return Err(LiveFault::NoRoom);
+    };
     match Desk::<Box<Store>>::open(alloc, store, passes, 0) {
-        Ok((desk, passes)) => Ok((desk, passes.into_vec())),
+        Ok((desk, passes)) => Ok((desk, room, passes.into_vec())),
         Err(_) => Err(LiveFault::NoRoom),
     }
 }
 
-/// Makes a job for each pass of the first desk, and publishes the publishers' labels.
+/// Makes a job for each pass of the first desk. Fails only if memory runs out.
 ///
 /// Publishers have the first numbers, then come the subscribers, then the worker that exchanges, which gets the pass of the second desk.
 /// Worker 0 has the last job of the list. The lists of passes keep their capacity.
@@ -83,21 +82,19 @@ pub(crate) fn hire<'e, R: Wait, G: Gate>(
     ensures all { IfOk result (λ js. length js.items ≡ length back.old.passes.items) }
     ensures one { IfOk result (λ js. sum_by (λ j. others_in j.worker.task) js.items ≡ 1) }
     ensures ready { IfOk result (λ js. All (λ j. IsReady sizes (plain j.worker)) js.items) }
-    ensures idle { IfOk result (λ js. All (λ j. j.worker.fault ≡ None) js.items) }
     ensures numbered { IfOk result (λ js. map (λ j. j.worker.index) js.items ≡ downward (length js.items)) }
     ensures gates { IfOk result (λ js. All (λ j. j.gate.now ≡ gate.now) js.items) }
     ensures taken { IfOk result (λ js.
         (back.new.passes.items ≡ []) × (back.new.others.items ≡ []) × (back.new.followers.items ≡ [])) }
     ensures room { (length back.old.passes.items ≤ vec_capacity back.new.passes) × (1 ≤ vec_capacity back.new.others) }
-    ensures cause { IfErr result (FailsHiring sizes.publishers (home_of desks.now.first)) }
+    ensures cause { IfErr result (λ fault. fault ≡ LiveFault.NoRoom) }
 {
     let Ok(mut jobs) = Vec::with_capacity(alloc, back.passes.len()) else {
         return Err(LiveFault::NoRoom);
     };
-    let Some(mut pass) = back.passes.pop() else {
+    let Some(pass) = back.passes.pop() else {
         unreachable!()
     };
-    publish_labels(rt, &desks.first, &mut pass, sizes.publishers)?;
     let Some(other) = back.others.pop() else {
         unreachable!()
     };
@@ -137,25 +134,6 @@ pub(crate) fn hire<'e, R: Wait, G: Gate>(
         });
     }
     Ok(jobs)
-}
-
-// Publishes the labels of the publishers, as RS.
-fn publish_labels<W: Wait>(
-    rt: &W,
-    desk: &Desk<Box<Store>>,
-    pass: &mut Pass<Box<Store>>,
-    count: u32,
-) -> Result<(), CallFault>
-    requires of_desk { desk_of pass.old ≡ identity desk.now }
-    requires few { count ≤ 8 }
-    ensures called { HasCalled (pass_record pass.old) (pass_record pass.new) }
-    ensures accepted { OnOk result (WereAccepted (pass_record pass.old) (pass_record pass.new) (each_below publisher_label count)) }
-    ensures fault { IfErr result (FailsLabels count (pass_record pass.old) (pass_record pass.new)) }
-{
-    for index in 0..count {
-        publish_label(rt, desk, pass, index)?;
-    }
-    Ok(())
 }
 
 // Returns the task of a worker before the last. Subscriber s follows all keys by its server's first subscription, 8 s.

@@ -1,14 +1,15 @@
 //! Workers and their turns.
 
 ghost use Rattle.std.specs.Prelude.{◌≡◌, true, false, IfErr, OnOk};
-ghost use Rattle.ds_live.specs.Homes.{home_of};
-ghost use Rattle.ds_live.specs.Workers.{ComesBack, EndsBy, FailsToFinish, FailsTurn, Finishes, IsOf, TurnTaken, TookAll, Worked, plain};
+ghost use Rattle.ds_live.specs.Homes.{Home, home_of};
+ghost use Rattle.ds_live.specs.Workers.{ComesBack, EndsBy, FailsToBegin, FailsToFinish, FailsTurn, Finishes, IsOf, TurnTaken, TookAll};
+ghost use Rattle.ds_live.specs.Workers.{TookTurns, Worked, plain};
 
 use crate::exchanging::{exchange, hand_over};
 use crate::following::{bring_up, follow};
 use crate::gate::Gate;
 use crate::given_up::GivenUp;
-use crate::publishing::publish;
+use crate::publishing::{publish, publish_label};
 use crate::task::Task;
 use crate::worker_fault::WorkerFault;
 use desk::{Desk, Pass};
@@ -35,8 +36,8 @@ pub struct Worker<P> {
 pub type StoreWorker = Worker<Pass<Box<Store>>>;
 
 impl Worker<Pass<Box<Store>>> {
-    /// Takes all of the worker's turns, and arrives at the gate before each one and after the last. Ends early at a fault, or once the run
-    /// is given up, and keeps which it was as its fault.
+    /// Takes all of the worker's turns, and arrives at the gate before each one and after the last. A publisher first publishes its label,
+    /// as RS. Ends early at a fault, or once the run is given up, and keeps which it was as its fault.
     pub(crate) fn work<W: Wait, G: Gate>(
         &mut self,
         rt: &W,
@@ -55,7 +56,23 @@ impl Worker<Pass<Box<Store>>> {
         }
     }
 
-    // Takes all of the worker's turns.
+    // Publishes a publisher's label, before its turns. Another worker has nothing to do.
+    fn begin<W: Wait>(&mut self, rt: &W, first: &Desk<Box<Store>>) -> Result<(), WorkerFault>
+        requires { (other : Home) × IsOf (home_of first.now) other self.old }
+        ensures back { ComesBack self.old self.new }
+        ensures begun { OnOk result (TookTurns 0 (plain self.old) (plain self.new)) }
+        ensures fault { IfErr result (FailsToBegin (plain self.old) (plain self.new)) }
+    {
+        match &self.task {
+            Task::Publish => {
+                publish_label(rt, first, &mut self.pass, self.index)?;
+                Ok(())
+            }
+            _ => Ok(()),
+        }
+    }
+
+    // Begins, and takes all of the worker's turns.
     fn take_turns<W: Wait, G: Gate>(
         &mut self,
         rt: &W,
@@ -70,6 +87,7 @@ impl Worker<Pass<Box<Store>>> {
         ensures took { OnOk result (TookAll (G.answers gate.now) (plain self.old) (plain self.new)) }
         ensures fault { IfErr result (EndsBy (G.answers gate.now) (plain self.old) (plain self.new)) }
     {
+        self.begin(rt, first)?;
         for turn in 0..self.turns {
             if let Some(told) = given_up.told() {
                 return Err(WorkerFault::GivenUp(told));
@@ -120,6 +138,7 @@ impl Worker<Pass<Box<Store>>> {
     ) -> Result<(), WorkerFault>
         requires { IsOf (home_of first.now) (home_of second.now) self.old }
         ensures back { ComesBack self.old self.new }
+        ensures kept { self.new.fault ≡ self.old.fault }
         ensures done { OnOk result (Finishes (plain self.old) (plain self.new)) }
         ensures fault { IfErr result (FailsToFinish (plain self.old) (plain self.new)) }
     {

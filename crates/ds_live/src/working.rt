@@ -1,11 +1,11 @@
 //! The threads of all workers.
 
-ghost use Rattle.std.specs.Prelude.{All, ◌≡◌, ◌⊎◌, map, true, None, IfNone, IfSome};
+ghost use Rattle.std.specs.Prelude.{All, ◌≡◌, map, true, None, IfNone};
 ghost use Rattle.std.specs.List.{list_all};
 ghost use Rattle.ds_live.specs.Back.{AreBack};
 ghost use Rattle.ds_live.specs.Homes.{home_of};
-ghost use Rattle.ds_live.specs.Workers.{ComesBack, IsOf, TookAll, plain};
-ghost use Rattle.ds_live.specs.Faults.{FailsTurns, HasWorkersFault, OneFails, has_ended, lowest_fault, own_fault};
+ghost use Rattle.ds_live.specs.Workers.{ComesBack, IsOf, StopsTurns, TookAll, plain};
+ghost use Rattle.ds_live.specs.Faults.{HasWorkersFault, has_ended, lowest_fault, own_fault};
 
 use crate::crew::run_all;
 use crate::gate::Gate;
@@ -24,13 +24,13 @@ pub(crate) fn work_all<'e, R: Threads + Wait + Sync, G: Gate + Sync>(
     jobs: Vec<StoreTurns<'e, R, G>>,
 ) -> (Vec<StoreTurns<'e, R, G>>, Option<LiveFault>)
     requires of_desks { All (λ j. IsOf (home_of j.desks.now.first) (home_of j.desks.now.second) j.worker) jobs.items }
-    requires idle { All (λ j. j.worker.fault ≡ None) jobs.items }
     ensures back { AreBack (λ j k. ComesBack j.worker k.worker) 0 jobs.entry.items result.0.items }
     ensures took { IfNone result.1
         (AreBack (λ j k. TookAll (G.answers j.gate.now) (plain j.worker) (plain k.worker)) 0 jobs.entry.items result.0.items) }
     ensures fault { HasWorkersFault (map (λ j. j.worker.fault) result.0.items) result.1 }
-    ensures cause { IfSome result.1 (λ fault. (fault ≡ LiveFault.NoThread)
-        ⊎ OneFails (λ j. FailsTurns (G.answers j.gate.now) (plain j.worker)) jobs.entry.items fault) }
+    ensures stopped { AreBack (λ j k. StopsTurns (G.answers j.gate.now) (plain j.worker) (plain k.worker))
+        0 jobs.entry.items result.0.items }
+    ensures idle { IfNone result.1 (All (λ j. j.worker.fault ≡ None) result.0.items) }
 {
     match run_all(rt, given_up, jobs) {
         Ok(jobs) => {
@@ -85,8 +85,8 @@ fn have_ended<R, G>(jobs: &Vec<StoreTurns<'_, R, G>>) -> bool
     true
 }
 
-// Returns the fault of a worker that failed. A worker ends without one if the run was given up.
-fn own_fault(fault: Option<WorkerFault>) -> Option<LiveFault>
+/// Returns the fault of a worker that failed. A worker ends without one if the run was given up.
+pub(crate) fn own_fault(fault: Option<WorkerFault>) -> Option<LiveFault>
     ensures { result ≡ own_fault fault }
 {
     match fault {

@@ -1,5 +1,6 @@
 -- A merge in which no cause applies to any item at its turn, in parts.
-use Rattle.std.proofs.Common.{◌≡◌, ℕ, zero, suc, ◌<◌, ◌≤◌, ◌==◌, Bool, true, not, cond, max, ◌||◌, nat_le, List, [], ◌∷◌, ◌++◌, length, Option, Some, None, refl, ap, sym, ◌∙◌, subst, inl, arith, append_assoc, append-nil}
+use Rattle.std.proofs.Common.{◌≡◌, ℕ, zero, suc, ◌<◌, ◌≤◌, ◌==◌, Bool, true, not, cond, max, ◌||◌, nat_le, List, [], ◌∷◌, ◌++◌, length}
+use Rattle.std.proofs.Common.{Option, Some, None, refl, ap, sym, ◌∙◌, subst, inl, arith, append_assoc, append-nil}
 use Rattle.std.specs.Int.{bit_at}
 use Rattle.std.specs.Int.Bits.{bit_or}
 use Rattle.std.proofs.lemmas.Bool.{false≢true}
@@ -50,11 +51,14 @@ none_stands n l = ap (λ (b : Bool). cond (not b) (Some refusals.TooMany) None) 
 pub free_are_answered : FreeAreAnswered
 free_are_answered s t items done taken stale mask free few step =
     let none : room_wanted (outcome s (Merge items)).0 ≡ None = outcomes_take_none s (Merge items) in
-    let one = steps_one s t (outcome s (Merge items)).1 (Merge items) (Merged done taken stale mask) (outcome s (Merge items)).0 step (inl (inl (record { reply_is = refl; state_is = refl }))) (sym none) in
+    let one = steps_one s t (outcome s (Merge items)).1 (Merge items) (Merged done taken stale mask) (outcome s (Merge items)).0 step
+    (inl (inl (record { reply_is = refl; state_is = refl }))) (sym none) in
     let all : course s items ≡ all_taken s items = free_are_taken s items free in
     let out : outcome s (Merge items) ≡ (Merged (length items) (length items) 0 (owed s items), takes_effect s items) =
-    ap (λ (o : Option Refusal). merging s items o) (none_stands (length items) few) ∙ ap (λ (k : Course). let both : Reply × State = (merge_reply s k, k.state) in both) all in
-    let reply : Merged done taken stale mask ≡ Merged (length items) (length items) 0 (owed s items) = one.0 ∙ ap (λ (o : Reply × State). o.0) out in (
+    ap (λ (o : Option Refusal). merging s items o) (none_stands (length items) few) ∙
+    ap (λ (k : Course). let both : Reply × State = (merge_reply s k, k.state) in both) all in
+    let reply : Merged done taken stale mask ≡ Merged (length items) (length items) 0 (owed s items) =
+    one.0 ∙ ap (λ (o : Reply × State). o.0) out in (
       one.1 ∙ ap (λ (o : Reply × State). o.1) out,
       ap mask_of reply,
       ap done_of reply,
@@ -105,7 +109,8 @@ bit_same (suc (suc x)) y l m e = absurd (omega arith)
 pub owed_in_parts : OwedInParts
 owed_in_parts s part rest =
     same_from_bits (owed s (part ++ rest)) (bit_or (owed s part) (owed s rest))
-    (λ i. bit_same (bit_at (owed s (part ++ rest)) i) (bit_at (bit_or (owed s part) (owed s rest)) i) (bit_at-lt (owed s (part ++ rest)) i) (bit_at-lt (bit_or (owed s part) (owed s rest)) i) (bits i))
+    (λ i. bit_same (bit_at (owed s (part ++ rest)) i) (bit_at (bit_or (owed s part) (owed s rest)) i) (bit_at-lt (owed s (part ++ rest)) i)
+    (bit_at-lt (bit_or (owed s part) (owed s rest)) i) (bits i))
   where
     bits : (i : ℕ) → has_bit (owed s (part ++ rest)) i ≡ has_bit (bit_or (owed s part) (owed s rest)) i
     bits i =
@@ -114,5 +119,6 @@ owed_in_parts s part rest =
         ∙ ap (λ (b : Bool). b || is_owed rest (subscription_at s i)) (sym (owed_tells s part i))
         ∙ ap (λ (b : Bool). has_bit (owed s part) i || b) (sym (owed_tells s rest i)) in
         let right : has_bit (bit_or (owed s part) (owed s rest)) i ≡ (has_bit (owed s part) i || has_bit (owed s rest) i) =
-        ap (λ n. n == 1) (bit_at_or (owed s part) (owed s rest) i) ∙ or_bits (bit_at (owed s part) i) (bit_at (owed s rest) i) (bit_at-lt (owed s part) i) (bit_at-lt (owed s rest) i) in
+        ap (λ n. n == 1) (bit_at_or (owed s part) (owed s rest) i) ∙
+        or_bits (bit_at (owed s part) i) (bit_at (owed s rest) i) (bit_at-lt (owed s part) i) (bit_at-lt (owed s rest) i) in
         left ∙ sym right

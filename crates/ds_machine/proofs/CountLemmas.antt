@@ -1,5 +1,6 @@
 -- How many changes and floors are among items, before and after one more is held.
-use Rattle.std.proofs.Common.{◌≡◌, ℕ, ◌+◌, ◌≤◌, Bool, true, false, cond, not, List, [], ◌∷◌, ◌++◌, length, fold, filter, refl, ap, sym, ◌∙◌, inl, inr, arith, Contains}
+use Rattle.std.proofs.Common.{◌≡◌, ℕ, ◌+◌, ◌≤◌, Bool, true, false, cond, not, List, [], ◌∷◌, ◌++◌, length, fold, filter, refl, ap, sym, ◌∙◌}
+use Rattle.std.proofs.Common.{inl, inr, arith, Contains}
 use Rattle.std.specs.List.{list_any}
 use Rattle.std.specs.Ordering.{is_lt}
 use Rattle.ds_entry.specs.declared.item.Item.{Item}
@@ -41,7 +42,8 @@ module _ (w : Item → ℕ) where
   total_inserted i [] = refl
   total_inserted i (j ∷ js) = by_test (is_lt (item_cmp i j)) (total_inserted i js)
     where
-      by_test : (b : Bool) → total w (inserted i js) ≡ w i + total w js → total w (cond b (i ∷ j ∷ js) (j ∷ inserted i js)) ≡ w i + total w (j ∷ js)
+      by_test : (b : Bool) → total w (inserted i js) ≡ w i + total w js →
+          total w (cond b (i ∷ j ∷ js) (j ∷ inserted i js)) ≡ w i + total w (j ∷ js)
       by_test true e = refl
       by_test false e = omega (arith, e)
 
@@ -50,12 +52,14 @@ module _ (w : Item → ℕ) where
   total_filter p [] = omega arith
   total_filter p (i ∷ items) = by_test (p i) (total_filter p items)
     where
-      by_test : (b : Bool) → total w (filter p items) ≤ total w items → total w (cond b (i ∷ filter p items) (filter p items)) ≤ total w (i ∷ items)
+      by_test : (b : Bool) → total w (filter p items) ≤ total w items →
+          total w (cond b (i ∷ filter p items) (filter p items)) ≤ total w (i ∷ items)
       by_test true e = omega (arith, e)
       by_test false e = omega (arith, e)
 
   -- what isn't kept is missing
-  pub total_dropped : (p : Item → Bool) (items : List Item) (x : Item) → Contains items x → p x ≡ false → total w (filter p items) + w x ≤ total w items
+  pub total_dropped : (p : Item → Bool) (items : List Item) (x : Item) → Contains items x → p x ≡ false →
+      total w (filter p items) + w x ≤ total w items
   unfolding total
   total_dropped p [] x h e = absurd (Contains-nil x h)
   total_dropped p (i ∷ items) x h e = elim (Contains-cons i items x h) [
@@ -63,15 +67,18 @@ module _ (w : Item → ℕ) where
     | inr t ↦ there (p i) (total_dropped p items x t e)
   ]
     where
-      here : (b : Bool) → b ≡ false → w x ≡ w i → total w (filter p items) ≤ total w items → total w (cond b (i ∷ filter p items) (filter p items)) + w x ≤ total w (i ∷ items)
+      here : (b : Bool) → b ≡ false → w x ≡ w i → total w (filter p items) ≤ total w items →
+          total w (cond b (i ∷ filter p items) (filter p items)) + w x ≤ total w (i ∷ items)
       here true f g l = absurd (cc)
       here false f g l = omega (arith, g, l)
 
-      there : (b : Bool) → total w (filter p items) + w x ≤ total w items → total w (cond b (i ∷ filter p items) (filter p items)) + w x ≤ total w (i ∷ items)
+      there : (b : Bool) → total w (filter p items) + w x ≤ total w items →
+          total w (cond b (i ∷ filter p items) (filter p items)) + w x ≤ total w (i ∷ items)
       there true l = omega (arith, l)
       there false l = omega (arith, l)
 
-  pub most_after : (now : List Item) (i : Item) (most : ℕ) → total w now ≤ most → w i + total w (filter (λ j. not (covers i j)) now) ≤ most → total w (held_after now i) ≤ most
+  pub most_after : (now : List Item) (i : Item) (most : ℕ) → total w now ≤ most →
+      w i + total w (filter (λ j. not (covers i j)) now) ≤ most → total w (held_after now i) ≤ most
   most_after now i most l m = by_test (list_any (λ j. covers j i) now)
     where
       by_test : (b : Bool) → total w (cond b now (inserted i (filter (λ j. not (covers i j)) now))) ≤ most

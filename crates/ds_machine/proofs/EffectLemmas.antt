@@ -1,5 +1,6 @@
 -- What one step does to its state, and what a run of them does.
-use Rattle.std.proofs.Common.{◌≡◌, ℕ, zero, suc, ◌+◌, ◌<◌, Bool, true, false, List, [], ◌∷◌, ◌++◌, length, take, Option, Some, None, refl, ap, sym, ◌∙◌, subst, inl, inr, ◌⊎◌, arith, Contains, eq-eqb, append-nil, nat_le, cond}
+use Rattle.std.proofs.Common.{◌≡◌, ℕ, zero, suc, ◌+◌, ◌<◌, Bool, true, false, List, [], ◌∷◌, ◌++◌, length, take, Option, Some, None, refl}
+use Rattle.std.proofs.Common.{ap, sym, ◌∙◌, subst, inl, inr, ◌⊎◌, arith, Contains, eq-eqb, append-nil, nat_le, cond}
 use Rattle.std.proofs.lemmas.Bool.{leb-false}
 use Rattle.std.proofs.lemmas.List.Elements.{Contains-push, Contains-append_cases}
 use Rattle.std.specs.Option.{option_map_or}
@@ -25,13 +26,15 @@ use Rattle.ds_machine.specs.Merging.{Course, begun, course, merging}
 use Rattle.ds_machine.specs.Watching.{subscribing, subscribe_case, owed_at_first, shown_at_first, shows, check_case, checking, checking_at}
 use Rattle.ds_machine.specs.Machine.{Step, MergeWantsRoom, IsOutcome, outcome, asking, answer_for, sweeping, sweep_answer}
 use Rattle.ds_machine.specs.Reached.{IsReached}
-use Rattle.ds_machine.specs.Effect.{IsNews, Grows, Serves, Effect, known_after, learnt_by, brought_by, raised_by, StepHasEffect, SweepLearnsEffect}
+use Rattle.ds_machine.specs.Effect.{IsNews, Grows, Serves, Effect, known_after, learnt_by, brought_by, raised_by, StepHasEffect}
+use Rattle.ds_machine.specs.Effect.{SweepLearnsEffect}
 use Rattle.ds_machine.specs.declared.refusal.Cause.{Cause}
 use Rattle.ds_machine.specs.declared.refusal.Cause.TheVariants as causes
 use Rattle.ds_machine.specs.declared.refusal.Refusal.{Refusal}
 use Rattle.ds_machine.specs.declared.refusal.Refusal.TheVariants as refusals
 use Rattle.ds_machine.specs.declared.command.Command.{Command}
-use Rattle.ds_machine.specs.declared.command.Command.TheVariants.{Publish, Delete, Sweep, Retrieve, NameOf, Subscribe, Check, Since, Snapshot, Page, Merge}
+use Rattle.ds_machine.specs.declared.command.Command.TheVariants.{Publish, Delete, Sweep, Retrieve, NameOf, Subscribe, Check, Since}
+use Rattle.ds_machine.specs.declared.command.Command.TheVariants.{Snapshot, Page, Merge}
 use Rattle.ds_machine.specs.declared.reply.Reply.{Reply}
 use Rattle.ds_machine.specs.declared.reply.Reply.TheVariants.{Changed as Accepted, Known, Swept, Subscribed, Merged, MergeStopped, Refused}
 use Rattle.ds_machine.proofs.PartLemmas.{missing, take_whole}
@@ -50,21 +53,31 @@ learns_none s t e = record { grows = grows_none s t [] e; holds = covers_nothing
 
 -- it is held already
 learns_known : (s t : State) (i : Item) → t ≡ s → IsCoveredIn (held s) i → Learns s (i ∷ []) t
-learns_known s t i e over = record { grows = grows_none s t (i ∷ []) e; holds = subst (λ (x : State). CoversAll (held x) (i ∷ [])) (sym e) (covers_first i [] (held s) over (covers_nothing (held s))) }
+learns_known s t i e over =
+    record {
+      grows = grows_none s t (i ∷ []) e;
+      holds =
+          subst (λ (x : State). CoversAll (held x) (i ∷ [])) (sym e) (covers_first i [] (held s) over (covers_nothing (held s)));
+    }
 
 -- it took effect
 learns_news : (s t : State) (i : Item) → IsReached s → IsNews s.feed.accepted i → t ≡ takes_effect s (i ∷ []) → Learns s (i ∷ []) t
 learns_news s t i r n e =
     let grows : Grows s (i ∷ []) t = grows_one s t i (i ∷ []) n (Contains-head i []) (grows_none (takes_effect s (i ∷ [])) t (i ∷ []) e) in
     let here : Contains t.feed.accepted i = subst (λ (x : State). Contains x.feed.accepted i) (sym e) (Contains-push s.feed.accepted i) in
-    record { grows = grows; holds = covers_first i [] (held t) (covered_accepted t (reached_grown s t (i ∷ []) r grows) i here) (covers_nothing (held t)) }
+    record {
+      grows = grows;
+      holds = covers_first i [] (held t) (covered_accepted t (reached_grown s t (i ∷ []) r grows) i here)
+          (covers_nothing (held t));
+    }
 
 -- ---- a Publish, a Delete and a Sweep
 effect_of_none : (s : State) → takes_effect s [] ≡ s
 effect_of_none s = ap (λ (l : List Item). record s { feed = record s.feed { accepted = l } }) (append-nil s.feed.accepted)
 
 module _ (s t : State) (r : IsReached s) (reply : Reply) where
-  asked_learns : (a : AskedChange) (body : Body) → reply ≡ (asking s a body).0 → t ≡ (asking s a body).1 → Learns s (known_after reply (Changed (asked_in s a body) ∷ [])) t
+  asked_learns : (a : AskedChange) (body : Body) → reply ≡ (asking s a body).0 → t ≡ (asking s a body).1 →
+      Learns s (known_after reply (Changed (asked_in s a body) ∷ [])) t
   asked_learns a body e f = by_cause (cause_against s a body) refl e f
     where
       i : Item
@@ -76,16 +89,20 @@ module _ (s t : State) (r : IsReached s) (reply : Reply) where
       told : (other : Reply) → reply ≡ other → Learns s (known_after other (i ∷ [])) t → Learns s (known_after reply (i ∷ [])) t
       told other q l = subst (λ (x : Reply). Learns s (known_after x (i ∷ [])) t) (sym q) l
 
-      by_cause : (o : Option Cause) → cause_against s a body ≡ o → reply ≡ (out o).0 → t ≡ (out o).1 → Learns s (known_after reply (i ∷ [])) t
-      by_cause (Some causes.Known) q g h = told Known g (learns_known s t i h (asked_covered s (name_of (held s) a.caller) a body causes.Known q (inl refl)))
+      by_cause : (o : Option Cause) → cause_against s a body ≡ o → reply ≡ (out o).0 → t ≡ (out o).1 →
+          Learns s (known_after reply (i ∷ [])) t
+      by_cause (Some causes.Known) q g h = told Known g
+          (learns_known s t i h (asked_covered s (name_of (held s) a.caller) a body causes.Known q (inl refl)))
       by_cause (Some (causes.Refused refusal)) q g h = told (Refused refusal) g (learns_none s t h)
       by_cause None q g h =
           let free = asked_free (standing_of s (asked_in s a body)) (name_of (held s) a.caller) a body q in
-          let n = news_change s.feed.accepted r.owners (asked_in s a body) free.valid (length (changes_in (held s))) s.limits.keys free.room in
+          let n = news_change s.feed.accepted r.owners (asked_in s a body) free.valid (length (changes_in (held s))) s.limits.keys
+          free.room in
           told (Accepted (owed s (i ∷ []))) g (learns_news s t i r n h)
 
   -- the floor takes effect, or as high a one is held
-  swept_by : (caller : EndpointRecord) (f : Floor) → reply ≡ (sweeping s caller f).0 → t ≡ (sweeping s caller f).1 → Learns s (known_after reply (raised_by s f)) t × (t ≡ takes_effect s (known_after reply (raised_by s f)))
+  swept_by : (caller : EndpointRecord) (f : Floor) → reply ≡ (sweeping s caller f).0 → t ≡ (sweeping s caller f).1 →
+      Learns s (known_after reply (raised_by s f)) t × (t ≡ takes_effect s (known_after reply (raised_by s f)))
   swept_by caller f e g = by_cause (sweep_cause s caller f) refl e g
     where
       i : Item
@@ -95,20 +112,25 @@ module _ (s t : State) (r : IsReached s) (reply : Reply) where
       LearnsEffect items = Learns s items t × (t ≡ takes_effect s items)
 
       out : Option Cause → Reply × State
-      out o = option_map_or {U = Reply × State} (λ cause. (sweep_answer cause, s)) o (Swept (length (puts_void_by f (changes_in (held s)))) (owed s (i ∷ [])), takes_effect s (i ∷ []))
+      out o = option_map_or {U = Reply × State} (λ cause. (sweep_answer cause, s)) o
+          (Swept (length (puts_void_by f (changes_in (held s)))) (owed s (i ∷ [])), takes_effect s (i ∷ []))
 
-      told : (other : Reply) → reply ≡ other → LearnsEffect (known_after other (raised_by s f)) → LearnsEffect (known_after reply (raised_by s f))
+      told : (other : Reply) → reply ≡ other → LearnsEffect (known_after other (raised_by s f)) →
+          LearnsEffect (known_after reply (raised_by s f))
       told other q l = subst (λ (x : Reply). LearnsEffect (known_after x (raised_by s f))) (sym q) l
 
-      raises : (b : Bool) → on_floor (floor_at (held s) f.owner) (nat_le f.generation) ≡ b → LearnsEffect (cond b [] (i ∷ [])) → LearnsEffect (raised_by s f)
+      raises : (b : Bool) → on_floor (floor_at (held s) f.owner) (nat_le f.generation) ≡ b → LearnsEffect (cond b [] (i ∷ [])) →
+          LearnsEffect (raised_by s f)
       raises b q l = subst (λ (x : Bool). LearnsEffect (cond x [] (i ∷ []))) (sym q) l
 
       nothing : t ≡ s → LearnsEffect []
       nothing h = (learns_none s t h, h ∙ sym (effect_of_none s))
 
-      by_cause : (o : Option Cause) → sweep_cause s caller f ≡ o → reply ≡ (out o).0 → t ≡ (out o).1 → LearnsEffect (known_after reply (raised_by s f))
+      by_cause : (o : Option Cause) → sweep_cause s caller f ≡ o → reply ≡ (out o).0 → t ≡ (out o).1 →
+          LearnsEffect (known_after reply (raised_by s f))
       by_cause (Some causes.Known) q g h = told (Swept 0 0) g (raises true (sweep_as_high s f caller causes.Known q (inl refl)) (nothing h))
-      by_cause (Some (causes.Refused refusals.Stale)) q g h = told (Swept 0 0) g (raises true (sweep_as_high s f caller (causes.Refused refusals.Stale) q (inr refl)) (nothing h))
+      by_cause (Some (causes.Refused refusals.Stale)) q g h =
+          told (Swept 0 0) g (raises true (sweep_as_high s f caller (causes.Refused refusals.Stale) q (inr refl)) (nothing h))
       by_cause (Some (causes.Refused refusal)) q g h = told (Refused refusal) g (nothing h)
       by_cause None q g h =
           let room = (sweep_is_free (floor_standing_of s f) caller f q).room in
@@ -121,7 +143,8 @@ pub begun_went : (s : State) (items : List Item) → IsReached s → Went (begun
 begun_went s items r = went items (begun s) r refl
 
 -- what a merge has done, it has learnt
-course_learns : (s : State) (items : List Item) (n : ℕ) → IsReached s → (course s items).done ≡ n → Learns s (take n items) (course s items).state
+course_learns : (s : State) (items : List Item) (n : ℕ) → IsReached s → (course s items).done ≡ n →
+    Learns s (take n items) (course s items).state
 course_learns s items n r e =
     let w = begun_went s items r in
     let same : w.count ≡ n = omega (arith, w.done, e) in
@@ -136,7 +159,8 @@ all_learnt s items r e =
     let all : (course s items).done ≡ length items = omega (arith, w.done, w.whole e) in
     subst (λ l. Learns s l (course s items).state) (take_whole items) (course_learns s items (length items) r all)
 
-merged_learns : (s t : State) (items : List Item) (reply : Reply) (o : Option Refusal) → IsReached s → reply ≡ (merging s items o).0 → t ≡ (merging s items o).1 → Learns s (known_after reply items) t
+merged_learns : (s t : State) (items : List Item) (reply : Reply) (o : Option Refusal) → IsReached s → reply ≡ (merging s items o).0 →
+    t ≡ (merging s items o).1 → Learns s (known_after reply items) t
 merged_learns s t items reply (Some refusal) r e f = subst (λ (x : Reply). Learns s (known_after x items) t) (sym e) (learns_none s t f)
 merged_learns s t items reply None r e f = by_stop (course s items).stop refl e
   where
@@ -144,21 +168,27 @@ merged_learns s t items reply None r e f = by_stop (course s items).stop refl e
     k = course s items
 
     told : (other : Reply) → reply ≡ other → Learns s (known_after other items) k.state → Learns s (known_after reply items) t
-    told other q l = subst (λ (x : Reply). Learns s (known_after x items) t) (sym q) (subst (λ (x : State). Learns s (known_after other items) x) (sym f) l)
+    told other q l = subst (λ (x : Reply). Learns s (known_after x items) t) (sym q)
+        (subst (λ (x : State). Learns s (known_after other items) x) (sym f) l)
 
-    by_stop : (o : Option Refusal) → k.stop ≡ o → reply ≡ option_map_or {U = Reply} (λ fault. MergeStopped k.done fault (owed s k.taken)) o (Merged k.done (length k.taken) k.stale (owed s k.taken)) → Learns s (known_after reply items) t
+    by_stop : (o : Option Refusal) → k.stop ≡ o →
+        reply ≡ option_map_or {U = Reply} (λ fault. MergeStopped k.done fault (owed s k.taken)) o
+        (Merged k.done (length k.taken) k.stale (owed s k.taken)) → Learns s (known_after reply items) t
     by_stop (Some fault) q g = told (MergeStopped k.done fault (owed s k.taken)) g (course_learns s items k.done r refl)
     by_stop None q g = told (Merged k.done (length k.taken) k.stale (owed s k.taken)) g (all_learnt s items r q)
 
-wanting_learns : (s t : State) (items : List Item) (reply : Reply) → IsReached s → MergeWantsRoom s (Merge items) reply t → Learns s (known_after reply items) t
+wanting_learns : (s t : State) (items : List Item) (reply : Reply) → IsReached s → MergeWantsRoom s (Merge items) reply t →
+    Learns s (known_after reply items) t
 wanting_learns s t items reply r w =
     let l = all_learnt s (take w.0 items) r w.1.not_refused in
-    subst (λ (x : Reply). Learns s (known_after x items) t) (sym w.1.reply_is) (subst (λ (x : State). Learns s (take w.0 items) x) (sym w.1.state_is) l)
+    subst (λ (x : Reply). Learns s (known_after x items) t) (sym w.1.reply_is)
+    (subst (λ (x : State). Learns s (take w.0 items) x) (sym w.1.state_is) l)
 
 -- ---- a Subscribe and a Check
 
 module _ (s t : State) (r : IsReached s) where
-  subscribe_effect : (sub : ℕ) (query : Query) (initial overwrite : Bool) (learnt : List Item) → t ≡ (subscribing s sub query initial overwrite).1 → Grows s learnt t ⊎ Serves s (Subscribe sub query initial overwrite) t
+  subscribe_effect : (sub : ℕ) (query : Query) (initial overwrite : Bool) (learnt : List Item) →
+      t ≡ (subscribing s sub query initial overwrite).1 → Grows s learnt t ⊎ Serves s (Subscribe sub query initial overwrite) t
   subscribe_effect sub query initial overwrite learnt e = by_cause (first_refusal (against_subscribe x)) refl e
     where
       x : SubscribeCase
@@ -169,14 +199,16 @@ module _ (s t : State) (r : IsReached s) where
       part false = (held_is_top s r).among
 
       by_cause : (o : Option Refusal) → first_refusal (against_subscribe x) ≡ o
-          → t ≡ (option_map_or {U = Reply × State} (λ refusal. (Refused refusal, s)) o (Subscribed (s.stamp + 1) (owed_at_first (held s) sub query initial), subscribes s sub query (shown_at_first (held s) initial))).1
+          → t ≡ (option_map_or {U = Reply × State} (λ refusal. (Refused refusal, s)) o
+          (Subscribed (s.stamp + 1) (owed_at_first (held s) sub query initial), subscribes s sub query (shown_at_first (held s) initial))).1
           → Grows s learnt t ⊎ Serves s (Subscribe sub query initial overwrite) t
       by_cause (Some refusal) q f = inl (grows_none s t learnt f)
       by_cause None q f = inr (record {
         sub = sub;
         query = query;
         shown = shown_at_first (held s) initial;
-        place = leb-false s.limits.subs sub (missing (against_subscribe x) (by_command ++ by_room) refusals.BadSub q (0, omega arith, refl));
+        place = leb-false s.limits.subs sub (missing (against_subscribe x) (by_command ++ by_room) refusals.BadSub q
+            (0, omega arith, refl));
         used = eq-eqb sub sub refl;
         part = part initial;
         state_is = f;
@@ -185,7 +217,8 @@ module _ (s t : State) (r : IsReached s) where
   check_effect : (sub max : ℕ) (learnt : List Item) → t ≡ (checking s sub max).1 → Grows s learnt t ⊎ Serves s (Check sub max) t
   check_effect sub max learnt e = by_seer (subscription_at s sub) refl e
     where
-      by_items : (seer : Subscription) → subscription_at s sub ≡ Some seer → sub < s.limits.subs → (items : List Item) → IsPartOf items (held s) → t ≡ (shows s sub seer items).1 → Grows s learnt t ⊎ Serves s (Check sub max) t
+      by_items : (seer : Subscription) → subscription_at s sub ≡ Some seer → sub < s.limits.subs → (items : List Item) →
+          IsPartOf items (held s) → t ≡ (shows s sub seer items).1 → Grows s learnt t ⊎ Serves s (Check sub max) t
       by_items seer here place [] part f = inl (grows_none s t learnt f)
       by_items seer here place (i ∷ items) part f = inr (record {
         sub = sub;
@@ -200,16 +233,21 @@ module _ (s t : State) (r : IsReached s) where
         state_is = f;
       })
 
-      by_cause : (o : Option Subscription) → subscription_at s sub ≡ o → (p : Option Refusal) → first_refusal (against_check (check_case s sub max o)) ≡ p
+      by_cause : (o : Option Subscription) → subscription_at s sub ≡ o → (p : Option Refusal) →
+          first_refusal (against_check (check_case s sub max o)) ≡ p
           → t ≡ (option_map_or {U = Reply × State} (λ refusal. (Refused refusal, s)) p
-          (option_map_or {U = Reply × State} (λ f. shows s sub f (take max (unseen s f))) o (Refused refusals.NotFound, s))).1 → Grows s learnt t ⊎ Serves s (Check sub max) t
+          (option_map_or {U = Reply × State} (λ f. shows s sub f (take max (unseen s f))) o (Refused refusals.NotFound, s))).1 →
+          Grows s learnt t ⊎ Serves s (Check sub max) t
       by_cause o here (Some refusal) q f = inl (grows_none s t learnt f)
       by_cause None here None q f = inl (grows_none s t learnt f)
       by_cause (Some seer) here None q f =
-          by_items seer here (leb-false s.limits.subs sub (missing (against_check (check_case s sub max (Some seer))) (by_command ++ by_room) refusals.BadSub q (0, omega arith, refl)))
-          (take max (unseen s seer)) (λ c h. (Contains-from_filter (is_unseen seer.query seer.shown) (held s) c (Contains-from_take max (unseen s seer) c h)).0) f
+          by_items seer here (leb-false s.limits.subs sub
+          (missing (against_check (check_case s sub max (Some seer))) (by_command ++ by_room) refusals.BadSub q (0, omega arith, refl)))
+          (take max (unseen s seer)) (λ c h. (Contains-from_filter (is_unseen seer.query seer.shown) (held s) c
+          (Contains-from_take max (unseen s seer) c h)).0) f
 
-      by_seer : (o : Option Subscription) → subscription_at s sub ≡ o → t ≡ (checking_at s sub max o).1 → Grows s learnt t ⊎ Serves s (Check sub max) t
+      by_seer : (o : Option Subscription) → subscription_at s sub ≡ o → t ≡ (checking_at s sub max o).1 →
+          Grows s learnt t ⊎ Serves s (Check sub max) t
       by_seer o here f = by_cause o here (first_refusal (against_check (check_case s sub max o))) refl f
 
 -- ---- all commands
@@ -234,24 +272,41 @@ module _ (s t : State) (r : IsReached s) where
   by_learning command reply l = record { effect = inl l.grows; holds = l.holds }
 
   by_reading : (command : Command) (reply : Reply) → brought_by s command ≡ [] → t ≡ s → Does s command reply t
-  by_reading command reply e f = record { effect = inl (grows_none s t (learnt_by s command reply) f); holds = subst (λ l. CoversAll (held t) (known_after reply l)) (sym e) (known_nothing (held t) reply) }
+  by_reading command reply e f =
+      record {
+        effect = inl (grows_none s t (learnt_by s command reply) f);
+        holds =
+            subst (λ l. CoversAll (held t) (known_after reply l)) (sym e) (known_nothing (held t) reply);
+      }
 
-  unread : {X : Type 0} (o : Option X) (f : X → Reply) (reply : Reply) → t ≡ (option_map_or {U = Reply × State} (λ x. (f x, s)) o (reply, s)).1 → t ≡ s
+  unread : {X : Type 0} (o : Option X) (f : X → Reply) (reply : Reply) →
+      t ≡ (option_map_or {U = Reply × State} (λ x. (f x, s)) o (reply, s)).1 → t ≡ s
   unread (Some x) f reply e = e
   unread None f reply e = e
 
   by_outcome : (command : Command) (reply : Reply) → IsOutcome (outcome s command) reply t → Does s command reply t
-  by_outcome (Publish caller key version value overwrite) reply is = by_learning (Publish caller key version value overwrite) reply (asked_learns s t r reply (published caller key version overwrite) (Put value) is.reply_is is.state_is)
-  by_outcome (Delete caller key version) reply is = by_learning (Delete caller key version) reply (asked_learns s t r reply (deleted caller key version) Gone is.reply_is is.state_is)
-  by_outcome (Sweep caller owner generation) reply is = by_learning (Sweep caller owner generation) reply (swept_by s t r reply caller (floor_of owner generation) is.reply_is is.state_is).0
+  by_outcome (Publish caller key version value overwrite) reply is =
+      by_learning (Publish caller key version value overwrite) reply
+      (asked_learns s t r reply (published caller key version overwrite) (Put value) is.reply_is is.state_is)
+  by_outcome (Delete caller key version) reply is =
+      by_learning (Delete caller key version) reply (asked_learns s t r reply (deleted caller key version) Gone is.reply_is is.state_is)
+  by_outcome (Sweep caller owner generation) reply is =
+      by_learning (Sweep caller owner generation) reply (swept_by s t r reply caller (floor_of owner generation) is.reply_is is.state_is).0
   by_outcome (Retrieve key) reply is = by_reading (Retrieve key) reply refl is.state_is
   by_outcome (NameOf endpoint) reply is = by_reading (NameOf endpoint) reply refl is.state_is
-  by_outcome (Subscribe sub query initial overwrite) reply is = record { effect = subscribe_effect s t r sub query initial overwrite (known_after reply []) is.state_is; holds = known_nothing (held t) reply }
-  by_outcome (Check sub max) reply is = record { effect = check_effect s t r sub max (known_after reply []) is.state_is; holds = known_nothing (held t) reply }
+  by_outcome (Subscribe sub query initial overwrite) reply is =
+      record {
+        effect = subscribe_effect s t r sub query initial overwrite (known_after reply []) is.state_is;
+        holds =
+            known_nothing (held t) reply;
+      }
+  by_outcome (Check sub max) reply is = record
+      { effect = check_effect s t r sub max (known_after reply []) is.state_is; holds = known_nothing (held t) reply }
   by_outcome (Since scope at max) reply is = by_reading (Since scope at max) reply refl (unread _ _ _ is.state_is)
   by_outcome (Snapshot scope) reply is = by_reading (Snapshot scope) reply refl (unread _ _ _ is.state_is)
   by_outcome (Page scope after max) reply is = by_reading (Page scope after max) reply refl (unread _ _ _ is.state_is)
-  by_outcome (Merge items) reply is = by_learning (Merge items) reply (merged_learns s t items reply (first_refusal (against_merge (length items))) r is.reply_is is.state_is)
+  by_outcome (Merge items) reply is = by_learning (Merge items) reply
+      (merged_learns s t items reply (first_refusal (against_merge (length items))) r is.reply_is is.state_is)
 
   -- a refused command teaches nothing
   by_refusal : (command : Command) (refusal : Refusal) → t ≡ s → Does s command (Refused refusal) t
@@ -272,14 +327,17 @@ module _ (s t : State) (r : IsReached s) where
 
 pub does : (s t : State) (command : Command) (reply : Reply) → IsReached s → Step s command reply t → Does s command reply t
 does s t command reply r (inl (inl is)) = by_outcome s t r command reply is
-does s t command reply r (inl (inr wants)) = subst (λ (x : Reply). Does s command x t) (sym wants.reply_is) (by_refusal s t r command refusals.NoRoom wants.state_is)
+does s t command reply r (inl (inr wants)) =
+    subst (λ (x : Reply). Does s command x t) (sym wants.reply_is) (by_refusal s t r command refusals.NoRoom wants.state_is)
 does s t command reply r (inr wants) = wanting s t r command reply wants
 
 pub step_has_effect : StepHasEffect
 step_has_effect s t command reply r step = (does s t command reply r step).effect
 
 pub sweep_learns_effect : SweepLearnsEffect
-sweep_learns_effect s t caller owner generation reply r (inl (inl is)) = (swept_by s t r reply caller (floor_of owner generation) is.reply_is is.state_is).1
+sweep_learns_effect s t caller owner generation reply r (inl (inl is)) =
+    (swept_by s t r reply caller (floor_of owner generation) is.reply_is is.state_is).1
 sweep_learns_effect s t caller owner generation reply r (inl (inr wants)) =
-    subst (λ (x : Reply). t ≡ takes_effect s (learnt_by s (Sweep caller owner generation) x)) (sym wants.reply_is) (wants.state_is ∙ sym (effect_of_none s))
+    subst (λ (x : Reply). t ≡ takes_effect s (learnt_by s (Sweep caller owner generation) x)) (sym wants.reply_is)
+    (wants.state_is ∙ sym (effect_of_none s))
 sweep_learns_effect s t caller owner generation reply r (inr wants) = absurd wants

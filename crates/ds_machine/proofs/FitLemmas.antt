@@ -13,19 +13,22 @@ use Rattle.ds_machine.specs.Calling.{against_check, against_merge, against_subsc
 use Rattle.ds_machine.specs.Merging.{course, merging}
 use Rattle.ds_machine.specs.Watching.{shows, check_case, checking_at, subscribe_case}
 use Rattle.ds_machine.specs.Machine.{MergeWantsRoom, outcome, answer_for, sweep_answer, found_or, live_at}
-use Rattle.ds_machine.specs.Says.{IsReplyTo, RepliesFit, IsAskedReply, IsSweepReply, IsRetrieveReply, IsNameReply, IsCheckReply, IsMergeReply}
+use Rattle.ds_machine.specs.Says.{IsReplyTo, RepliesFit, IsAskedReply, IsSweepReply, IsRetrieveReply, IsNameReply, IsCheckReply}
+use Rattle.ds_machine.specs.Says.{IsMergeReply}
 use Rattle.ds_machine.specs.declared.refusal.Cause.{Cause}
 use Rattle.ds_machine.specs.declared.refusal.Cause.TheVariants as causes
 use Rattle.ds_machine.specs.declared.refusal.Refusal.{Refusal}
 use Rattle.ds_machine.specs.declared.refusal.Refusal.TheVariants as refusals
 use Rattle.ds_machine.specs.declared.command.Command.{Command}
-use Rattle.ds_machine.specs.declared.command.Command.TheVariants.{Publish, Delete, Sweep, Retrieve, NameOf, Subscribe, Check, Since, Snapshot, Page, Merge}
+use Rattle.ds_machine.specs.declared.command.Command.TheVariants.{Publish, Delete, Sweep, Retrieve, NameOf, Subscribe, Check, Since}
+use Rattle.ds_machine.specs.declared.command.Command.TheVariants.{Snapshot, Page, Merge}
 use Rattle.ds_machine.specs.declared.reply.Reply.{Reply}
 use Rattle.ds_machine.specs.declared.reply.Reply.TheVariants.{Found, Named, Merged, MergeStopped, Refused}
 
 module _ (s : State) where
   -- a reply of its own, or the answer to what applies to it
-  fits_or : (P : Reply → Type 0) {X : Type 0} (o : Option X) (f : X → Reply) (reply : Reply) (new : State) → ((x : X) → P (f x)) → P reply → P (option_map_or {U = Reply × State} (λ x. (f x, s)) o (reply, new)).0
+  fits_or : (P : Reply → Type 0) {X : Type 0} (o : Option X) (f : X → Reply) (reply : Reply) (new : State) → ((x : X) → P (f x)) →
+      P reply → P (option_map_or {U = Reply × State} (λ x. (f x, s)) o (reply, new)).0
   fits_or P (Some x) f reply new each own = each x
   fits_or P None f reply new each own = own
 
@@ -71,16 +74,23 @@ module _ (s : State) where
       by_stop None = tt
 
   fits_outcome : (command : Command) → IsReplyTo command (outcome s command).0
-  fits_outcome (Publish caller key version value overwrite) = fits_or IsAskedReply (cause_against s (published caller key version overwrite) (Put value)) answer_for _ _ asked_fits tt
-  fits_outcome (Delete caller key version) = fits_or IsAskedReply (cause_against s (deleted caller key version) Gone) answer_for _ _ asked_fits tt
-  fits_outcome (Sweep caller owner generation) = fits_or IsSweepReply (sweep_cause s caller (floor_of owner generation)) sweep_answer _ _ sweep_fits tt
+  fits_outcome (Publish caller key version value overwrite) =
+      fits_or IsAskedReply (cause_against s (published caller key version overwrite) (Put value)) answer_for _ _ asked_fits tt
+  fits_outcome (Delete caller key version) =
+      fits_or IsAskedReply (cause_against s (deleted caller key version) Gone) answer_for _ _ asked_fits tt
+  fits_outcome (Sweep caller owner generation) =
+      fits_or IsSweepReply (sweep_cause s caller (floor_of owner generation)) sweep_answer _ _ sweep_fits tt
   fits_outcome (Retrieve key) = found_fits (live_at s key)
   fits_outcome (NameOf endpoint) = named_fits (name_of (held s) endpoint)
-  fits_outcome (Subscribe sub query initial overwrite) = fits_or (IsReplyTo (Subscribe sub query initial overwrite)) (first_refusal (against_subscribe (subscribe_case s sub query overwrite))) Refused _ _ (λ r. tt) tt
+  fits_outcome (Subscribe sub query initial overwrite) =
+      fits_or (IsReplyTo (Subscribe sub query initial overwrite))
+      (first_refusal (against_subscribe (subscribe_case s sub query overwrite))) Refused _ _ (λ r. tt) tt
   fits_outcome (Check sub max) = check_fits sub max (subscription_at s sub)
-  fits_outcome (Since scope at max) = fits_or (IsReplyTo (Since scope at max)) (first_refusal (against_since s.feed scope at max)) Refused _ _ (λ r. tt) tt
+  fits_outcome (Since scope at max) = fits_or (IsReplyTo (Since scope at max)) (first_refusal (against_since s.feed scope at max)) Refused
+      _ _ (λ r. tt) tt
   fits_outcome (Snapshot scope) = fits_or (IsReplyTo (Snapshot scope)) (first_refusal (against_scope scope)) Refused _ _ (λ r. tt) tt
-  fits_outcome (Page scope after max) = fits_or (IsReplyTo (Page scope after max)) (first_refusal (against_page scope max)) Refused _ _ (λ r. tt) tt
+  fits_outcome (Page scope after max) = fits_or (IsReplyTo (Page scope after max)) (first_refusal (against_page scope max)) Refused _ _
+      (λ r. tt) tt
   fits_outcome (Merge items) = merge_fits items (first_refusal (against_merge (length items)))
 
 fits_refused : (command : Command) (refusal : Refusal) → IsReplyTo command (Refused refusal)

@@ -1,5 +1,6 @@
 -- What a reply shows was accepted.
-use Rattle.std.proofs.Common.{◌≡◌, ℕ, zero, suc, ◌≤◌, ◌-◌, Bool, cond, List, [], ◌∷◌, length, take, filter, Option, Some, None, ap, sym, subst, inl, inr, arith, Contains}
+use Rattle.std.proofs.Common.{◌≡◌, ℕ, zero, suc, ◌≤◌, ◌-◌, Bool, cond, List, [], ◌∷◌, length, take, filter, Option, Some, None, ap, sym}
+use Rattle.std.proofs.Common.{subst, inl, inr, arith, Contains}
 use Rattle.std.specs.Option.{option_map, option_map_or}
 use Rattle.std.proofs.lemmas.List.Elements.{Contains-append_cases}
 use Rattle.ds_names.specs.declared.key.Key.{Key}
@@ -7,7 +8,8 @@ use Rattle.ds_entry.specs.declared.body.Value.{Value}
 use Rattle.ds_entry.specs.declared.body.Body.TheVariants.{Put, Gone}
 use Rattle.ds_entry.specs.declared.item.Item.{Item}
 use Rattle.ds_entry.specs.Floor.{floor_of}
-use Rattle.ds_entry.proofs.Members.{Contains-nil, Contains-head, Contains-tail, Contains-cons, Contains-from_filter, Contains-from_take, Contains-from_drop}
+use Rattle.ds_entry.proofs.Members.{Contains-nil, Contains-head, Contains-tail, Contains-cons, Contains-from_filter, Contains-from_take}
+use Rattle.ds_entry.proofs.Members.{Contains-from_drop}
 use Rattle.ds_join.specs.ItemTop.{IsPartOf}
 use Rattle.ds_feed.specs.declared.cursor.Cursor.{Cursor}
 use Rattle.ds_feed.specs.Feed.{Feed, from}
@@ -30,9 +32,11 @@ use Rattle.ds_machine.specs.declared.refusal.Cause.TheVariants as causes
 use Rattle.ds_machine.specs.declared.refusal.Refusal.{Refusal}
 use Rattle.ds_machine.specs.declared.refusal.Refusal.TheVariants as refusals
 use Rattle.ds_machine.specs.declared.command.Command.{Command}
-use Rattle.ds_machine.specs.declared.command.Command.TheVariants.{Publish, Delete, Sweep, Retrieve, NameOf, Subscribe, Check, Since, Snapshot, Page, Merge}
+use Rattle.ds_machine.specs.declared.command.Command.TheVariants.{Publish, Delete, Sweep, Retrieve, NameOf, Subscribe, Check, Since}
+use Rattle.ds_machine.specs.declared.command.Command.TheVariants.{Snapshot, Page, Merge}
 use Rattle.ds_machine.specs.declared.reply.Reply.{Reply}
-use Rattle.ds_machine.specs.declared.reply.Reply.TheVariants.{Changed, Known, Swept, Found, Named, Subscribed, Checked, Journaled, Snapped, Paged, Merged, MergeStopped, Refused}
+use Rattle.ds_machine.specs.declared.reply.Reply.TheVariants.{Changed, Known, Swept, Found, Named, Subscribed, Checked, Journaled, Snapped}
+use Rattle.ds_machine.specs.declared.reply.Reply.TheVariants.{Paged, Merged, MergeStopped, Refused}
 use Rattle.ds_machine.proofs.ReachedLemmas.{held_is_top}
 use Rattle.ds_machine.proofs.SaysLemmas.{merge_stopped_says}
 use Rattle.ds_machine.proofs.FitLemmas.{replies_fit}
@@ -65,7 +69,8 @@ module _ (s : State) (r : IsReached s) where
   of_held : (items : List Item) → IsPartOf items (held s) → IsPartOf items s.feed.accepted
   of_held items part i h = (held_is_top s r).among i (part i h)
 
-  gives_or : {X : Type 0} (o : Option X) (f : X → Reply) (reply : Reply) (new : State) → ((x : X) → Gives (f x)) → Gives reply → Gives (option_map_or {U = Reply × State} (λ x. (f x, s)) o (reply, new)).0
+  gives_or : {X : Type 0} (o : Option X) (f : X → Reply) (reply : Reply) (new : State) → ((x : X) → Gives (f x)) → Gives reply →
+      Gives (option_map_or {U = Reply × State} (λ x. (f x, s)) o (reply, new)).0
   gives_or (Some x) f reply new each own = each x
   gives_or None f reply new each own = own
 
@@ -98,12 +103,15 @@ module _ (s : State) (r : IsReached s) where
           (option_map_or {U = Reply × State} (λ f. shows s sub f (take max (unseen s f))) o (Refused refusals.NotFound, s))).0
       by_cause o (Some r) = nothing
       by_cause None None = nothing
-      by_cause (Some seer) None = by_items seer (take max (unseen s seer)) (of_held (take max (unseen s seer)) (λ i h. (Contains-from_filter (is_unseen seer.query seer.shown) (held s) i (Contains-from_take max (unseen s seer) i h)).0))
+      by_cause (Some seer) None = by_items seer (take max (unseen s seer))
+          (of_held (take max (unseen s seer)) (λ i h.
+          (Contains-from_filter (is_unseen seer.query seer.shown) (held s) i (Contains-from_take max (unseen s seer) i h)).0))
 
   page_gives : (test : Item → Bool) (after : Option Key) (max : ℕ) → IsPartOf (page_of test after max (held s) (cursor s)).items (held s)
   page_gives test after max i h =
       let come : List Item = still_to_come test after (held s) in
-      let still : IsPartOf come (held s) = λ j k. (Contains-from_filter test (held s) j (Contains-from_filter (is_after_key after) (filter test (held s)) j k).0).0 in
+      let still : IsPartOf come (held s) = λ j k.
+      (Contains-from_filter test (held s) j (Contains-from_filter (is_after_key after) (filter test (held s)) j k).0).0 in
       elim (Contains-append_cases (floors_of come) (take max (changes_of come)) i h) [
         | inl k ↦ still i (Contains-from_filter is_floor come i k).0
         | inr k ↦ still i (Contains-from_filter _ come i (Contains-from_take max (changes_of come) i k)).0
@@ -113,22 +121,30 @@ module _ (s : State) (r : IsReached s) where
   merge_gives items (Some r) = nothing
   merge_gives items None = by_stop (course s items).stop
     where
-      by_stop : (o : Option Refusal) → Gives (option_map_or {U = Reply} (λ fault. MergeStopped (course s items).done fault (owed s (course s items).taken)) o
+      by_stop : (o : Option Refusal) → Gives (option_map_or {U = Reply}
+          (λ fault. MergeStopped (course s items).done fault (owed s (course s items).taken)) o
           (Merged (course s items).done (length (course s items).taken) (course s items).stale (owed s (course s items).taken)))
       by_stop (Some fault) = nothing
       by_stop None = nothing
 
   outcome_gives : (command : Command) → Gives (outcome s command).0
-  outcome_gives (Publish caller key version value overwrite) = gives_or (cause_against s (published caller key version overwrite) (Put value)) answer_for _ _ asked_gives nothing
-  outcome_gives (Delete caller key version) = gives_or (cause_against s (deleted caller key version) Gone) answer_for _ _ asked_gives nothing
-  outcome_gives (Sweep caller owner generation) = gives_or (sweep_cause s caller (floor_of owner generation)) sweep_answer _ _ sweep_gives nothing
+  outcome_gives (Publish caller key version value overwrite) =
+      gives_or (cause_against s (published caller key version overwrite) (Put value)) answer_for _ _ asked_gives nothing
+  outcome_gives (Delete caller key version) =
+      gives_or (cause_against s (deleted caller key version) Gone) answer_for _ _ asked_gives nothing
+  outcome_gives (Sweep caller owner generation) =
+      gives_or (sweep_cause s caller (floor_of owner generation)) sweep_answer _ _ sweep_gives nothing
   outcome_gives (Retrieve key) = found_gives (live_at s key)
   outcome_gives (NameOf endpoint) = named_gives (name_of (held s) endpoint)
-  outcome_gives (Subscribe sub query initial overwrite) = gives_or (first_refusal (against_subscribe (subscribe_case s sub query overwrite))) Refused _ _ (λ x. nothing) nothing
+  outcome_gives (Subscribe sub query initial overwrite) =
+      gives_or (first_refusal (against_subscribe (subscribe_case s sub query overwrite))) Refused _ _ (λ x. nothing) nothing
   outcome_gives (Check sub max) = check_gives sub max (subscription_at s sub)
-  outcome_gives (Since scope at max) = gives_or (first_refusal (against_since s.feed scope at max)) Refused _ _ (λ x. nothing) (since_part s.feed (is_kept scope) at max)
-  outcome_gives (Snapshot scope) = gives_or (first_refusal (against_scope scope)) Refused _ _ (λ x. nothing) (of_held _ (λ i h. (Contains-from_filter (is_kept scope) (held s) i h).0))
-  outcome_gives (Page scope after max) = gives_or (first_refusal (against_page scope max)) Refused _ _ (λ x. nothing) (of_held _ (page_gives (is_kept scope) after max))
+  outcome_gives (Since scope at max) = gives_or (first_refusal (against_since s.feed scope at max)) Refused _ _ (λ x. nothing)
+      (since_part s.feed (is_kept scope) at max)
+  outcome_gives (Snapshot scope) = gives_or (first_refusal (against_scope scope)) Refused _ _ (λ x. nothing)
+      (of_held _ (λ i h. (Contains-from_filter (is_kept scope) (held s) i h).0))
+  outcome_gives (Page scope after max) = gives_or (first_refusal (against_page scope max)) Refused _ _ (λ x. nothing)
+      (of_held _ (page_gives (is_kept scope) after max))
   outcome_gives (Merge items) = merge_gives items (first_refusal (against_merge (length items)))
 
 gives_nothing : (s t : State) (command : Command) (reply : Reply) → MergeWantsRoom s command reply t → shown_by reply ≡ []
@@ -148,14 +164,17 @@ part_of_none : (items whole : List Item) → items ≡ [] → IsPartOf items who
 part_of_none items whole e i h = absurd (Contains-nil i (subst (λ (l : List Item). Contains l i) e h))
 
 pub given_was_accepted : GivenWasAccepted
-given_was_accepted s t command reply r (inl (inl is)) = subst (λ (x : Reply). IsPartOf (shown_by x) s.feed.accepted) (sym is.reply_is) (outcome_gives s r command)
+given_was_accepted s t command reply r (inl (inl is)) =
+    subst (λ (x : Reply). IsPartOf (shown_by x) s.feed.accepted) (sym is.reply_is) (outcome_gives s r command)
 given_was_accepted s t command reply r (inl (inr w)) = part_of_none (shown_by reply) s.feed.accepted (ap shown_by w.reply_is)
 given_was_accepted s t command reply r (inr w) = part_of_none (shown_by reply) s.feed.accepted (gives_nothing s t command reply w)
 
 -- ---- what is done
 
-stopped_few : (s t : State) (command : Command) (done : ℕ) (fault : Refusal) (mask : ℕ) → IsReached s → IsSmall command → Step s command (MergeStopped done fault mask) t → IsReplyTo command (MergeStopped done fault mask) → done ≤ most_items
-stopped_few s t (Merge items) done fault mask r small step fits = omega (arith, small, (merge_stopped_says s t items done fault mask r step).some_left)
+stopped_few : (s t : State) (command : Command) (done : ℕ) (fault : Refusal) (mask : ℕ) → IsReached s → IsSmall command →
+    Step s command (MergeStopped done fault mask) t → IsReplyTo command (MergeStopped done fault mask) → done ≤ most_items
+stopped_few s t (Merge items) done fault mask r small step fits =
+    omega (arith, small, (merge_stopped_says s t items done fault mask r step).some_left)
 stopped_few s t (Publish caller key version value overwrite) done fault mask r small step fits = absurd fits
 stopped_few s t (Delete caller key version) done fault mask r small step fits = absurd fits
 stopped_few s t (Sweep caller owner generation) done fault mask r small step fits = absurd fits
@@ -167,8 +186,10 @@ stopped_few s t (Since scope at max) done fault mask r small step fits = absurd 
 stopped_few s t (Snapshot scope) done fault mask r small step fits = absurd fits
 stopped_few s t (Page scope after max) done fault mask r small step fits = absurd fits
 
-few_by : (s t : State) (command : Command) (reply : Reply) → IsReached s → IsSmall command → Step s command reply t → done_by reply ≤ most_items
-few_by s t command (MergeStopped done fault mask) r small step = stopped_few s t command done fault mask r small step (replies_fit s t command (MergeStopped done fault mask) step)
+few_by : (s t : State) (command : Command) (reply : Reply) → IsReached s → IsSmall command → Step s command reply t →
+    done_by reply ≤ most_items
+few_by s t command (MergeStopped done fault mask) r small step =
+    stopped_few s t command done fault mask r small step (replies_fit s t command (MergeStopped done fault mask) step)
 few_by s t command (Changed owed) r small step = omega arith
 few_by s t command Known r small step = omega arith
 few_by s t command (Swept count owed) r small step = omega arith

@@ -1,5 +1,6 @@
 -- What lasts: the feed only grows, what is held is the top of what is known, and floors hold.
-use Rattle.std.proofs.Common.{◌≡◌, ◌+◌, ◌≤◌, true, List, [], ◌∷◌, ◌++◌, refl, ap, sym, ◌∙◌, subst, inl, inr, ◌⊎◌, arith, Contains, append_assoc}
+use Rattle.std.proofs.Common.{◌≡◌, ◌+◌, ◌≤◌, true, List, [], ◌∷◌, ◌++◌, refl, ap, sym, ◌∙◌, subst, inl, inr, ◌⊎◌, arith, Contains}
+use Rattle.std.proofs.Common.{append_assoc}
 use Rattle.std.proofs.lemmas.List.{append-nil}
 use Rattle.std.proofs.lemmas.List.Elements.{Contains-append_left, Contains-append_right, Contains-append_cases}
 use Rattle.ds_entry.specs.ItemCovers.{covers}
@@ -10,7 +11,8 @@ use Rattle.ds_join.specs.ItemTop.{IsTop, IsPartOf, CoversAll}
 use Rattle.ds_join.proofs.ItemTopLemmas.{held_apart, greatest_floor, void_isnt_held}
 use Rattle.ds_machine.specs.State.{State, held}
 use Rattle.ds_machine.specs.Reached.{IsReached}
-use Rattle.ds_machine.specs.Effect.{AreNews, Effect, GoesOn, learnt_by, StepsStayReached, RunsStayReached, GoesOnSame, GoesOnLater, StepsGoOn, RunsGoOn, LearntIsHeld, KnownStaysHeld}
+use Rattle.ds_machine.specs.Effect.{AreNews, Effect, GoesOn, learnt_by, StepsStayReached, RunsStayReached, GoesOnSame, GoesOnLater}
+use Rattle.ds_machine.specs.Effect.{StepsGoOn, RunsGoOn, LearntIsHeld, KnownStaysHeld}
 use Rattle.ds_machine.specs.FloorLaws.{AcceptedFloorStands, FloorStandsOverRuns}
 use Rattle.ds_machine.specs.declared.command.Command.{Command}
 use Rattle.ds_machine.specs.declared.reply.Reply.{Reply}
@@ -28,14 +30,16 @@ steps_stay_reached s t command reply r step = reached_after s t command reply r 
 
 pub runs_stay_reached : RunsStayReached
 runs_stay_reached s t [] [] r run = subst IsReached (sym run) r
-runs_stay_reached s t (command ∷ commands) (reply ∷ replies) r run = runs_stay_reached run.0 t commands replies (steps_stay_reached s run.0 command reply r run.1) run.2
+runs_stay_reached s t (command ∷ commands) (reply ∷ replies) r run =
+    runs_stay_reached run.0 t commands replies (steps_stay_reached s run.0 command reply r run.1) run.2
 runs_stay_reached s t [] (reply ∷ replies) r run = absurd run
 runs_stay_reached s t (command ∷ commands) [] r run = absurd run
 
 -- ---- the store grows
 news_append : (accepted xs ys : List Item) → AreNews accepted xs → AreNews (accepted ++ xs) ys → AreNews accepted (xs ++ ys)
 news_append accepted [] ys n m = subst (λ l. AreNews l ys) (append-nil accepted) m
-news_append accepted (i ∷ xs) ys n m = (n.0, news_append (accepted ++ i ∷ []) xs ys n.1 (subst (λ l. AreNews l ys) (sym (append_assoc accepted (i ∷ []) xs)) m))
+news_append accepted (i ∷ xs) ys n m =
+    (n.0, news_append (accepted ++ i ∷ []) xs ys n.1 (subst (λ l. AreNews l ys) (sym (append_assoc accepted (i ∷ []) xs)) m))
 
 goes_after : (s t : State) (command : Command) (reply : Reply) → Effect s command reply t → GoesOn s t
 goes_after s t command reply (inl g) =
@@ -92,7 +96,8 @@ steps_go_on s t command reply r step = goes_after s t command reply (does s t co
 pub runs_go_on : RunsGoOn
 runs_go_on s t [] [] r run = goes_same s t run
 runs_go_on s t (command ∷ commands) (reply ∷ replies) r run =
-    goes_on_later s run.0 t (steps_go_on s run.0 command reply r run.1) (runs_go_on run.0 t commands replies (steps_stay_reached s run.0 command reply r run.1) run.2)
+    goes_on_later s run.0 t (steps_go_on s run.0 command reply r run.1)
+    (runs_go_on run.0 t commands replies (steps_stay_reached s run.0 command reply r run.1) run.2)
 runs_go_on s t [] (reply ∷ replies) r run = absurd run
 runs_go_on s t (command ∷ commands) [] r run = absurd run
 
@@ -101,8 +106,11 @@ pub learnt_is_held : LearntIsHeld
 learnt_is_held s t command reply r step = (does s t command reply r step).holds
 
 -- what took effect was learnt
-pub accepted_cases : (s t : State) (command : Command) (reply : Reply) → Effect s command reply t → (x : Item) → Contains t.feed.accepted x → Contains s.feed.accepted x ⊎ Contains (learnt_by s command reply) x
-accepted_cases s t command reply (inl g) x h = elim (Contains-append_cases s.feed.accepted g.items x (subst (λ (y : State). Contains y.feed.accepted x) g.state_is h)) [ inl k ↦ inl k | inr k ↦ inr (g.part x k) ]
+pub accepted_cases : (s t : State) (command : Command) (reply : Reply) → Effect s command reply t → (x : Item) →
+    Contains t.feed.accepted x → Contains s.feed.accepted x ⊎ Contains (learnt_by s command reply) x
+accepted_cases s t command reply (inl g) x h =
+    elim (Contains-append_cases s.feed.accepted g.items x (subst (λ (y : State). Contains y.feed.accepted x) g.state_is h))
+    [ inl k ↦ inl k | inr k ↦ inr (g.part x k) ]
 accepted_cases s t command reply (inr w) x h = inl (subst (λ (y : State). Contains y.feed.accepted x) w.state_is h)
 
 later_part : (s t : State) → GoesOn s t → IsPartOf s.feed.accepted t.feed.accepted
@@ -119,8 +127,10 @@ module _ (s t : State) (r : IsReached s) (q : IsReached t) (part : IsPartOf s.fe
       let under : covers x y.0 ≡ true = subst (λ (i : Item). covers i y.0 ≡ true) same z.2 in
       subst (Contains (held s)) (sym (r.exact x y.0 a was y.2 under)) y.1
 
-  known_stays : (known learnt : List Item) → ((x : Item) → Contains t.feed.accepted x → Contains s.feed.accepted x ⊎ Contains learnt x) → CoversAll (held t) learnt → IsTop (held s) known → IsTop (held t) (known ++ learnt)
-  known_stays known learnt cases holds k = record { in_order = (held_is_top t q).in_order; among = among; greatest = greatest; none_void = (held_is_top t q).none_void }
+  known_stays : (known learnt : List Item) → ((x : Item) → Contains t.feed.accepted x → Contains s.feed.accepted x ⊎ Contains learnt x) →
+      CoversAll (held t) learnt → IsTop (held s) known → IsTop (held t) (known ++ learnt)
+  known_stays known learnt cases holds k = record
+      { in_order = (held_is_top t q).in_order; among = among; greatest = greatest; none_void = (held_is_top t q).none_void }
     where
       among : IsPartOf (held t) (known ++ learnt)
       among x h = elim (cases x ((held_is_top t q).among x h)) [
@@ -140,7 +150,8 @@ module _ (s t : State) (r : IsReached s) (q : IsReached t) (part : IsPartOf s.fe
 pub known_stays_held : KnownStaysHeld
 known_stays_held s t command reply known r step k =
     let d = does s t command reply r step in
-    known_stays s t r (reached_after s t command reply r d.effect) (later_part s t (goes_after s t command reply d.effect)) known (learnt_by s command reply) (accepted_cases s t command reply d.effect) d.holds k
+    known_stays s t r (reached_after s t command reply r d.effect) (later_part s t (goes_after s t command reply d.effect)) known
+    (learnt_by s command reply) (accepted_cases s t command reply d.effect) d.holds k
 
 -- ---- floors
 pub accepted_floor_stands : AcceptedFloorStands

@@ -46,7 +46,8 @@ module _ (accepted : List Item) (owners : HasOneOwnerInTurn accepted) where
     no_floor g h e = let t : true ≡ false = sym e ∙ none_pass (voids_it c) (tops accepted) (Floored g) v h in absurd (cc)
 
     -- no held change of the key is in its version or a greater one
-    no_greater : (o : Option ChangeRecord) → held_at (tops accepted) c.key ≡ o → HasRoom o count most c → (h : ChangeRecord) → Contains (tops accepted) (Changed h) → c.key ≡ h.key → is_at_most c.version h.version ≡ true → ⊥
+    no_greater : (o : Option ChangeRecord) → held_at (tops accepted) c.key ≡ o → HasRoom o count most c → (h : ChangeRecord) →
+        Contains (tops accepted) (Changed h) → c.key ≡ h.key → is_at_most c.version h.version ≡ true → ⊥
     no_greater None e room h k same over = key_missing (tops accepted) c.key h e k same
     no_greater (Some d) e room h k same over =
         let at = key_found (tops accepted) c.key d e in
@@ -54,7 +55,8 @@ module _ (accepted : List Item) (owners : HasOneOwnerInTurn accepted) where
         not_above d.version c.version room.1 (subst (λ (x : ChangeRecord). is_at_most c.version x.version ≡ true) one over)
 
     -- a held change of the key is of its owner
-    same_owner : (o : Option ChangeRecord) → held_at (tops accepted) c.key ≡ o → HasRoom o count most c → (h : ChangeRecord) → Contains (tops accepted) (Changed h) → c.key ≡ h.key → c.owner ≡ h.owner
+    same_owner : (o : Option ChangeRecord) → held_at (tops accepted) c.key ≡ o → HasRoom o count most c → (h : ChangeRecord) →
+        Contains (tops accepted) (Changed h) → c.key ≡ h.key → c.owner ≡ h.owner
     same_owner None e room h k same = absurd (key_missing (tops accepted) c.key h e k same)
     same_owner (Some d) e room h k same =
         let at = key_found (tops accepted) c.key d e in
@@ -69,30 +71,39 @@ module _ (accepted : List Item) (owners : HasOneOwnerInTurn accepted) where
         held_covers (Changed d) h e = no_greater (held_at (tops accepted) c.key) refl room d h (covers-key d c e) (covers-version d c e)
 
         newer : (j : Item) → Contains accepted j → covers j (Changed c) ≡ false
-        newer j h = none_if (covers j (Changed c)) (λ e. let k = top.greatest j h in held_covers k.0 k.1 (covers-trans k.0 j (Changed c) k.2 e))
+        newer j h = none_if (covers j (Changed c))
+            (λ e. let k = top.greatest j h in held_covers k.0 k.1 (covers-trans k.0 j (Changed c) k.2 e))
 
-        owned : (d : ChangeRecord) → is_void accepted d ≡ false → c.key ≡ d.key → (k : Item) → Contains (tops accepted) k → covers k (Changed d) ≡ true → c.owner ≡ d.owner
-        owned d w e (Floored g) h over = absurd (let t : true ≡ false = sym over ∙ none_pass (voids_it d) accepted (Floored g) w (top.among (Floored g) h) in cc)
-        owned d w e (Changed x) h over = same_owner (held_at (tops accepted) c.key) refl room x h (e ∙ covers-key x d over) ∙ sym (covers-owner x d over)
+        owned : (d : ChangeRecord) → is_void accepted d ≡ false → c.key ≡ d.key → (k : Item) → Contains (tops accepted) k →
+            covers k (Changed d) ≡ true → c.owner ≡ d.owner
+        owned d w e (Floored g) h over = absurd (let t : true ≡ false =
+            sym over ∙ none_pass (voids_it d) accepted (Floored g) w (top.among (Floored g) h) in cc)
+        owned d w e (Changed x) h over = same_owner (held_at (tops accepted) c.key) refl room x h (e ∙ covers-key x d over) ∙
+            sym (covers-owner x d over)
 
-        fits : (d : ChangeRecord) → Contains accepted (Changed d) → is_void accepted c ≡ false → is_void accepted d ≡ false → c.key ≡ d.key → c.owner ≡ d.owner
+        fits : (d : ChangeRecord) → Contains accepted (Changed d) → is_void accepted c ≡ false → is_void accepted d ≡ false →
+            c.key ≡ d.key → c.owner ≡ d.owner
         fits d h u w e = let k = top.greatest (Changed d) h in owned d w e k.0 k.1 k.2
 
   pub news_floor : (f : Floor) → IsAbove (floor_at (tops accepted) f.owner) f → IsNews accepted (Floored f)
   news_floor f above = record { newer = newer; fits = tt }
     where
-      no_greater : (o : Option Floor) → floor_at (tops accepted) f.owner ≡ o → IsAbove o f → (g : Floor) → Contains (tops accepted) (Floored g) → (f.owner ≡ g.owner) × (f.generation ≤ g.generation) → ⊥
+      no_greater : (o : Option Floor) → floor_at (tops accepted) f.owner ≡ o → IsAbove o f → (g : Floor) →
+          Contains (tops accepted) (Floored g) → (f.owner ≡ g.owner) × (f.generation ≤ g.generation) → ⊥
       no_greater None e a g h b = owner_missing (tops accepted) f.owner g e h b.0
       no_greater (Some x) e a g h b =
           let at = owner_found (tops accepted) f.owner x e in
-          let one : g.generation ≡ x.generation = ap (λ (y : Floor). y.generation) (one_floor (tops accepted) accepted top g x h at.0 (sym b.0 ∙ at.1)) in
+          let one : g.generation ≡ x.generation =
+          ap (λ (y : Floor). y.generation) (one_floor (tops accepted) accepted top g x h at.0 (sym b.0 ∙ at.1)) in
           let high : f.generation ≤ g.generation = b.1 in
           let low : x.generation < f.generation = a in
           absurd (omega (arith, one, high, low))
 
       held_covers : (k : Item) → Contains (tops accepted) k → covers k (Floored f) ≡ true → ⊥
       held_covers (Changed d) h e = let t : false ≡ true = e in absurd (cc)
-      held_covers (Floored g) h e = no_greater (floor_at (tops accepted) f.owner) refl above g h (below f.owner g.owner f.generation g.generation e)
+      held_covers (Floored g) h e = no_greater (floor_at (tops accepted) f.owner) refl above g h
+          (below f.owner g.owner f.generation g.generation e)
 
       newer : (j : Item) → Contains accepted j → covers j (Floored f) ≡ false
-      newer j h = none_if (covers j (Floored f)) (λ e. let k = top.greatest j h in held_covers k.0 k.1 (covers-trans k.0 j (Floored f) k.2 e))
+      newer j h = none_if (covers j (Floored f))
+          (λ e. let k = top.greatest j h in held_covers k.0 k.1 (covers-trans k.0 j (Floored f) k.2 e))

@@ -1,5 +1,6 @@
 -- What is found in lists, and among items for a key and for an owner.
-use Rattle.std.proofs.Common.{◌≡◌, ℕ, Bool, true, false, cond, ◌||◌, List, [], ◌∷◌, ◌++◌, take, length, Some, None, refl, sym, ap, ◌∙◌, subst, inl, inr, Contains}
+use Rattle.std.proofs.Common.{◌≡◌, ℕ, Bool, true, false, cond, ◌||◌, List, [], ◌∷◌, ◌++◌, take, length, Some, None, refl, sym, ap, ◌∙◌}
+use Rattle.std.proofs.Common.{subst, inl, inr, Contains}
 use Rattle.std.proofs.lemmas.Option.{same_Some}
 use Rattle.std.specs.List.{find, list_any}
 use Rattle.std.specs.declared.cmp.Ordering.TheVariants.{Equal}
@@ -25,8 +26,10 @@ pub found : {X : Type 0} (p : X → Bool) (xs : List X) (x : X) → find p xs �
 found p [] x h = absurd (cc)
 found p (y ∷ ys) x h = by_test (p y) refl h (found p ys x)
   where
-    by_test : (b : Bool) → p y ≡ b → cond b (Some y) (find p ys) ≡ Some x → (find p ys ≡ Some x → Contains ys x × (p x ≡ true)) → Contains (y ∷ ys) x × (p x ≡ true)
-    by_test true e q rest = let same : y ≡ x = same_Some y x q in (subst (λ z. Contains (y ∷ ys) z) same (Contains-head y ys), ap p (sym same) ∙ e)
+    by_test : (b : Bool) → p y ≡ b → cond b (Some y) (find p ys) ≡ Some x → (find p ys ≡ Some x → Contains ys x × (p x ≡ true)) →
+        Contains (y ∷ ys) x × (p x ≡ true)
+    by_test true e q rest = let same : y ≡ x = same_Some y x q in
+        (subst (λ z. Contains (y ∷ ys) z) same (Contains-head y ys), ap p (sym same) ∙ e)
     by_test false e q rest = let r = rest q in (Contains-tail y ys x r.0, r.1)
 
 pub missing : {X : Type 0} (p : X → Bool) (xs : List X) (x : X) → find p xs ≡ None → Contains xs x → p x ≡ false
@@ -38,11 +41,13 @@ missing p (y ∷ ys) x h k = by_test (p y) refl h (missing p ys x)
     by_test false e q rest = elim (Contains-cons y ys x k) [ inl s ↦ ap p s ∙ e | inr t ↦ rest q t ]
 
 -- where what is found isn't in the front, nothing in the front passes
-pub passed : {X : Type 0} (p q : X → Bool) (front rest : List X) (x y : X) → find p (front ++ rest) ≡ Some y → q y ≡ true → list_any q front ≡ false → Contains front x → p x ≡ false
+pub passed : {X : Type 0} (p q : X → Bool) (front rest : List X) (x y : X) → find p (front ++ rest) ≡ Some y → q y ≡ true →
+    list_any q front ≡ false → Contains front x → p x ≡ false
 passed p q [] rest x y h k n l = absurd (Contains-nil x l)
 passed p q (z ∷ front) rest x y h k n l = by_test (p z) refl h (q z) refl n (λ s m t. passed p q front rest x y s k m t)
   where
-    by_test : (b : Bool) → p z ≡ b → cond b (Some z) (find p (front ++ rest)) ≡ Some y → (a : Bool) → q z ≡ a → a || list_any q front ≡ false
+    by_test : (b : Bool) → p z ≡ b → cond b (Some z) (find p (front ++ rest)) ≡ Some y → (a : Bool) → q z ≡ a →
+        a || list_any q front ≡ false
         → (find p (front ++ rest) ≡ Some y → list_any q front ≡ false → Contains front x → p x ≡ false) → p x ≡ false
     by_test b e s true f m more = absurd (cc)
     by_test true e s false f m more = absurd (let t : true ≡ false = sym k ∙ ap q (sym (same_Some z y s)) ∙ f in cc)
@@ -83,7 +88,8 @@ changes_in-to (Changed d ∷ items) c h = elim (Contains-cons (Changed d) items 
   | inl e ↦ subst (λ (x : ChangeRecord). Contains (d ∷ changes_in items) x) (sym (changed_same c d e)) (Contains-head d (changes_in items))
   | inr t ↦ Contains-tail d (changes_in items) c (changes_in-to items c t)
 ]
-changes_in-to (Floored f ∷ items) c h = elim (Contains-cons (Floored f) items (Changed c) h) [ inl e ↦ absurd (cc) | inr t ↦ changes_in-to items c t ]
+changes_in-to (Floored f ∷ items) c h = elim (Contains-cons (Floored f) items (Changed c) h)
+    [ inl e ↦ absurd (cc) | inr t ↦ changes_in-to items c t ]
 
 pub floors_in-from : (items : List Item) (f : Floor) → Contains (floors_in items) f → Contains items (Floored f)
 floors_in-from [] f h = absurd (Contains-nil f h)
@@ -99,7 +105,8 @@ floors_in-to (Floored g ∷ items) f h = elim (Contains-cons (Floored g) items (
   | inl e ↦ subst (λ (x : Floor). Contains (g ∷ floors_in items) x) (sym (floored_same f g e)) (Contains-head g (floors_in items))
   | inr t ↦ Contains-tail g (floors_in items) f (floors_in-to items f t)
 ]
-floors_in-to (Changed c ∷ items) f h = elim (Contains-cons (Changed c) items (Floored f) h) [ inl e ↦ absurd (cc) | inr t ↦ floors_in-to items f t ]
+floors_in-to (Changed c ∷ items) f h = elim (Contains-cons (Changed c) items (Floored f) h)
+    [ inl e ↦ absurd (cc) | inr t ↦ floors_in-to items f t ]
 
 -- ---- what is held for a key, and for an owner
 module _ (held : List Item) where
@@ -110,7 +117,8 @@ module _ (held : List Item) where
 
   pub key_missing : (key : Key) (c : ChangeRecord) → held_at held key ≡ None → Contains held (Changed c) → key ≡ c.key → ⊥
   key_missing key c e h k =
-      let n : eq_by_cmp key_cmp key c.key ≡ false = missing (λ (x : ChangeRecord). eq_by_cmp key_cmp key x.key) (changes_in held) c e (changes_in-to held c h) in
+      let n : eq_by_cmp key_cmp key c.key ≡ false =
+      missing (λ (x : ChangeRecord). eq_by_cmp key_cmp key x.key) (changes_in held) c e (changes_in-to held c h) in
       let t : true ≡ false = sym (same_key-refl key c.key k) ∙ n in
       absurd (cc)
 
@@ -121,15 +129,20 @@ module _ (held : List Item) where
 
   pub owner_missing : (owner : List ℕ) (f : Floor) → floor_at held owner ≡ None → Contains held (Floored f) → owner ≡ f.owner → ⊥
   owner_missing owner f e h k =
-      let n : eq_by_cmp name_cmp owner f.owner ≡ false = missing (λ (x : Floor). eq_by_cmp name_cmp owner x.owner) (floors_in held) f e (floors_in-to held f h) in
+      let n : eq_by_cmp name_cmp owner f.owner ≡ false =
+      missing (λ (x : Floor). eq_by_cmp name_cmp owner x.owner) (floors_in held) f e (floors_in-to held f h) in
       let t : true ≡ false = sym (same_name-refl owner f.owner k) ∙ n in
       absurd (cc)
 
   -- there is one for each
-  pub one_change : (set : List Item) → IsTop held set → (c d : ChangeRecord) → Contains held (Changed c) → Contains held (Changed d) → c.key ≡ d.key → c ≡ d
+  pub one_change : (set : List Item) → IsTop held set → (c d : ChangeRecord) → Contains held (Changed c) → Contains held (Changed d) →
+      c.key ≡ d.key → c ≡ d
   one_change set t c d h k e =
-      changed_same c d (tied_once item_cmp items_total held (Changed c) (Changed d) t.in_order h k (subst (λ (x : Key). key_cmp c.key x ≡ Equal) e (tied_itself keys_total c.key)))
+      changed_same c d (tied_once item_cmp items_total held (Changed c) (Changed d) t.in_order h k
+      (subst (λ (x : Key). key_cmp c.key x ≡ Equal) e (tied_itself keys_total c.key)))
 
-  pub one_floor : (set : List Item) → IsTop held set → (f g : Floor) → Contains held (Floored f) → Contains held (Floored g) → f.owner ≡ g.owner → f ≡ g
+  pub one_floor : (set : List Item) → IsTop held set → (f g : Floor) → Contains held (Floored f) → Contains held (Floored g) →
+      f.owner ≡ g.owner → f ≡ g
   one_floor set t f g h k e =
-      floored_same f g (tied_once item_cmp items_total held (Floored f) (Floored g) t.in_order h k (subst (λ (x : List ℕ). name_cmp f.owner x ≡ Equal) e (tied_itself nat_list_cmp_total f.owner)))
+      floored_same f g (tied_once item_cmp items_total held (Floored f) (Floored g) t.in_order h k
+      (subst (λ (x : List ℕ). name_cmp f.owner x ≡ Equal) e (tied_itself nat_list_cmp_total f.owner)))

@@ -1,5 +1,6 @@
 -- What answers say, and which answers there are.
-use Rattle.std.proofs.Common.{◌≡◌, ℕ, ◌+◌, ◌<◌, ◌^◌, ◌==◌, zero, suc, Bool, true, false, cond, get_or, List, [], ◌∷◌, length, take, map, Option, Some, None, refl, ap, sym, ◌∙◌, subst, inl, inr, arith}
+use Rattle.std.proofs.Common.{◌≡◌, ℕ, ◌+◌, ◌<◌, ◌^◌, ◌==◌, zero, suc, Bool, true, false, cond, get_or, List, [], ◌∷◌, length, take, map}
+use Rattle.std.proofs.Common.{Option, Some, None, refl, ap, sym, ◌∙◌, subst, inl, inr, arith}
 use Rattle.std.specs.Option.{option_map, option_map_or}
 use Rattle.ds_entry.specs.declared.body.Value.{Value}
 use Rattle.ds_entry.specs.declared.body.Body.{Body}
@@ -25,15 +26,18 @@ use Rattle.ds_machine.specs.Parts.{changes_in}
 use Rattle.ds_machine.specs.Machine.{Step, IsOutcome, MergeWantsRoom, outcome, asking, answer_for, sweep_answer, found_or, live_at}
 use Rattle.ds_machine.specs.Reached.{IsReached}
 use Rattle.ds_machine.specs.Effect.{brought_by}
-use Rattle.ds_machine.specs.Says.{RefusedSays, IsTaken, ChangedSays, FoundSays, NamedSays, IsMerged, MergedSays, MergeStoppedSays, OwedFits, OwedTells, IsReplyTo}
+use Rattle.ds_machine.specs.Says.{RefusedSays, IsTaken, ChangedSays, FoundSays, NamedSays, IsMerged, MergedSays, MergeStoppedSays, OwedFits}
+use Rattle.ds_machine.specs.Says.{OwedTells, IsReplyTo}
 use Rattle.ds_machine.specs.declared.refusal.Cause.{Cause}
 use Rattle.ds_machine.specs.declared.refusal.Cause.TheVariants as causes
 use Rattle.ds_machine.specs.declared.refusal.Refusal.{Refusal}
 use Rattle.ds_machine.specs.declared.refusal.Refusal.TheVariants as refusals
 use Rattle.ds_machine.specs.declared.command.Command.{Command}
-use Rattle.ds_machine.specs.declared.command.Command.TheVariants.{Publish, Delete, Sweep, Retrieve, NameOf, Subscribe, Check, Since, Snapshot, Page, Merge}
+use Rattle.ds_machine.specs.declared.command.Command.TheVariants.{Publish, Delete, Sweep, Retrieve, NameOf, Subscribe, Check, Since}
+use Rattle.ds_machine.specs.declared.command.Command.TheVariants.{Snapshot, Page, Merge}
 use Rattle.ds_machine.specs.declared.reply.Reply.{Reply}
-use Rattle.ds_machine.specs.declared.reply.Reply.TheVariants.{Changed as Accepted, Swept, Found, Named, Subscribed, Journaled, Snapped, Paged, Merged, MergeStopped, Refused}
+use Rattle.ds_machine.specs.declared.reply.Reply.TheVariants.{Changed as Accepted, Swept, Found, Named, Subscribed, Journaled, Snapped}
+use Rattle.ds_machine.specs.declared.reply.Reply.TheVariants.{Paged, Merged, MergeStopped, Refused}
 use Rattle.ds_machine.proofs.CourseLemmas.{Went}
 use Rattle.ds_machine.proofs.EffectLemmas.{begun_went}
 use Rattle.ds_machine.proofs.KnownLemmas.{learnt_is_held}
@@ -51,7 +55,8 @@ refused_not refusal reply f e = let t : true ≡ false = ap is_refused e ∙ f i
 module _ (s t : State) (refusal : Refusal) where
   -- a command with a reply of its own, unless something applies to it
   stays_unless : {X : Type 0} (o : Option X) (f : X → Reply) (reply : Reply) (new : State)
-      → Refused refusal ≡ (option_map_or {U = Reply × State} (λ x. (f x, s)) o (reply, new)).0 → t ≡ (option_map_or {U = Reply × State} (λ x. (f x, s)) o (reply, new)).1 → is_refused reply ≡ false → t ≡ s
+      → Refused refusal ≡ (option_map_or {U = Reply × State} (λ x. (f x, s)) o (reply, new)).0 →
+      t ≡ (option_map_or {U = Reply × State} (λ x. (f x, s)) o (reply, new)).1 → is_refused reply ≡ false → t ≡ s
   stays_unless (Some x) f reply new e q differs = q
   stays_unless None f reply new e q differs = absurd (refused_not refusal reply differs e)
 
@@ -59,20 +64,24 @@ module _ (s t : State) (refusal : Refusal) where
   merge_unless items (Some r) e q = q
   merge_unless items None e q = absurd (by_stop (course s items).stop e)
     where
-      by_stop : (o : Option Refusal) → Refused refusal ≡ option_map_or {U = Reply} (λ fault. MergeStopped (course s items).done fault (owed s (course s items).taken)) o
+      by_stop : (o : Option Refusal) → Refused refusal ≡ option_map_or {U = Reply}
+          (λ fault. MergeStopped (course s items).done fault (owed s (course s items).taken)) o
           (Merged (course s items).done (length (course s items).taken) (course s items).stale (owed s (course s items).taken)) → ⊥
       by_stop (Some fault) h = cc
       by_stop None h = cc
 
-  check_unless : (sub max : ℕ) (o : Option Subscription) → Refused refusal ≡ (checking_at s sub max o).0 → t ≡ (checking_at s sub max o).1 → t ≡ s
+  check_unless : (sub max : ℕ) (o : Option Subscription) → Refused refusal ≡ (checking_at s sub max o).0 →
+      t ≡ (checking_at s sub max o).1 → t ≡ s
   check_unless sub max o e q = by_cause o (first_refusal (against_check (check_case s sub max o))) e q
     where
-      by_items : (seer : Subscription) (items : List Item) → Refused refusal ≡ (shows s sub seer items).0 → t ≡ (shows s sub seer items).1 → t ≡ s
+      by_items : (seer : Subscription) (items : List Item) → Refused refusal ≡ (shows s sub seer items).0 →
+          t ≡ (shows s sub seer items).1 → t ≡ s
       by_items seer [] e q = q
       by_items seer (i ∷ items) e q = absurd (cc)
 
       out : Option Subscription → Option Refusal → Reply × State
-      out o p = option_map_or {U = Reply × State} (λ r. (Refused r, s)) p (option_map_or {U = Reply × State} (λ f. shows s sub f (take max (unseen s f))) o (Refused refusals.NotFound, s))
+      out o p = option_map_or {U = Reply × State} (λ r. (Refused r, s)) p
+          (option_map_or {U = Reply × State} (λ f. shows s sub f (take max (unseen s f))) o (Refused refusals.NotFound, s))
 
       by_cause : (o : Option Subscription) (p : Option Refusal) → Refused refusal ≡ (out o p).0 → t ≡ (out o p).1 → t ≡ s
       by_cause o (Some r) e q = q
@@ -84,23 +93,29 @@ module _ (s t : State) (refusal : Refusal) where
   by_outcome (Publish caller key version value overwrite) is =
       let a : AskedChange = published caller key version overwrite in
       let i : Item = Changed (asked_in s a (Put value)) in
-      stays_unless (cause_against s a (Put value)) answer_for (Accepted (owed s (i ∷ []))) (takes_effect s (i ∷ [])) is.reply_is is.state_is refl
+      stays_unless (cause_against s a (Put value)) answer_for (Accepted (owed s (i ∷ []))) (takes_effect s (i ∷ [])) is.reply_is
+      is.state_is refl
   by_outcome (Delete caller key version) is =
       let a : AskedChange = deleted caller key version in
       let i : Item = Changed (asked_in s a Gone) in
       stays_unless (cause_against s a Gone) answer_for (Accepted (owed s (i ∷ []))) (takes_effect s (i ∷ [])) is.reply_is is.state_is refl
   by_outcome (Sweep caller owner generation) is =
       let f : Floor = floor_of owner generation in
-      stays_unless (sweep_cause s caller f) sweep_answer (Swept (length (puts_void_by f (changes_in (held s)))) (owed s (Floored f ∷ []))) (takes_effect s (Floored f ∷ [])) is.reply_is is.state_is refl
+      stays_unless (sweep_cause s caller f) sweep_answer (Swept (length (puts_void_by f (changes_in (held s)))) (owed s (Floored f ∷ [])))
+      (takes_effect s (Floored f ∷ [])) is.reply_is is.state_is refl
   by_outcome (Retrieve key) is = is.state_is
   by_outcome (NameOf endpoint) is = is.state_is
   by_outcome (Subscribe sub query initial overwrite) is =
-      stays_unless (first_refusal (against_subscribe (subscribe_case s sub query overwrite))) Refused (Subscribed (s.stamp + 1) (owed_at_first (held s) sub query initial)) (subscribes s sub query (shown_at_first (held s) initial))
+      stays_unless (first_refusal (against_subscribe (subscribe_case s sub query overwrite))) Refused
+      (Subscribed (s.stamp + 1) (owed_at_first (held s) sub query initial)) (subscribes s sub query (shown_at_first (held s) initial))
       is.reply_is is.state_is refl
   by_outcome (Check sub max) is = check_unless sub max (subscription_at s sub) is.reply_is is.state_is
-  by_outcome (Since scope at max) is = stays_unless (first_refusal (against_since s.feed scope at max)) Refused (Journaled (since_of s.feed (is_kept scope) at max)) s is.reply_is is.state_is refl
-  by_outcome (Snapshot scope) is = stays_unless (first_refusal (against_scope scope)) Refused (Snapped (snapshot_of (is_kept scope) (held s) (cursor s))) s is.reply_is is.state_is refl
-  by_outcome (Page scope after max) is = stays_unless (first_refusal (against_page scope max)) Refused (Paged (page_of (is_kept scope) after max (held s) (cursor s))) s is.reply_is is.state_is refl
+  by_outcome (Since scope at max) is = stays_unless (first_refusal (against_since s.feed scope at max)) Refused
+      (Journaled (since_of s.feed (is_kept scope) at max)) s is.reply_is is.state_is refl
+  by_outcome (Snapshot scope) is = stays_unless (first_refusal (against_scope scope)) Refused
+      (Snapped (snapshot_of (is_kept scope) (held s) (cursor s))) s is.reply_is is.state_is refl
+  by_outcome (Page scope after max) is = stays_unless (first_refusal (against_page scope max)) Refused
+      (Paged (page_of (is_kept scope) after max (held s) (cursor s))) s is.reply_is is.state_is refl
   by_outcome (Merge items) is = merge_unless items (first_refusal (against_merge (length items))) is.reply_is is.state_is
 
   wants_not : (command : Command) → MergeWantsRoom s command (Refused refusal) t → ⊥
@@ -123,7 +138,8 @@ refused_says s t command refusal (inr w) = absurd (wants_not s t refusal command
 
 -- ---- a merge
 pub merged_says : MergedSays
-merged_says s t items done taken stale owes r (inl (inl is)) = by_cause (first_refusal (against_merge (length items))) is.reply_is is.state_is
+merged_says s t items done taken stale owes r (inl (inl is)) =
+    by_cause (first_refusal (against_merge (length items))) is.reply_is is.state_is
   where
     k : Course
     k = course s items
@@ -132,7 +148,8 @@ merged_says s t items done taken stale owes r (inl (inl is)) = by_cause (first_r
     w = begun_went s items r
 
     by_stop : (o : Option Refusal) → k.stop ≡ o →
-        Merged done taken stale owes ≡ option_map_or {U = Reply} (λ fault. MergeStopped k.done fault (owed s k.taken)) o (Merged k.done (length k.taken) k.stale (owed s k.taken)) →
+        Merged done taken stale owes ≡ option_map_or {U = Reply} (λ fault. MergeStopped k.done fault (owed s k.taken)) o
+        (Merged k.done (length k.taken) k.stale (owed s k.taken)) →
         t ≡ k.state → IsMerged items done taken stale t
     by_stop (Some fault) q e f = absurd (cc)
     by_stop None q e f =
@@ -145,14 +162,17 @@ merged_says s t items done taken stale owes r (inl (inl is)) = by_cause (first_r
           within = omega (arith, d, n, m, w.done, w.counted);
         }
 
-    by_cause : (o : Option Refusal) → Merged done taken stale owes ≡ (merging s items o).0 → t ≡ (merging s items o).1 → IsMerged items done taken stale t
+    by_cause : (o : Option Refusal) → Merged done taken stale owes ≡ (merging s items o).0 → t ≡ (merging s items o).1 →
+        IsMerged items done taken stale t
     by_cause (Some cause) e f = absurd (cc)
     by_cause None e f = by_stop k.stop refl e f
 merged_says s t items done taken stale owes r (inl (inr w)) = absurd (let e : Merged done taken stale owes ≡ Refused _ = w.reply_is in cc)
-merged_says s t items done taken stale owes r (inr w) = absurd (let e : Merged done taken stale owes ≡ MergeStopped _ _ _ = w.1.reply_is in cc)
+merged_says s t items done taken stale owes r (inr w) =
+    absurd (let e : Merged done taken stale owes ≡ MergeStopped _ _ _ = w.1.reply_is in cc)
 
 -- the step itself says what is held, its reply how much was done
-stopped_within : (s t : State) (items : List Item) (done : ℕ) (fault : Refusal) (owes : ℕ) → IsReached s → Step s (Merge items) (MergeStopped done fault owes) t → done < length items
+stopped_within : (s t : State) (items : List Item) (done : ℕ) (fault : Refusal) (owes : ℕ) → IsReached s →
+    Step s (Merge items) (MergeStopped done fault owes) t → done < length items
 stopped_within s t items done fault owes r (inl (inl is)) = by_cause (first_refusal (against_merge (length items))) is.reply_is
   where
     k : Course
@@ -161,7 +181,9 @@ stopped_within s t items done fault owes r (inl (inl is)) = by_cause (first_refu
     w : Went (begun s) items k
     w = begun_went s items r
 
-    by_stop : (o : Option Refusal) → k.stop ≡ o → MergeStopped done fault owes ≡ option_map_or {U = Reply} (λ f. MergeStopped k.done f (owed s k.taken)) o (Merged k.done (length k.taken) k.stale (owed s k.taken)) → done < length items
+    by_stop : (o : Option Refusal) → k.stop ≡ o →
+        MergeStopped done fault owes ≡ option_map_or {U = Reply} (λ f. MergeStopped k.done f (owed s k.taken)) o
+        (Merged k.done (length k.taken) k.stale (owed s k.taken)) → done < length items
     by_stop None q e = absurd (cc)
     by_stop (Some f) q e = let d : done ≡ k.done = cc in omega (arith, d, w.done, w.some_left f q)
 
@@ -177,7 +199,11 @@ stopped_within s t items done fault owes r (inr w) =
 
 pub merge_stopped_says : MergeStoppedSays
 merge_stopped_says s t items done fault owes r step =
-    record { holds = learnt_is_held s t (Merge items) (MergeStopped done fault owes) r step; some_left = stopped_within s t items done fault owes r step }
+    record {
+      holds = learnt_is_held s t (Merge items) (MergeStopped done fault owes) r step;
+      some_left =
+          stopped_within s t items done fault owes r step;
+    }
 
 -- ---- masks
 flags_long : (items : List Item) (subs : List (Option Subscription)) → length (map (is_owed items) subs) ≡ length subs
@@ -193,7 +219,8 @@ flag_of : (b : Bool) → (cond b 1 0 == 1) ≡ b
 flag_of true = refl
 flag_of false = refl
 
-owed_at : (items : List Item) (subs : List (Option Subscription)) (k : ℕ) → get_or (map (is_owed items) subs) k false ≡ is_owed items (get_or subs k None)
+owed_at : (items : List Item) (subs : List (Option Subscription)) (k : ℕ) →
+    get_or (map (is_owed items) subs) k false ≡ is_owed items (get_or subs k None)
 owed_at items [] zero = refl
 owed_at items [] (suc k) = refl
 owed_at items (x ∷ subs) zero = refl
@@ -205,7 +232,8 @@ owed_tells s items k =
     ap (λ n. n == 1) (mask_bit flags k) ∙ flag_of (get_or flags k false) ∙ owed_at items s.subscriptions k
 
 -- ---- what took effect, what is live, and whose name it is
-asked_says : (s t : State) (a : AskedChange) (body : Body) (mask : ℕ) → Accepted mask ≡ (asking s a body).0 → t ≡ (asking s a body).1 → IsTaken s (Changed (asked_in s a body) ∷ []) mask t
+asked_says : (s t : State) (a : AskedChange) (body : Body) (mask : ℕ) → Accepted mask ≡ (asking s a body).0 → t ≡ (asking s a body).1 →
+    IsTaken s (Changed (asked_in s a body) ∷ []) mask t
 asked_says s t a body mask e f = by_cause (cause_against s a body) e f
   where
     items : List Item
@@ -219,13 +247,17 @@ asked_says s t a body mask e f = by_cause (cause_against s a body) e f
     by_cause (Some (causes.Refused refusal)) g h = absurd (cc)
     by_cause None g h = record { owed_is = cc; state_is = h }
 
-changed_step : (s t : State) (command : Command) (mask : ℕ) → Step s command (Accepted mask) t → IsReplyTo command (Accepted mask) → IsOutcome (outcome s command) (Accepted mask) t → IsTaken s (brought_by s command) mask t
-changed_step s t (Publish caller key version value overwrite) mask step fits is = asked_says s t (published caller key version overwrite) (Put value) mask is.reply_is is.state_is
-changed_step s t (Delete caller key version) mask step fits is = asked_says s t (deleted caller key version) Gone mask is.reply_is is.state_is
+changed_step : (s t : State) (command : Command) (mask : ℕ) → Step s command (Accepted mask) t → IsReplyTo command (Accepted mask) →
+    IsOutcome (outcome s command) (Accepted mask) t → IsTaken s (brought_by s command) mask t
+changed_step s t (Publish caller key version value overwrite) mask step fits is =
+    asked_says s t (published caller key version overwrite) (Put value) mask is.reply_is is.state_is
+changed_step s t (Delete caller key version) mask step fits is =
+    asked_says s t (deleted caller key version) Gone mask is.reply_is is.state_is
 changed_step s t _ mask step fits is = absurd fits
 
 pub changed_says : ChangedSays
-changed_says s t command mask (inl (inl is)) = changed_step s t command mask (inl (inl is)) (replies_fit s t command (Accepted mask) (inl (inl is))) is
+changed_says s t command mask (inl (inl is)) =
+    changed_step s t command mask (inl (inl is)) (replies_fit s t command (Accepted mask) (inl (inl is))) is
 changed_says s t command mask (inl (inr w)) = absurd (let e : Accepted mask ≡ Refused _ = w.reply_is in cc)
 changed_says s t command mask (inr w) = absurd (no_merge command w)
   where

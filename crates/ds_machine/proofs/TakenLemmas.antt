@@ -1,5 +1,6 @@
 -- Changes that take the places of what is held all take effect.
-use Rattle.std.proofs.Common.{◌≡◌, ℕ, ◌+◌, ◌<◌, ◌≤◌, Bool, true, false, not, ◌&&◌, ◌||◌, cond, nat_le, List, [], ◌∷◌, ◌++◌, length, map, fold, Option, Some, None, is_none}
+use Rattle.std.proofs.Common.{◌≡◌, ℕ, ◌+◌, ◌<◌, ◌≤◌, Bool, true, false, not, ◌&&◌, ◌||◌, cond, nat_le, List, [], ◌∷◌, ◌++◌, length, map}
+use Rattle.std.proofs.Common.{fold, Option, Some, None, is_none}
 use Rattle.std.proofs.Common.{refl, ap, sym, ◌∙◌, subst, inl, inr, arith, Contains, append_assoc, append-nil, length-append, eq-eqb}
 use Rattle.std.specs.declared.cmp.Ordering.{Ordering}
 use Rattle.std.specs.Ordering.{is_eq, is_gt}
@@ -36,15 +37,19 @@ use Rattle.ds_machine.specs.Taken.{HasNoFloor, TakesHeld, KeysApart, PlacesAreTa
 abbrev course_of : State → ℕ → List Item → Course
 course_of s done taken = record { state = s; done = done; taken = taken; stale = 0; stop = None }
 
-free_course : (items : List Item) (s : State) (done : ℕ) (taken : List Item) → AreFree s items → fold item_merged (course_of s done taken) items ≡ course_of (takes_effect s items) (done + length items) (taken ++ items)
+free_course : (items : List Item) (s : State) (done : ℕ) (taken : List Item) → AreFree s items →
+    fold item_merged (course_of s done taken) items ≡ course_of (takes_effect s items) (done + length items) (taken ++ items)
 free_course [] s done taken free =
     ap (λ (l : List Item). course_of (with_accepted s l) done taken) (sym (append-nil s.feed.accepted)) ∙
-    ap (λ (l : List Item). course_of (takes_effect s []) done l) (sym (append-nil taken)) ∙ ap (λ (n : ℕ). course_of (takes_effect s []) n (taken ++ [])) (omega arith)
+    ap (λ (l : List Item). course_of (takes_effect s []) done l) (sym (append-nil taken)) ∙
+    ap (λ (n : ℕ). course_of (takes_effect s []) n (taken ++ [])) (omega arith)
 free_course (i ∷ items) s done taken free =
-    let first : item_merged (course_of s done taken) i ≡ course_of (takes_effect s (i ∷ [])) (done + 1) (taken ++ i ∷ []) = ap (λ (o : Option Cause). item_judged (course_of s done taken) i o) free.0 in
+    let first : item_merged (course_of s done taken) i ≡ course_of (takes_effect s (i ∷ [])) (done + 1) (taken ++ i ∷ []) =
+    ap (λ (o : Option Cause). item_judged (course_of s done taken) i o) free.0 in
     ap (λ (k : Course). fold item_merged k items) first
     ∙ free_course items (takes_effect s (i ∷ [])) (done + 1) (taken ++ i ∷ []) free.1
-    ∙ ap (λ (l : List Item). course_of (with_accepted s l) (done + 1 + length items) ((taken ++ i ∷ []) ++ items)) (append_assoc s.feed.accepted (i ∷ []) items)
+    ∙ ap (λ (l : List Item). course_of (with_accepted s l) (done + 1 + length items) ((taken ++ i ∷ []) ++ items))
+    (append_assoc s.feed.accepted (i ∷ []) items)
     ∙ ap (λ (l : List Item). course_of (takes_effect s (i ∷ items)) (done + 1 + length items) l) (append_assoc taken (i ∷ []) items)
     ∙ ap (λ (n : ℕ). course_of (takes_effect s (i ∷ items)) n (taken ++ i ∷ items)) (omega arith)
 
@@ -67,13 +72,17 @@ same_is m n e = subst (λ (x : List ℕ). is_same_name m x ≡ true) e (itself m
     itself [] = refl
     itself (x ∷ xs) = ap (λ (b : Bool). b && is_same_name xs xs) (eq-eqb x x refl) ∙ itself xs
 
-none_against : (t : Standing) (h c : ChangeRecord) → t.held ≡ Some h → TakesPlace h c → t.void ≡ false → nat_le last_place t.position ≡ false → first_cause (Some c.version) (against_change t c) ≡ None
+none_against : (t : Standing) (h c : ChangeRecord) → t.held ≡ Some h → TakesPlace h c → t.void ≡ false →
+    nat_le last_place t.position ≡ false → first_cause (Some c.version) (against_change t c) ≡ None
 none_against t h c here place void left =
     six _ _ _ _ _ _ _ _ _ _ _ _
     (ap (λ (o : Option ChangeRecord). on_held o (λ x. not (is_same_name x.owner c.owner))) here ∙ ap not (same_is h.owner c.owner place.0))
-    (ap (λ (o : Option ChangeRecord). on_held o (λ x. is_eq (version_cmp x.version c.version) && not (is_same_body x.body c.body))) here ∙ ap (λ (r : Ordering). is_eq r && not (is_same_body h.body c.body)) place.1)
-    (ap (λ (o : Option ChangeRecord). on_held o (λ x. is_gt (version_cmp x.version c.version)) || t.void) here ∙ ap (λ (r : Ordering). is_gt r || t.void) place.1 ∙ void)
-    (ap (λ (o : Option ChangeRecord). on_held o (λ x. is_eq (version_cmp x.version c.version) && is_same_body x.body c.body)) here ∙ ap (λ (r : Ordering). is_eq r && is_same_body h.body c.body) place.1)
+    (ap (λ (o : Option ChangeRecord). on_held o (λ x. is_eq (version_cmp x.version c.version) && not (is_same_body x.body c.body))) here ∙
+    ap (λ (r : Ordering). is_eq r && not (is_same_body h.body c.body)) place.1)
+    (ap (λ (o : Option ChangeRecord). on_held o (λ x. is_gt (version_cmp x.version c.version)) || t.void) here ∙
+    ap (λ (r : Ordering). is_gt r || t.void) place.1 ∙ void)
+    (ap (λ (o : Option ChangeRecord). on_held o (λ x. is_eq (version_cmp x.version c.version) && is_same_body x.body c.body)) here ∙
+    ap (λ (r : Ordering). is_eq r && is_same_body h.body c.body) place.1)
     (ap (λ (o : Option ChangeRecord). is_none o && nat_le t.most t.count) here)
     left
 
@@ -81,11 +90,14 @@ none_against t h c here place void left =
 
 module _ (s t : State) (rs : IsReached s) (rt : IsReached t) (floors : HasNoFloor t) (part : IsPartOf s.feed.accepted t.feed.accepted) where
   -- what covers a change is one of its key
-  covers_change : (items : List Item) → IsPartOf items t.feed.accepted → (c : ChangeRecord) (j : Item) → Contains items j → covers j (Changed c) ≡ true → (d : ChangeRecord) × (j ≡ Changed d) × (c.key ≡ d.key)
+  covers_change : (items : List Item) → IsPartOf items t.feed.accepted → (c : ChangeRecord) (j : Item) → Contains items j →
+      covers j (Changed c) ≡ true → (d : ChangeRecord) × (j ≡ Changed d) × (c.key ≡ d.key)
   covers_change items inside c (Changed d) h over = (d, refl, covers-key d c over)
   covers_change items inside c (Floored f) h over = absurd (floors f (inside (Floored f) h))
 
-  stays_held : (c : ChangeRecord) → Contains (held s) (Changed c) → ((d : ChangeRecord) → Contains t.feed.accepted (Changed d) → c.key ≡ d.key → Contains s.feed.accepted (Changed d)) → held_at (held t) c.key ≡ Some c
+  stays_held : (c : ChangeRecord) → Contains (held s) (Changed c) →
+      ((d : ChangeRecord) → Contains t.feed.accepted (Changed d) → c.key ≡ d.key → Contains s.feed.accepted (Changed d)) →
+      held_at (held t) c.key ≡ Some c
   stays_held c here old = by_held (held_at (held t) c.key) refl
     where
       held_s : IsPartOf (held s) t.feed.accepted
@@ -104,13 +116,17 @@ module _ (s t : State) (rs : IsReached s) (rt : IsReached t) (floors : HasNoFloo
           -- what covers `c` in the later state is `h`
           let over = (held_is_top t rt).greatest (Changed c) (held_s (Changed c) here) in
           let d = covers_change (held t) held_t c over.0 over.1 over.2 in
-          let one : d.0 ≡ h = one_change (held t) t.feed.accepted (held_is_top t rt) d.0 h (subst (λ (x : Item). Contains (held t) x) d.1 over.1) at.0 (sym d.2 ∙ at.1) in
-          let there : covers (Changed h) (Changed c) ≡ true = subst (λ (x : Item). covers x (Changed c) ≡ true) (d.1 ∙ ap Changed one) over.2 in
+          let one : d.0 ≡ h = one_change (held t) t.feed.accepted (held_is_top t rt) d.0 h
+          (subst (λ (x : Item). Contains (held t) x) d.1 over.1) at.0 (sym d.2 ∙ at.1) in
+          let there : covers (Changed h) (Changed c) ≡ true =
+          subst (λ (x : Item). covers x (Changed c) ≡ true) (d.1 ∙ ap Changed one) over.2 in
           -- what covers `h` in the earlier state is `c`
           let under = (held_is_top s rs).greatest (Changed h) (old h (held_t (Changed h) at.0) at.1) in
           let b = covers_change (held s) held_s h under.0 under.1 under.2 in
-          let same : b.0 ≡ c = one_change (held s) s.feed.accepted (held_is_top s rs) b.0 c (subst (λ (x : Item). Contains (held s) x) b.1 under.1) here (sym b.2 ∙ sym at.1) in
-          let back : covers (Changed c) (Changed h) ≡ true = subst (λ (x : Item). covers x (Changed h) ≡ true) (b.1 ∙ ap Changed same) under.2 in
+          let same : b.0 ≡ c = one_change (held s) s.feed.accepted (held_is_top s rs) b.0 c
+          (subst (λ (x : Item). Contains (held s) x) b.1 under.1) here (sym b.2 ∙ sym at.1) in
+          let back : covers (Changed c) (Changed h) ≡ true =
+          subst (λ (x : Item). covers x (Changed h) ≡ true) (b.1 ∙ ap Changed same) under.2 in
           ap Some (changed_same h c (rt.exact (Changed h) (Changed c) (held_t (Changed h) at.0) (held_s (Changed c) here) back there))
 
 -- no floor makes it void
@@ -136,17 +152,22 @@ no_floor_more t c floors f h = elim (Contains-push_cases t.feed.accepted (Change
   | inr e ↦ absurd (cc)
 ]
 
-are_free : (s t : State) (cs : List ChangeRecord) → IsReached s → IsReached t → HasNoFloor t → IsPartOf s.feed.accepted t.feed.accepted → ((c : ChangeRecord) → Contains cs c → TakesHeld s c) → KeysApart cs
-    → ((c d : ChangeRecord) → Contains cs c → Contains t.feed.accepted (Changed d) → c.key ≡ d.key → Contains s.feed.accepted (Changed d)) → next_position t + length cs ≤ last_place → AreFree t (map Changed cs)
+are_free : (s t : State) (cs : List ChangeRecord) → IsReached s → IsReached t → HasNoFloor t → IsPartOf s.feed.accepted t.feed.accepted →
+    ((c : ChangeRecord) → Contains cs c → TakesHeld s c) → KeysApart cs
+    → ((c d : ChangeRecord) → Contains cs c → Contains t.feed.accepted (Changed d) → c.key ≡ d.key → Contains s.feed.accepted (Changed d))
+    → next_position t + length cs ≤ last_place → AreFree t (map Changed cs)
 are_free s t [] rs rt floors part takes apart old left = tt
 are_free s t (c ∷ cs) rs rt floors part takes apart old left =
     let held_c = takes c (Contains-head c cs) in
     let here : held_at (held t) c.key ≡ Some held_c.over =
     subst (λ (k : Key). held_at (held t) k ≡ Some held_c.over) held_c.key
     (stays_held s t rs rt floors part held_c.over held_c.here (λ d h e. old c d (Contains-head c cs) h (sym held_c.key ∙ e))) in
-    let free : cause_of t (Changed c) ≡ None = none_against (standing_of t c) held_c.over c here held_c.place (none_void t rt floors c) (not_full (next_position t) (omega (arith, left))) in (
+    let free : cause_of t (Changed c) ≡ None =
+    none_against (standing_of t c) held_c.over c here held_c.place (none_void t rt floors c)
+    (not_full (next_position t) (omega (arith, left))) in (
       free,
-      are_free s (takes_effect t (Changed c ∷ [])) cs rs (reached_more t (Changed c) rt (item_news t (Changed c) rt free)) (no_floor_more t c floors)
+      are_free s (takes_effect t (Changed c ∷ [])) cs rs (reached_more t (Changed c) rt (item_news t (Changed c) rt free))
+          (no_floor_more t c floors)
           (λ i h. Contains-append_left t.feed.accepted (Changed c ∷ []) i (part i h))
           (λ d h. takes d (Contains-tail c cs d h)) apart.1
           (λ a d h k e. elim (Contains-push_cases t.feed.accepted (Changed c) (Changed d) k) [

@@ -1,5 +1,6 @@
 -- Every state stays within the limits.
-use Rattle.std.proofs.Common.{◌≡◌, ℕ, ◌+◌, ◌<◌, ◌≤◌, Bool, true, false, not, ◌&&◌, nat_le, List, [], ◌∷◌, ◌++◌, length, take, fold, filter, Option, Some, None, refl, ap, sym, subst, inl, inr, arith, Contains, length-append}
+use Rattle.std.proofs.Common.{◌≡◌, ℕ, ◌+◌, ◌<◌, ◌≤◌, Bool, true, false, not, ◌&&◌, nat_le, List, [], ◌∷◌, ◌++◌, length, take, fold, filter}
+use Rattle.std.proofs.Common.{Option, Some, None, refl, ap, sym, subst, inl, inr, arith, Contains, length-append}
 use Rattle.std.proofs.lemmas.Bool.{leb-false, not_from_true}
 use Rattle.std.specs.Ordering.{is_le}
 use Rattle.std.specs.Option.{option_map_or}
@@ -26,7 +27,8 @@ use Rattle.ds_machine.specs.Standing.{standing_of, floor_standing_of, HasRoom, c
 use Rattle.ds_machine.specs.Asking.{AskedChange, published, deleted, name_of, asked_in, cause_against, sweep_cause}
 use Rattle.ds_machine.specs.Calling.{SubscribeCase, against_subscribe, against_check, against_merge}
 use Rattle.ds_machine.specs.Merging.{Course, begun, item_merged, item_judged, merging}
-use Rattle.ds_machine.specs.Watching.{subscribing, subscribe_case, owed_at_first, shown_at_first, shows, has_unseen, check_case, checking, checking_at}
+use Rattle.ds_machine.specs.Watching.{subscribing, subscribe_case, owed_at_first, shown_at_first, shows, has_unseen, check_case, checking}
+use Rattle.ds_machine.specs.Watching.{checking_at}
 use Rattle.ds_machine.specs.Machine.{MergeWantsRoom, outcome, asking, answer_for, sweeping, sweep_answer}
 use Rattle.ds_machine.specs.Within.{IsWithin, OpeningIsWithin, StepsStayWithin, RunsStayWithin}
 use Rattle.ds_machine.specs.declared.refusal.Cause.{Cause}
@@ -34,12 +36,14 @@ use Rattle.ds_machine.specs.declared.refusal.Cause.TheVariants as causes
 use Rattle.ds_machine.specs.declared.refusal.Refusal.{Refusal}
 use Rattle.ds_machine.specs.declared.refusal.Refusal.TheVariants as refusals
 use Rattle.ds_machine.specs.declared.command.Command.{Command}
-use Rattle.ds_machine.specs.declared.command.Command.TheVariants.{Publish, Delete, Sweep, Retrieve, NameOf, Subscribe, Check, Since, Snapshot, Page, Merge}
+use Rattle.ds_machine.specs.declared.command.Command.TheVariants.{Publish, Delete, Sweep, Retrieve, NameOf, Subscribe, Check, Since}
+use Rattle.ds_machine.specs.declared.command.Command.TheVariants.{Snapshot, Page, Merge}
 use Rattle.ds_machine.specs.declared.reply.Reply.{Reply}
 use Rattle.ds_machine.specs.declared.reply.Reply.TheVariants.{Changed as Accepted, Swept, Subscribed, Refused}
 use Rattle.ds_machine.proofs.PartLemmas.{missing, key_found, owner_found}
 use Rattle.ds_machine.proofs.CauseLemmas.{change_free, asked_free, floor_is_free, sweep_is_free}
-use Rattle.ds_machine.proofs.CountLemmas.{total, change_weight, floor_weight, changes_total, floors_total, total_filter, total_dropped, most_after, fold_push}
+use Rattle.ds_machine.proofs.CountLemmas.{total, change_weight, floor_weight, changes_total, floors_total, total_filter, total_dropped}
+use Rattle.ds_machine.proofs.CountLemmas.{most_after, fold_push}
 use Rattle.ds_names.specs.Limits.{most_floors, last_place}
 
 -- ---- one more item takes effect
@@ -56,7 +60,8 @@ module _ (s : State) (w : IsWithin s) where
   few_floors = let n = floors_total (held s) in let l : length (floors_in (held s)) ≤ most_floors = w.floors in omega (arith, n, l)
 
   -- room for the change is there, or made
-  change_room : (c : ChangeRecord) (o : Option ChangeRecord) → held_at (held s) c.key ≡ o → HasRoom o (length (changes_in (held s))) s.limits.keys c
+  change_room : (c : ChangeRecord) (o : Option ChangeRecord) → held_at (held s) c.key ≡ o →
+      HasRoom o (length (changes_in (held s))) s.limits.keys c
       → 1 + total change_weight (filter (λ j. not (covers (Changed c) j)) (held s)) ≤ s.limits.keys
   unfolding change_weight
   change_room c None e room =
@@ -67,7 +72,8 @@ module _ (s : State) (w : IsWithin s) where
   change_room c (Some h) e room =
       let at = key_found (held s) c.key h e in
       let over : covers (Changed c) (Changed h) ≡ true = covers-make c h (sym at.1) room.0 (ap is_le room.1) in
-      let less : total change_weight (filter (λ j. not (covers (Changed c) j)) (held s)) + 1 ≤ total change_weight (held s) = total_dropped change_weight
+      let less : total change_weight (filter (λ j. not (covers (Changed c) j)) (held s)) + 1 ≤ total change_weight (held s) =
+      total_dropped change_weight
       (λ j. not (covers (Changed c) j)) (held s) (Changed h) at.0 (not_from_true (covers (Changed c) (Changed h)) over) in
       omega (arith, less, few_changes)
 
@@ -82,8 +88,10 @@ module _ (s : State) (w : IsWithin s) where
   floor_room f (Some g) e room =
       let at = owner_found (held s) f.owner g e in
       let low : g.generation < f.generation = room in
-      let over : covers (Floored f) (Floored g) ≡ true = below-make g.owner f.owner g.generation f.generation (sym at.1) (omega (arith, low)) in
-      let less : total floor_weight (filter (λ j. not (covers (Floored f) j)) (held s)) + 1 ≤ total floor_weight (held s) = total_dropped floor_weight
+      let over : covers (Floored f) (Floored g) ≡ true =
+      below-make g.owner f.owner g.generation f.generation (sym at.1) (omega (arith, low)) in
+      let less : total floor_weight (filter (λ j. not (covers (Floored f) j)) (held s)) + 1 ≤ total floor_weight (held s) =
+      total_dropped floor_weight
       (λ j. not (covers (Floored f) j)) (held s) (Floored g) at.0 (not_from_true (covers (Floored f) (Floored g)) over) in
       omega (arith, less, few_floors)
 
@@ -93,7 +101,8 @@ module _ (s : State) (w : IsWithin s) where
       let n = length-append s.feed.accepted (i ∷ []) in
       omega (arith, l, n)
 
-  within_by : (i : Item) → total change_weight (held_after (held s) i) ≤ s.limits.keys → total floor_weight (held_after (held s) i) ≤ most_floors → next_position s < last_place → IsWithin (takes_effect s (i ∷ []))
+  within_by : (i : Item) → total change_weight (held_after (held s) i) ≤ s.limits.keys →
+      total floor_weight (held_after (held s) i) ≤ most_floors → next_position s < last_place → IsWithin (takes_effect s (i ∷ []))
   within_by i few low left =
       let now : held (takes_effect s (i ∷ [])) ≡ held_after (held s) i = fold_push held_after [] s.feed.accepted i in
       let n = changes_total (held_after (held s) i) in
@@ -116,11 +125,14 @@ module _ (s : State) (w : IsWithin s) where
       let less = total_filter change_weight (λ j. not (covers (Floored f) j)) (held s) in
       within_by (Floored f)
       (most_after change_weight (held s) (Floored f) s.limits.keys few_changes (omega (arith, less, few_changes)))
-      (most_after floor_weight (held s) (Floored f) most_floors few_floors (floor_room f (floor_at (held s) f.owner) refl free.room)) free.left
+      (most_after floor_weight (held s) (Floored f) most_floors few_floors (floor_room f (floor_at (held s) f.owner) refl free.room))
+      free.left
 
   -- ---- a subscription was written
-  within_served : (sub : ℕ) (query : Query) (shown : List Item) → nat_le last_place s.stamp ≡ false → IsWithin (subscribes s sub query shown)
-  within_served sub query shown e = let l : s.stamp < last_place = leb-false last_place s.stamp e in record { keys = w.keys; floors = w.floors; position = w.position; stamp = omega (arith, l) }
+  within_served : (sub : ℕ) (query : Query) (shown : List Item) → nat_le last_place s.stamp ≡ false →
+      IsWithin (subscribes s sub query shown)
+  within_served sub query shown e = let l : s.stamp < last_place = leb-false last_place s.stamp e in
+      record { keys = w.keys; floors = w.floors; position = w.position; stamp = omega (arith, l) }
 
 item_place : (s : State) (i : Item) → cause_of s i ≡ None → HasPlace s i
 item_place s (Changed c) e = change_free (standing_of s c) c e
@@ -140,15 +152,18 @@ within_course (i ∷ items) k w = by_stop (λ x v. within_course items x v) k.st
     at : Option Refusal → Course
     at o = option_map_or {U = Course} (λ stop. k) o (item_judged k i (cause_of k.state i))
 
-    by_cause : ((x : Course) → IsWithin x.state → IsWithin (fold item_merged x items).state) → (o : Option Cause) → cause_of k.state i ≡ o → IsWithin (fold item_merged (item_judged k i o) items).state
+    by_cause : ((x : Course) → IsWithin x.state → IsWithin (fold item_merged x items).state) → (o : Option Cause) →
+        cause_of k.state i ≡ o → IsWithin (fold item_merged (item_judged k i o) items).state
     by_cause more None q = more (item_judged k i None) (within_more k.state w i (item_place k.state i q))
     by_cause more (Some causes.Known) q = more (item_judged k i (Some causes.Known)) w
     by_cause more (Some (causes.Refused refusals.Stale)) q = more (item_judged k i (Some (causes.Refused refusals.Stale))) w
     by_cause more (Some (causes.Refused fault)) q = more (record k { stop = Some fault }) w
 
-    by_stop : ((x : Course) → IsWithin x.state → IsWithin (fold item_merged x items).state) → (o : Option Refusal) → k.stop ≡ o → IsWithin (fold item_merged (item_merged k i) items).state
+    by_stop : ((x : Course) → IsWithin x.state → IsWithin (fold item_merged x items).state) → (o : Option Refusal) → k.stop ≡ o →
+        IsWithin (fold item_merged (item_merged k i) items).state
     by_stop more (Some stop) q = subst (λ (x : Course). IsWithin (fold item_merged x items).state) (sym (ap at q)) (more k w)
-    by_stop more None q = subst (λ (x : Course). IsWithin (fold item_merged x items).state) (sym (ap at q)) (by_cause more (cause_of k.state i) refl)
+    by_stop more None q = subst (λ (x : Course). IsWithin (fold item_merged x items).state) (sym (ap at q))
+        (by_cause more (cause_of k.state i) refl)
 
 -- ---- all commands
 module _ (s t : State) (w : IsWithin s) where
@@ -161,7 +176,9 @@ module _ (s t : State) (w : IsWithin s) where
       i : Item
       i = Changed (asked_in s a body)
 
-      by_cause : (o : Option Cause) → cause_against s a body ≡ o → t ≡ (option_map_or {U = Reply × State} (λ cause. (answer_for cause, s)) o (Accepted (owed s (i ∷ [])), takes_effect s (i ∷ []))).1 → IsWithin t
+      by_cause : (o : Option Cause) → cause_against s a body ≡ o →
+          t ≡ (option_map_or {U = Reply × State} (λ cause. (answer_for cause, s)) o
+          (Accepted (owed s (i ∷ [])), takes_effect s (i ∷ []))).1 → IsWithin t
       by_cause (Some cause) q f = same f
       by_cause None q f = subst IsWithin (sym f) (within_more s w i (asked_place s a body q))
 
@@ -185,10 +202,15 @@ module _ (s t : State) (w : IsWithin s) where
       x = subscribe_case s sub query overwrite
 
       by_cause : (o : Option Refusal) → first_refusal (against_subscribe x) ≡ o
-          → t ≡ (option_map_or {U = Reply × State} (λ refusal. (Refused refusal, s)) o (Subscribed (s.stamp + 1) (owed_at_first (held s) sub query initial), subscribes s sub query (shown_at_first (held s) initial))).1 → IsWithin t
+          → t ≡ (option_map_or {U = Reply × State} (λ refusal. (Refused refusal, s)) o (
+            Subscribed (s.stamp + 1) (owed_at_first (held s) sub query initial),
+            subscribes s sub query
+                (shown_at_first (held s) initial),
+          )).1 → IsWithin t
       by_cause (Some refusal) q f = same f
       by_cause None q f =
-          subst IsWithin (sym f) (within_served s w sub query (shown_at_first (held s) initial) (missing (against_subscribe x) (by_command ++ by_room) refusals.Worn q (15, omega arith, refl)))
+          subst IsWithin (sym f) (within_served s w sub query (shown_at_first (held s) initial)
+          (missing (against_subscribe x) (by_command ++ by_room) refusals.Worn q (15, omega arith, refl)))
 
   checked_within : (sub max : ℕ) → t ≡ (checking s sub max).1 → IsWithin t
   checked_within sub max e = by_seer (subscription_at s sub) e
@@ -198,18 +220,23 @@ module _ (s t : State) (w : IsWithin s) where
       and_right false b f g = absurd (cc)
 
       -- something is to be shown, so a stamp is left
-      stamp_left : (seer : Subscription) (i : Item) → Contains (take max (unseen s seer)) i → first_refusal (against_check (check_case s sub max (Some seer))) ≡ None → nat_le last_place s.stamp ≡ false
+      stamp_left : (seer : Subscription) (i : Item) → Contains (take max (unseen s seer)) i →
+          first_refusal (against_check (check_case s sub max (Some seer))) ≡ None → nat_le last_place s.stamp ≡ false
       stamp_left seer i h q =
           let from = Contains-from_filter (is_unseen seer.query seer.shown) (held s) i (Contains-from_take max (unseen s seer) i h) in
           let some : has_unseen s seer ≡ true = list_any-from_Contains (is_unseen seer.query seer.shown) (held s) i from.0 from.1 in
-          and_right (has_unseen s seer) (nat_le last_place s.stamp) (missing (against_check (check_case s sub max (Some seer))) (by_command ++ by_room) refusals.Worn q (15, omega arith, refl)) some
+          and_right (has_unseen s seer) (nat_le last_place s.stamp)
+          (missing (against_check (check_case s sub max (Some seer))) (by_command ++ by_room) refusals.Worn q (15, omega arith, refl)) some
 
-      by_items : (seer : Subscription) (items : List Item) → ((i : Item) → Contains items i → nat_le last_place s.stamp ≡ false) → t ≡ (shows s sub seer items).1 → IsWithin t
+      by_items : (seer : Subscription) (items : List Item) → ((i : Item) → Contains items i → nat_le last_place s.stamp ≡ false) →
+          t ≡ (shows s sub seer items).1 → IsWithin t
       by_items seer [] left f = same f
-      by_items seer (i ∷ items) left f = subst IsWithin (sym f) (within_served s w sub seer.query (seer.shown ++ i ∷ items) (left i (Contains-head i items)))
+      by_items seer (i ∷ items) left f = subst IsWithin (sym f)
+          (within_served s w sub seer.query (seer.shown ++ i ∷ items) (left i (Contains-head i items)))
 
       by_cause : (o : Option Subscription) (p : Option Refusal) → first_refusal (against_check (check_case s sub max o)) ≡ p
-          → t ≡ (option_map_or {U = Reply × State} (λ refusal. (Refused refusal, s)) p (option_map_or {U = Reply × State} (λ f. shows s sub f (take max (unseen s f))) o (Refused refusals.NotFound, s))).1 → IsWithin t
+          → t ≡ (option_map_or {U = Reply × State} (λ refusal. (Refused refusal, s)) p
+          (option_map_or {U = Reply × State} (λ f. shows s sub f (take max (unseen s f))) o (Refused refusals.NotFound, s))).1 → IsWithin t
       by_cause o (Some refusal) q f = same f
       by_cause None None q f = same f
       by_cause (Some seer) None q f = by_items seer (take max (unseen s seer)) (λ i h. stamp_left seer i h q) f
@@ -217,7 +244,8 @@ module _ (s t : State) (w : IsWithin s) where
       by_seer : (o : Option Subscription) → t ≡ (checking_at s sub max o).1 → IsWithin t
       by_seer o f = by_cause o (first_refusal (against_check (check_case s sub max o))) refl f
 
-  unread : {X : Type 0} (o : Option X) (f : X → Reply) (reply : Reply) → t ≡ (option_map_or {U = Reply × State} (λ x. (f x, s)) o (reply, s)).1 → IsWithin t
+  unread : {X : Type 0} (o : Option X) (f : X → Reply) (reply : Reply) →
+      t ≡ (option_map_or {U = Reply × State} (λ x. (f x, s)) o (reply, s)).1 → IsWithin t
   unread (Some x) f reply e = same e
   unread None f reply e = same e
 
@@ -254,7 +282,8 @@ steps_stay_within s t command reply w (inr wants) = wanting_within s t w command
 
 pub runs_stay_within : RunsStayWithin
 runs_stay_within s t [] [] w run = subst IsWithin (sym run) w
-runs_stay_within s t (command ∷ commands) (reply ∷ replies) w run = runs_stay_within run.0 t commands replies (steps_stay_within s run.0 command reply w run.1) run.2
+runs_stay_within s t (command ∷ commands) (reply ∷ replies) w run =
+    runs_stay_within run.0 t commands replies (steps_stay_within s run.0 command reply w run.1) run.2
 runs_stay_within s t [] (reply ∷ replies) w run = absurd run
 runs_stay_within s t (command ∷ commands) [] w run = absurd run
 
@@ -265,4 +294,5 @@ none_more : (m n : ℕ) → m ≤ n → m + 0 ≤ n
 none_more m n l = omega (arith, l)
 
 pub opening_is_within : OpeningIsWithin
-opening_is_within incarnation first ring limits l = record { keys = at_least_none limits.keys; floors = at_least_none most_floors; position = none_more first last_place l; stamp = l }
+opening_is_within incarnation first ring limits l =
+    record { keys = at_least_none limits.keys; floors = at_least_none most_floors; position = none_more first last_place l; stamp = l }

@@ -1,4 +1,5 @@
 pub mod Scope
+pub mod Copying
 pub mod Parts
 pub mod Subscription
 pub mod State

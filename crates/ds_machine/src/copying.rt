@@ -1,6 +1,7 @@
 //! Copies of commands and replies.
 
-ghost use Rattle.std.specs.Prelude.{◌≡◌, IfOk};
+ghost use Rattle.std.specs.Prelude.{◌≡◌, ◌≢◌, [], IfOk, OnErr};
+ghost use Rattle.ds_machine.specs.Copying.{CommandCopyTakesMemory, ReplyCopyTakesMemory, ScopeCopyTakesMemory};
 ghost use Rattle.ds_machine.specs.declared.reply.Reply.TheVariants.{Checked, Merged, MergeStopped};
 
 use crate::command::{Command, Scope};
@@ -12,9 +13,10 @@ use ds_names::NoRoom;
 use std::alloc::Global;
 
 impl Scope {
-    /// Returns a copy. Fails only if memory runs out.
+    /// Returns a copy. Fails only if memory runs out; without a pattern's text it takes none.
     pub fn copy(&self, alloc: Global) -> Result<Scope, NoRoom>
-        ensures { IfOk result (λ copy. copy ≡ self.now) }
+        ensures same { IfOk result (λ copy. copy ≡ self.now) }
+        ensures room { OnErr result (ScopeCopyTakesMemory self.now) }
     {
         match self {
             Scope::All => Ok(Scope::All),
@@ -24,9 +26,10 @@ impl Scope {
 }
 
 impl Command {
-    /// Returns a copy. Fails only if memory runs out.
+    /// Returns a copy. Fails only if memory runs out; only an item, a pattern's text, and a text or a blob that isn't empty take any.
     pub fn copy(&self, alloc: Global) -> Result<Command, NoRoom>
-        ensures { IfOk result (λ copy. copy ≡ self.now) }
+        ensures same { IfOk result (λ copy. copy ≡ self.now) }
+        ensures room { OnErr result (CommandCopyTakesMemory self.now) }
     {
         match self {
             Command::Publish {
@@ -130,7 +133,8 @@ fn stopped(done: usize, fault: Refusal, owed: u128) -> Reply
 }
 
 fn since_again(alloc: Global, since: &Since) -> Result<Since, NoRoom>
-    ensures { IfOk result (λ copy. copy ≡ since.now) }
+    ensures same { IfOk result (λ copy. copy ≡ since.now) }
+    ensures room { OnErr result (since.now.items ≢ []) }
 {
     Ok(Since {
         items: since.items.copy(alloc)?,
@@ -139,7 +143,8 @@ fn since_again(alloc: Global, since: &Since) -> Result<Since, NoRoom>
 }
 
 fn snapshot_again(alloc: Global, snapshot: &Snapshot) -> Result<Snapshot, NoRoom>
-    ensures { IfOk result (λ copy. copy ≡ snapshot.now) }
+    ensures same { IfOk result (λ copy. copy ≡ snapshot.now) }
+    ensures room { OnErr result (snapshot.now.items ≢ []) }
 {
     Ok(Snapshot {
         items: snapshot.items.copy(alloc)?,
@@ -148,7 +153,8 @@ fn snapshot_again(alloc: Global, snapshot: &Snapshot) -> Result<Snapshot, NoRoom
 }
 
 fn page_again(alloc: Global, page: &Page) -> Result<Page, NoRoom>
-    ensures { IfOk result (λ copy. copy ≡ page.now) }
+    ensures same { IfOk result (λ copy. copy ≡ page.now) }
+    ensures room { OnErr result (page.now.items ≢ []) }
 {
     Ok(Page {
         items: page.items.copy(alloc)?,
@@ -158,9 +164,10 @@ fn page_again(alloc: Global, page: &Page) -> Result<Page, NoRoom>
 }
 
 impl Reply {
-    /// Returns a copy. Fails only if memory runs out.
+    /// Returns a copy. Fails only if memory runs out; only an item, a pattern's text, and a text or a blob that isn't empty take any.
     pub fn copy(&self, alloc: Global) -> Result<Reply, NoRoom>
-        ensures { IfOk result (λ copy. copy ≡ self.now) }
+        ensures same { IfOk result (λ copy. copy ≡ self.now) }
+        ensures room { OnErr result (ReplyCopyTakesMemory self.now) }
     {
         match self {
             Reply::Changed { owed } => Ok(Reply::Changed { owed: *owed }),

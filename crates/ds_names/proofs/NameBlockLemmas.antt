@@ -1,5 +1,6 @@
 -- Filling a name's block byte by byte, and the name at the front of bytes.
-use Rattle.std.proofs.Common.{◌≡◌, ℕ, suc, ◌+◌, ◌-◌, ◌<◌, ◌≤◌, true, List, [], ◌∷◌, ◌++◌, length, get_or, take, drop, replicate, sym, ap, ◌∙◌, append_assoc, append-nil, arith}
+use Rattle.std.proofs.Common.{◌≡◌, ℕ, suc, ◌+◌, ◌-◌, ◌<◌, ◌≤◌, true, List, [], ◌∷◌, ◌++◌, length, get_or, take, drop, replicate, sym, ap}
+use Rattle.std.proofs.Common.{◌∙◌, append_assoc, append-nil, arith}
 use Rattle.std.proofs.Math.ListN.{set}
 use Rattle.std.specs.List.{list_all, prefix_len}
 use Rattle.std.proofs.lemmas.List.{length-take-le, length-replicate, length-append, set_at, take_more, take_at, drop_at, take-append-drop}
@@ -30,18 +31,25 @@ run_kept bytes block len run some most is =
     let name : IsName (take len bytes) = record { some = rw within some; limit = rw within most; allowed = good } in
     let front : take len block ≡ take len bytes = ap (take len) is ∙ take_at (take len bytes) (replicate (64 - len) 0) len within in
     let past : drop len block ≡ replicate (64 - len) 0 = ap (drop len) is ∙ drop_at (take len bytes) (replicate (64 - len) 0) len within in
-    let long : length block ≡ 64 = ap length is ∙ length-append (take len bytes) (replicate (64 - len) 0) ∙ ap (λ (n : ℕ). length (take len bytes) + n) (length-replicate (64 - len) 0) ∙ omega (arith, within, most) in
+    let long : length block ≡ 64 = ap length is ∙ length-append (take len bytes) (replicate (64 - len) 0) ∙
+    ap (λ (n : ℕ). length (take len bytes) + n) (length-replicate (64 - len) 0) ∙ omega (arith, within, most) in
     (front, name, record { whole = long; fits = most; name = rw front name; zeros = past })
 
 -- The bytes begin with their leading run.
-pub run_begins : (bytes name : List ℕ) → name ≡ take (prefix_len is_name_byte bytes) bytes → Begins is_name_byte bytes name (drop (length name) bytes)
+pub run_begins : (bytes name : List ℕ) → name ≡ take (prefix_len is_name_byte bytes) bytes →
+    Begins is_name_byte bytes name (drop (length name) bytes)
 run_begins bytes name is =
     let n : ℕ = prefix_len is_name_byte bytes in
     let len : length name ≡ n = ap length is ∙ length-prefix_len is_name_byte bytes in
-    record { parts = rw (is, length-prefix_len is_name_byte bytes) (sym (take-append-drop n bytes)); ends = rw len (run_parts is_name_byte bytes).1 }
+    record {
+      parts = rw (is, length-prefix_len is_name_byte bytes) (sym (take-append-drop n bytes));
+      ends =
+          rw len (run_parts is_name_byte bytes).1;
+    }
 
 -- A name at the front is the leading run.
-pub name_is_run : (bytes name rest : List ℕ) → IsName name → Begins is_name_byte bytes name rest → prefix_len is_name_byte bytes ≡ length name
+pub name_is_run : (bytes name rest : List ℕ) → IsName name → Begins is_name_byte bytes name rest →
+    prefix_len is_name_byte bytes ≡ length name
 name_is_run bytes name rest is begins = ap (prefix_len is_name_byte) begins.parts ∙ run_is is_name_byte name rest is.allowed begins.ends
 
 -- a name begins itself

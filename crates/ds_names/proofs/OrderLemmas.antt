@@ -38,4 +38,5 @@ pub versions_total : IsTotalOrder version_cmp
 versions_total = then_total (on_total (λ v. v.epoch) nat_cmp_total) (on_total (λ v. v.seq) nat_cmp_total)
 
 pub exact_versions : CmpEqualImpliesEq version_cmp
-exact_versions a b h = ap (λ (p : ℕ × ℕ). record { epoch = p.0; seq = p.1 }) (exact_pairs nat_cmp nat_cmp exact_unsigned exact_unsigned (a.epoch, a.seq) (b.epoch, b.seq) h)
+exact_versions a b h = ap (λ (p : ℕ × ℕ). record { epoch = p.0; seq = p.1 })
+    (exact_pairs nat_cmp nat_cmp exact_unsigned exact_unsigned (a.epoch, a.seq) (b.epoch, b.seq) h)

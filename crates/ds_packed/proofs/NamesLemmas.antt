@@ -1,5 +1,6 @@
 -- The names of a change, appended to bytes.
-use Rattle.std.proofs.Common.{◌≡◌, ℕ, ◌+◌, ◌≤◌, ◌==◌, true, List, [], ◌++◌, length, take, drop, refl, sym, ap, ◌∙◌, arith, append_assoc, append-nil}
+use Rattle.std.proofs.Common.{◌≡◌, ℕ, ◌+◌, ◌≤◌, ◌==◌, true, List, [], ◌++◌, length, take, drop, refl, sym, ap, ◌∙◌, arith, append_assoc}
+use Rattle.std.proofs.Common.{append-nil}
 use Rattle.std.specs.List.{starts_with}
 use Rattle.std.proofs.Math.Nat.{max-eq_left, max-eq_right}
 use Rattle.std.proofs.lemmas.Bool.Decides.{Decides-eqb}
@@ -13,10 +14,12 @@ module _ (change : ChangeRecord) (old new : List ℕ) (n o : ℕ) (n_is : n ≡ 
   name = change.key.name
 
   -- the key's name begins with the owner's
-  pub inside : true ≡ starts_with ◌==◌ name change.owner → new ≡ old ++ name → AddsNames change (record { name = n; owner_from = 0; owner = o }) old new
+  pub inside : true ≡ starts_with ◌==◌ name change.owner → new ≡ old ++ name →
+      AddsNames change (record { name = n; owner_from = 0; owner = o }) old new
   inside starts e =
       let front : name ≡ change.owner ++ drop (length change.owner) name = (starts_is Decides-eqb name change.owner true starts).0 refl in
-      let all : length name ≡ length change.owner + length (drop (length change.owner) name) = ap length front ∙ length-append change.owner (drop (length change.owner) name) in
+      let all : length name ≡ length change.owner + length (drop (length change.owner) name) =
+      ap length front ∙ length-append change.owner (drop (length change.owner) name) in
       let within : 0 + o ≤ n = omega (arith, all, n_is, o_is) in
       record {
         names = name;
@@ -36,5 +39,6 @@ module _ (change : ChangeRecord) (old new : List ℕ) (n o : ℕ) (n_is : n ≡ 
         added = e ∙ append_assoc old name change.owner;
         length_is = all ∙ sym (max-eq_right more);
         name_is = take_at name change.owner n (sym n_is);
-        owner_is = ap (take o) (drop_at name change.owner n (sym n_is) ∙ sym (append-nil change.owner)) ∙ take_at change.owner [] o (sym o_is);
+        owner_is = ap (take o) (drop_at name change.owner n (sym n_is) ∙ sym (append-nil change.owner)) ∙
+            take_at change.owner [] o (sym o_is);
       }

@@ -45,17 +45,20 @@ rows_after names r rs h = record {
 
 -- ---- one row more
 -- Bytes after a change's names aren't looked at.
-named_front : (names more : List ℕ) (place : Names) (kind : Kind) (version : Version) (body : Body) → names_length place ≤ length names → named (names ++ more) place kind version body ≡ named names place kind version body
+named_front : (names more : List ℕ) (place : Names) (kind : Kind) (version : Version) (body : Body) → names_length place ≤ length names →
+    named (names ++ more) place kind version body ≡ named names place kind version body
 named_front names more place kind version body l =
     let at : place.owner_from + place.owner ≤ length names = omega (arith, l, le-max_right place.name (place.owner_from + place.owner)) in
     ap (λ n. change_of (record { name = n; kind = kind }) (owner_in (names ++ more) place) version body)
     (take-append-le place.name names more (omega (arith, l, le-max_left place.name (place.owner_from + place.owner))))
     ∙ ap (λ o. change_of (record { name = key_name_in names place; kind = kind }) o version body)
-    (ap (take place.owner) (drop-append-le place.owner_from names more (omega (arith, at))) ∙ take-append-le place.owner (drop place.owner_from names) more (omega (arith, at, length-drop place.owner_from names)))
+    (ap (take place.owner) (drop-append-le place.owner_from names more (omega (arith, at))) ∙
+    take-append-le place.owner (drop place.owner_from names) more (omega (arith, at, length-drop place.owner_from names)))
 
 -- Nor are those after a row's.
 row_item_front : (names more : List ℕ) (r : Row) → row_length r ≤ length names → row_item (names ++ more) r ≡ row_item names r
-row_item_front names more (rows.Label name slot generation) l = ap (λ n. Changed (labelled n (endpoint_of generation slot))) (take-append-le name names more l)
+row_item_front names more (rows.Label name slot generation) l =
+    ap (λ n. Changed (labelled n (endpoint_of generation slot))) (take-append-le name names more l)
 row_item_front names more (rows.U32 place version number) l = ap Changed (named_front names more place kinds.U32 version _ l)
 row_item_front names more (rows.Gone place version kind) l = ap Changed (named_front names more place kind version _ l)
 row_item_front names more (rows.Floor owner generation) l = ap (λ o. Floored (floor_of o generation)) (take-append-le owner names more l)
@@ -65,7 +68,8 @@ pub record Pushed (names : List ℕ) (rs : List Row) (r : Row) (i : Item) (new :
   pub items : unpacked new (rs ++ r ∷ []) ≡ unpacked names rs ++ i ∷ []
   pub fit : AreRows new (rs ++ r ∷ [])
 
-pub rows_push : (names : List ℕ) (rs : List Row) (r : Row) (i : Item) (new : List ℕ) → AreRows names rs → AddsRow i r names new → IsItem i → Pushed names rs r i new
+pub rows_push : (names : List ℕ) (rs : List Row) (r : Row) (i : Item) (new : List ℕ) → AreRows names rs → AddsRow i r names new →
+    IsItem i → Pushed names rs r i new
 rows_push names [] r i new fit a is =
     let e = a.added ∙ ap (λ ns. ns ++ a.names) (nil_from_length names fit.whole) in
     let f = ap (λ ns. row_item ns r) e ∙ a.item_is in
@@ -77,7 +81,8 @@ rows_push names [] r i new fit a is =
 rows_push names (r0 ∷ rs) r i new fit a is =
     let e = ap (λ ns. row_item ns r0) a.added ∙ row_item_front names a.names r0 fit.there.0 in
     let f = ap (drop (row_length r0)) a.added ∙ drop-append-le (row_length r0) names a.names fit.there.0 in
-    let b : AddsRow i r (drop (row_length r0) names) (drop (row_length r0) new) = record { names = a.names; added = f; length_is = a.length_is; item_is = a.item_is } in
+    let b : AddsRow i r (drop (row_length r0) names) (drop (row_length r0) new) =
+    record { names = a.names; added = f; length_is = a.length_is; item_is = a.item_is } in
     let p = rows_push (drop (row_length r0) names) rs r i (drop (row_length r0) new) (rows_after names r0 rs fit) b is in
     let l : length new ≡ length names + length a.names = ap length a.added ∙ length-append names a.names in
     record {
@@ -88,5 +93,6 @@ rows_push names (r0 ∷ rs) r i new fit a is =
       };
     }
 
-pub rows_fit : (names : List ℕ) (rs all : List Row) (r : Row) (i : Item) (new : List ℕ) → AreRows names rs → AddsRow i r names new → IsItem i → all ≡ rs ++ r ∷ [] → AreRows new all
+pub rows_fit : (names : List ℕ) (rs all : List Row) (r : Row) (i : Item) (new : List ℕ) → AreRows names rs → AddsRow i r names new →
+    IsItem i → all ≡ rs ++ r ∷ [] → AreRows new all
 rows_fit names rs all r i new fit a is e = subst (AreRows new) (sym e) (rows_push names rs r i new fit a is).fit

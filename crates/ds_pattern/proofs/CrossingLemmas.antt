@@ -12,20 +12,24 @@ use Rattle.ds_pattern.specs.contracts.filter.Filter.TheInside as in_filter
 
 pattern_send : IsSend Pattern.the_row
 pattern_send =
-    let inside : IsSend in_pattern.the_row = declared_send in_pattern.the_type (search (sendable, maps.crosses) depth 40, (search (sendable, crosses, nfa.the_field_send) depth 40, (search sendable depth 40, tt))) in
+    let inside : IsSend in_pattern.the_row = declared_send in_pattern.the_type
+    (search (sendable, maps.crosses) depth 40, (search (sendable, crosses, nfa.the_field_send) depth 40, (search sendable depth 40, tt))) in
     search (inside, sendable) depth 40
 
 pub filter_send : IsSend Filter.the_row
 filter_send =
-    let inside : IsSend in_filter.the_row = declared_send in_filter.the_type (search (pattern_send, sendable) depth 40, (search (kinds.the_send, sendable) depth 40, tt)) in
+    let inside : IsSend in_filter.the_row = declared_send in_filter.the_type
+    (search (pattern_send, sendable) depth 40, (search (kinds.the_send, sendable) depth 40, tt)) in
     search (inside, sendable) depth 40
 
 pattern_sync : IsSync Pattern.the_row
 pattern_sync =
-    let inside : IsSync in_pattern.the_row = declared_sync in_pattern.the_type (search (sendable, maps.crosses) depth 40, (search (sendable, crosses, nfa.the_field_sync) depth 40, (search sendable depth 40, tt))) in
+    let inside : IsSync in_pattern.the_row = declared_sync in_pattern.the_type
+    (search (sendable, maps.crosses) depth 40, (search (sendable, crosses, nfa.the_field_sync) depth 40, (search sendable depth 40, tt))) in
     search (inside, sendable) depth 40
 
 pub filter_sync : IsSync Filter.the_row
 filter_sync =
-    let inside : IsSync in_filter.the_row = declared_sync in_filter.the_type (search (pattern_sync, sendable) depth 40, (search (kinds.the_sync, sendable) depth 40, tt)) in
+    let inside : IsSync in_filter.the_row = declared_sync in_filter.the_type
+    (search (pattern_sync, sendable) depth 40, (search (kinds.the_sync, sendable) depth 40, tt)) in
     search (inside, sendable) depth 40

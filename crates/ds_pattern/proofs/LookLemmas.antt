@@ -1,6 +1,7 @@
 -- At each place of a text of ASCII, an assertion about words of Unicode holds exactly if the same one about words of
 -- ASCII does.
-use Rattle.std.proofs.Common.{◌≡◌, ◌⊎◌, ℕ, zero, suc, ◌+◌, ◌-◌, ◌<◌, ◌≤◌, Bool, true, false, ◌&&◌, ◌||◌, not, List, length, get_or, Option, None, Some, is_some, if◌then◌else◌, refl, ◌∙◌, inl, inr, arith}
+use Rattle.std.proofs.Common.{◌≡◌, ◌⊎◌, ℕ, zero, suc, ◌+◌, ◌-◌, ◌<◌, ◌≤◌, Bool, true, false, ◌&&◌, ◌||◌, not, List, length, get_or, Option}
+use Rattle.std.proofs.Common.{None, Some, is_some, if◌then◌else◌, refl, ◌∙◌, inl, inr, arith}
 use Rattle.std.specs.Prelude.{nat_le, ◌==◌, slice_get}
 use Rattle.std.specs.Char.{len_utf8}
 use Rattle.std.specs.Str.{IsAscii}
@@ -11,7 +12,8 @@ use Rattle.ucd_perl.proofs.PerlLemmas.{is_word_char-ascii}
 use Rattle.regex_hir.specs.Looks.{holds, holds_between}
 use Rattle.regex_hir.specs.Text.{is_some_and, byte_before, char_at, char_before, char_of_len_before}
 use Rattle.regex_hir.specs.declared.look.Look.TheVariants as look
-use Rattle.regex_hir.proofs.TextLemmas.{byte_before-zero, byte_before-add-one, char_at_ascii, char_at_fits, char_at_past, char_before-zero, char_before_ascii}
+use Rattle.regex_hir.proofs.TextLemmas.{byte_before-zero, byte_before-add-one, char_at_ascii, char_at_fits, char_at_past, char_before-zero}
+use Rattle.regex_hir.proofs.TextLemmas.{char_before_ascii}
 use Rattle.ds_pattern.specs.Narrow.{HoldsInAscii}
 
 byte_below : (text : List ℕ) (i b : ℕ) → IsAscii text → slice_get text i ≡ Some b → b < 128
@@ -36,7 +38,8 @@ kept_out (Some c) n i room fits past = rw (too_long n i (len_utf8 c) room (fits 
 none_before : (text : List ℕ) (i : ℕ) → length text < i → char_before text i ≡ None
 unfolding char_before
 none_before text i past =
-    let none : (n : ℕ) → char_of_len_before text n i ≡ None = λ n. kept_out _ n i (length text) (λ c e. char_at_fits text (i - n) c e) past in
+    let none : (n : ℕ) → char_of_len_before text n i ≡ None = λ n.
+    kept_out _ n i (length text) (λ c e. char_at_fits text (i - n) c e) past in
     rw (none 1, none 2, none 3, none 4) refl
 
 -- What an assertion looks at on one side, the byte and the character there: a word of Unicode exactly if one of
@@ -53,7 +56,8 @@ at_edge byte char one two = rw (one, two) (record { word = refl; whole = refl })
 
 after : (text : List ℕ) → IsAscii text → (i : ℕ) → AgreesInAscii (slice_get text i) (char_at text i)
 after text ascii i = at (slice_get_cases text i).1 where
-  at : (((x : ℕ) × (i < length text) × (slice_get text i ≡ Some x) × (get_or text i x ≡ x)) ⊎ ((length text ≤ i) × (slice_get text i ≡ None))) → AgreesInAscii (slice_get text i) (char_at text i)
+  at : (((x : ℕ) × (i < length text) × (slice_get text i ≡ Some x) × (get_or text i x ≡ x)) ⊎
+      ((length text ≤ i) × (slice_get text i ≡ None))) → AgreesInAscii (slice_get text i) (char_at text i)
   at (inl h) =
       let small = byte_below text i h.0 ascii h.2 in
       at_byte _ _ h.0 h.2 (char_at_ascii text i h.0 h.2 small) small
@@ -65,7 +69,8 @@ before text ascii (suc i) = at (slice_get_cases text i).1 where
   next : byte_before text (suc i) ≡ slice_get text i
   next = let step : suc i ≡ i + 1 = omega arith in rw step (byte_before-add-one text i)
 
-  at : (((x : ℕ) × (i < length text) × (slice_get text i ≡ Some x) × (get_or text i x ≡ x)) ⊎ ((length text ≤ i) × (slice_get text i ≡ None))) → AgreesInAscii (byte_before text (suc i)) (char_before text (suc i))
+  at : (((x : ℕ) × (i < length text) × (slice_get text i ≡ Some x) × (get_or text i x ≡ x)) ⊎
+      ((length text ≤ i) × (slice_get text i ≡ None))) → AgreesInAscii (byte_before text (suc i)) (char_before text (suc i))
   at (inl h) =
       let small = byte_below text i h.0 ascii h.2 in
       let read = next ∙ h.2 in
@@ -79,7 +84,8 @@ word text ascii i = rw ((before text ascii i).word, (after text ascii i).word) r
 
 pub no_word : HoldsInAscii look.WordAsciiNegate look.WordUnicodeNegate
 unfolding holds holds_between
-no_word text ascii i = rw ((before text ascii i).word, (after text ascii i).word, (before text ascii i).whole, (after text ascii i).whole) refl
+no_word text ascii i = rw ((before text ascii i).word, (after text ascii i).word, (before text ascii i).whole, (after text ascii i).whole)
+    refl
 
 pub word_start : HoldsInAscii look.WordStartAscii look.WordStartUnicode
 unfolding holds holds_between

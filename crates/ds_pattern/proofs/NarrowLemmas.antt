@@ -1,5 +1,6 @@
 -- In a text of ASCII, a pattern with reduced classes and assertions and without groups matches where the pattern did.
-use Rattle.std.proofs.Common.{Vec, Box, Global, Result, Ok, Err, IfOk, ◌≡◌, ℕ, zero, suc, ◌+◌, ◌-◌, ◌*◌, ◌<◌, ◌≤◌, min, Bool, true, false, ◌&&◌, ◌||◌, List, [], ◌∷◌, ◌++◌, map, take, drop}
+use Rattle.std.proofs.Common.{Vec, Box, Global, Result, Ok, Err, IfOk, ◌≡◌, ℕ, zero, suc, ◌+◌, ◌-◌, ◌*◌, ◌<◌, ◌≤◌, min, Bool, true, false}
+use Rattle.std.proofs.Common.{◌&&◌, ◌||◌, List, [], ◌∷◌, ◌++◌, map, take, drop}
 use Rattle.std.proofs.Common.{length, get_or, Option, None, Some, is_some, if◌then◌else◌, nat_lt, ⊎_elim, refl, sym, ap, ◌∙◌, arith}
 use Rattle.std.specs.Prelude.{nat_le, slice_index, slice_get, option_and_then, encode_utf8}
 use Rattle.std.specs.Option.{option_or}
@@ -15,13 +16,15 @@ use native.Mathlib.Numerals.{unary_clauses}
 use Rattle.regex_class.specs.declared.Class.{Class}
 use Rattle.regex_class.specs.Ranges.{Range, in_range, in_ranges, HasExactly}
 use Rattle.regex_hir.specs.Meaning.{meaning, cat_all, alt_all, optional, copies, up_to, at_least, repeat}
-use Rattle.regex_hir.specs.Re.{Re, Trace, Rest, empty, literal, byte_in, char_in, look, cat, alt, group, plus, write, prefer, rounds, attempt}
+use Rattle.regex_hir.specs.Re.{Re, Trace, Rest, empty, literal, byte_in, char_in, look, cat, alt, group, plus, write, prefer, rounds}
+use Rattle.regex_hir.specs.Re.{attempt}
 use Rattle.regex_hir.specs.Text.{char_at, is_scalar, is_some_and, has_bytes_at}
 use Rattle.regex_hir.specs.Looks.{holds}
 use Rattle.regex_hir.specs.declared.look.Look.{Look}
 use Rattle.regex_hir.specs.declared.hir.Hir.{Hir}
 use Rattle.regex_hir.specs.declared.hir.Hir.TheVariants as hir
-use Rattle.regex_hir.proofs.MeaningLemmas.{meaning-Empty, meaning-Literal, meaning-Bytes, meaning-Chars, meaning-Look, meaning-Repetition, meaning-Capture, meaning-Concat, meaning-Alternation}
+use Rattle.regex_hir.proofs.MeaningLemmas.{meaning-Empty, meaning-Literal, meaning-Bytes, meaning-Chars, meaning-Look, meaning-Repetition}
+use Rattle.regex_hir.proofs.MeaningLemmas.{meaning-Capture, meaning-Concat, meaning-Alternation}
 use Rattle.ds_pattern.specs.Narrow.{SameAscii, SameInAscii, EachSame, HoldsInAscii}
 
 -- What follows `xs` is tried after them.
@@ -32,18 +35,21 @@ either : {T : Type 0} (o p : Option T) → is_some (option_or o p) ≡ (is_some 
 either None p = refl
 either (Some x) p = refl
 
-either_alike : {T : Type 0} (o p q r : Option T) → is_some o ≡ is_some q → is_some p ≡ is_some r → is_some (option_or o p) ≡ is_some (option_or q r)
+either_alike : {T : Type 0} (o p q r : Option T) → is_some o ≡ is_some q → is_some p ≡ is_some r →
+    is_some (option_or o p) ≡ is_some (option_or q r)
 either_alike o p q r one two = either o p ∙ rw (one, two) refl ∙ sym (either q r)
 
 written : (slot i : ℕ) (o : Option Trace) → is_some (write slot i o) ≡ is_some o
 written slot i None = refl
 written slot i (Some t) = refl
 
-preferred : (greedy : Bool) (o p q r : Option Trace) → is_some o ≡ is_some q → is_some p ≡ is_some r → is_some (prefer greedy o p) ≡ is_some (prefer greedy q r)
+preferred : (greedy : Bool) (o p q r : Option Trace) → is_some o ≡ is_some q → is_some p ≡ is_some r →
+    is_some (prefer greedy o p) ≡ is_some (prefer greedy q r)
 preferred true o p q r one two = either_alike o p q r one two
 preferred false o p q r one two = either_alike p o r q two one
 
-chosen : (test : Bool) (o p q r : Option Trace) → is_some o ≡ is_some q → is_some p ≡ is_some r → is_some (if test then o else p) ≡ is_some (if test then q else r)
+chosen : (test : Bool) (o p q r : Option Trace) → is_some o ≡ is_some q → is_some p ≡ is_some r →
+    is_some (if test then o else p) ≡ is_some (if test then q else r)
 chosen true o p q r one two = one
 chosen false o p q r one two = two
 
@@ -53,11 +59,13 @@ same_empty text ascii k l alike i = alike i
 
 same_literal : (bytes : List ℕ) → SameInAscii (literal bytes) (literal bytes)
 unfolding attempt
-same_literal bytes text ascii k l alike i = chosen (has_bytes_at text i bytes) (k (i + length bytes)) None (l (i + length bytes)) None (alike (i + length bytes)) refl
+same_literal bytes text ascii k l alike i =
+    chosen (has_bytes_at text i bytes) (k (i + length bytes)) None (l (i + length bytes)) None (alike (i + length bytes)) refl
 
 same_bytes : (rs : List Range) → SameInAscii (byte_in rs) (byte_in rs)
 unfolding attempt
-same_bytes rs text ascii k l alike i = chosen (is_some_and (slice_get text i) (in_ranges rs)) (k (i + 1)) None (l (i + 1)) None (alike (i + 1)) refl
+same_bytes rs text ascii k l alike i = chosen (is_some_and (slice_get text i) (in_ranges rs)) (k (i + 1)) None (l (i + 1)) None
+    (alike (i + 1)) refl
 
 same_look : (a b : Look) → HoldsInAscii a b → SameInAscii (look a) (look b)
 unfolding attempt
@@ -119,7 +127,8 @@ same_at_least : (greedy : Bool) (n : ℕ) (a b : Re) → SameInAscii a b → Sam
 same_at_least greedy zero a b one = same_optional greedy _ _ (same_plus greedy a b one)
 same_at_least greedy (suc n) a b one = same_copies n _ _ _ _ one (same_plus greedy a b one)
 
-same_repeat : (least : ℕ) (most : Option ℕ) (greedy : Bool) (a b : Re) → SameInAscii a b → SameInAscii (repeat least most greedy a) (repeat least most greedy b)
+same_repeat : (least : ℕ) (most : Option ℕ) (greedy : Bool) (a b : Re) → SameInAscii a b →
+    SameInAscii (repeat least most greedy a) (repeat least most greedy b)
 unfolding repeat
 same_repeat least None greedy a b one = same_at_least greedy least a b one
 same_repeat least (Some most) greedy a b one = same_copies least a b _ _ one (same_up_to greedy (most - least) a b one)
@@ -132,7 +141,8 @@ front_of_ascii (b ∷ rest) ascii =
     omega (arith, small)
 
 char_of_ascii : (text : List ℕ) (i : ℕ) → IsAscii text → slice_index (chars (drop i text)) 0 ≤ 0x7F
-char_of_ascii text i ascii = rw (chars-IsAscii (drop i text) (IsAscii-drop text i ascii)) (front_of_ascii (drop i text) (IsAscii-drop text i ascii))
+char_of_ascii text i ascii = rw (chars-IsAscii (drop i text) (IsAscii-drop text i ascii))
+    (front_of_ascii (drop i text) (IsAscii-drop text i ascii))
 
 char_alike : (there : Bool) (c : ℕ) (rs ss : List Range) (k l : Rest) (i : ℕ) → in_ranges rs c ≡ in_ranges ss c → Alike k l →
     is_some (option_and_then (λ c. if in_ranges rs c then k (i + len_utf8 c) else None) (if there then Some c else None))
@@ -163,34 +173,43 @@ narrow_literal new old same = rw (meaning-Literal new, meaning-Literal old, same
 pub narrow_bytes : (new old : Class) → new.ranges.items ≡ old.ranges.items → SameInAscii (meaning (hir.Bytes new)) (meaning (hir.Bytes old))
 narrow_bytes new old same = rw (meaning-Bytes new, meaning-Bytes old, same) (same_bytes old.ranges.items)
 
-pub narrow_chars : (new old : Class) → SameAscii new.ranges.items old.ranges.items → SameInAscii (meaning (hir.Chars new)) (meaning (hir.Chars old))
+pub narrow_chars : (new old : Class) → SameAscii new.ranges.items old.ranges.items →
+    SameInAscii (meaning (hir.Chars new)) (meaning (hir.Chars old))
 narrow_chars new old members = rw (meaning-Chars new, meaning-Chars old) (same_chars new.ranges.items old.ranges.items members)
 
 pub narrow_look : (new old : Look) → HoldsInAscii new old → SameInAscii (meaning (hir.Look new)) (meaning (hir.Look old))
 narrow_look new old one = rw (meaning-Look new, meaning-Look old) (same_look new old one)
 
-pub narrow_repetition : (least : ℕ) (most : Option ℕ) (greedy : Bool) (new old : Box Hir Global) → SameInAscii (meaning new.value) (meaning old.value) →
+pub narrow_repetition : (least : ℕ) (most : Option ℕ) (greedy : Bool) (new old : Box Hir Global) →
+    SameInAscii (meaning new.value) (meaning old.value) →
     SameInAscii (meaning (hir.Repetition least most greedy new)) (meaning (hir.Repetition least most greedy old))
 narrow_repetition least most greedy new old same =
-    rw (meaning-Repetition least most greedy new, meaning-Repetition least most greedy old) (same_repeat least most greedy (meaning new.value) (meaning old.value) same)
+    rw (meaning-Repetition least most greedy new, meaning-Repetition least most greedy old)
+    (same_repeat least most greedy (meaning new.value) (meaning old.value) same)
 
-narrow_capture : (n : ℕ) (new : Hir) (old : Box Hir Global) → SameInAscii (meaning new) (meaning old.value) → SameInAscii (meaning new) (meaning (hir.Capture n old))
+narrow_capture : (n : ℕ) (new : Hir) (old : Box Hir Global) → SameInAscii (meaning new) (meaning old.value) →
+    SameInAscii (meaning new) (meaning (hir.Capture n old))
 narrow_capture n new old same = rw (meaning-Capture n old) (same_group n (meaning new) (meaning old.value) same)
 
-pub narrow_concat : (new old : Vec Hir Global) → EachSame (map meaning new.items) (map meaning old.items) → SameInAscii (meaning (hir.Concat new)) (meaning (hir.Concat old))
+pub narrow_concat : (new old : Vec Hir Global) → EachSame (map meaning new.items) (map meaning old.items) →
+    SameInAscii (meaning (hir.Concat new)) (meaning (hir.Concat old))
 narrow_concat new old each = rw (meaning-Concat new, meaning-Concat old) (same_cat_all (map meaning new.items) (map meaning old.items) each)
 
-pub narrow_alternation : (new old : Vec Hir Global) → EachSame (map meaning new.items) (map meaning old.items) → SameInAscii (meaning (hir.Alternation new)) (meaning (hir.Alternation old))
-narrow_alternation new old each = rw (meaning-Alternation new, meaning-Alternation old) (same_alt_all (map meaning new.items) (map meaning old.items) each)
+pub narrow_alternation : (new old : Vec Hir Global) → EachSame (map meaning new.items) (map meaning old.items) →
+    SameInAscii (meaning (hir.Alternation new)) (meaning (hir.Alternation old))
+narrow_alternation new old each = rw (meaning-Alternation new, meaning-Alternation old)
+    (same_alt_all (map meaning new.items) (map meaning old.items) each)
 
 take_next : {T : Type 0} (l : List T) (i : ℕ) (x : T) → i < length l → get_or l i x ≡ x → take (i + 1) l ≡ take i l ++ x ∷ []
 take_next l i x inside read = simp unary_clauses (take-suc l i x inside ∙ ap (λ y. take i l ++ y ∷ []) read)
 
 -- One more tree.
-pub each_next : (new old : List Hir) (tree : Hir) (i : ℕ) (next : Hir) → i < length old → get_or old i next ≡ next → EachSame (map meaning new) (map meaning (take i old)) → SameInAscii (meaning tree) (meaning next) →
+pub each_next : (new old : List Hir) (tree : Hir) (i : ℕ) (next : Hir) → i < length old → get_or old i next ≡ next →
+    EachSame (map meaning new) (map meaning (take i old)) → SameInAscii (meaning tree) (meaning next) →
     EachSame (map meaning (new ++ tree ∷ [])) (map meaning (take (i + 1) old))
 each_next new old tree i next inside read each same =
-    rw (take_next old i next inside read, map-append meaning (take i old) (next ∷ []), map-append meaning new (tree ∷ [])) (each_more (map meaning new) (map meaning (take i old)) (meaning tree) (meaning next) each same)
+    rw (take_next old i next inside read, map-append meaning (take i old) (next ∷ []), map-append meaning new (tree ∷ []))
+    (each_more (map meaning new) (map meaning (take i old)) (meaning tree) (meaning next) each same)
 
 or_in_turn : (a b c : Bool) → (a || (b || c)) ≡ ((a || b) || c)
 or_in_turn true b c = refl
@@ -221,21 +240,34 @@ cut r last c is small = rw (below r.1 last c is small) refl where
       (cases_lt end c)
 
 -- A further range, cut to ASCII, or left out if it has no member below 128.
-pub range_taken : (new old : List Range) (i : ℕ) (r : Range) (last : ℕ) → i < length old → get_or old i r ≡ r → last ≡ min r.1 0x7F → SameAscii new (take i old) → SameAscii (new ++ (r.0, last) ∷ []) (take (i + 1) old)
-range_taken new old i r last inside read is same c small = rw (take_next old i r inside read, in_more (take i old) (r ∷ []) c, in_more new ((r.0, last) ∷ []) c, same c small, cut r last c is small) refl
+pub range_taken : (new old : List Range) (i : ℕ) (r : Range) (last : ℕ) → i < length old → get_or old i r ≡ r → last ≡ min r.1 0x7F →
+    SameAscii new (take i old) → SameAscii (new ++ (r.0, last) ∷ []) (take (i + 1) old)
+range_taken new old i r last inside read is same c small =
+    rw (
+      take_next old i r inside read,
+      in_more (take i old) (r ∷ []) c,
+      in_more new ((r.0, last) ∷ []) c,
+      same c small,
+      cut r last c is
+          small,
+    ) refl
 
-pub range_left : (new old : List Range) (i : ℕ) (r : Range) → i < length old → get_or old i r ≡ r → 0x7F < r.0 → SameAscii new (take i old) → SameAscii new (take (i + 1) old)
-range_left new old i r inside read high same c small = rw (take_next old i r inside read, in_more (take i old) (r ∷ []) c, outside r c small high) (same c small ∙ sym (or_false _))
+pub range_left : (new old : List Range) (i : ℕ) (r : Range) → i < length old → get_or old i r ≡ r → 0x7F < r.0 →
+    SameAscii new (take i old) → SameAscii new (take (i + 1) old)
+range_left new old i r inside read high same c small =
+    rw (take_next old i r inside read, in_more (take i old) (r ∷ []) c, outside r c small high) (same c small ∙ sym (or_false _))
 
 -- All ranges were visited.
 pub all_taken : (new old : List Range) (i : ℕ) → length old ≤ i → SameAscii new (take i old) → SameAscii new old
 all_taken new old i past same c small = same c small ∙ ap (λ rs. in_ranges rs c) (take_all i old past)
 
 -- A class of exactly these ranges has the same members of ASCII.
-pub ascii_of_all : (r : Result Class AllocError) (taken old : List Range) → SameAscii taken old → IfOk r (λ new. HasExactly new.ranges.items (in_ranges taken)) → IfOk r (λ new. SameAscii new.ranges.items old)
+pub ascii_of_all : (r : Result Class AllocError) (taken old : List Range) → SameAscii taken old →
+    IfOk r (λ new. HasExactly new.ranges.items (in_ranges taken)) → IfOk r (λ new. SameAscii new.ranges.items old)
 ascii_of_all (Ok new) taken old same h = λ c small. h c (omega (arith, small)) ∙ same c small
 ascii_of_all (Err e) taken old same h = tt
 
-pub narrow_inside : (r : Result Hir AllocError) (n : ℕ) (old : Box Hir Global) → IfOk r (λ new. SameInAscii (meaning new) (meaning old.value)) → IfOk r (λ new. SameInAscii (meaning new) (meaning (hir.Capture n old)))
+pub narrow_inside : (r : Result Hir AllocError) (n : ℕ) (old : Box Hir Global) →
+    IfOk r (λ new. SameInAscii (meaning new) (meaning old.value)) → IfOk r (λ new. SameInAscii (meaning new) (meaning (hir.Capture n old)))
 narrow_inside (Ok new) n old h = narrow_capture n new old h
 narrow_inside (Err e) n old h = tt

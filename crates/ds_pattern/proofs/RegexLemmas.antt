@@ -1,5 +1,6 @@
 -- What `regex` reads, refuses and finds is what the definitions state.
-use Rattle.std.proofs.Common.{◌≡◌, ◌≢◌, ◌⊎◌, ℕ, zero, suc, ◌+◌, ◌-◌, ◌<◌, ◌≤◌, true, false, not, All, List, length, get_or, Option, None, Some, IsSomeAnd, IfSome, is_some, option_map, if◌then◌else◌, refl, sym, ap, ◌∙◌, inl, inr, arith}
+use Rattle.std.proofs.Common.{◌≡◌, ◌≢◌, ◌⊎◌, ℕ, zero, suc, ◌+◌, ◌-◌, ◌<◌, ◌≤◌, true, false, not, All, List, length, get_or, Option, None}
+use Rattle.std.proofs.Common.{Some, IsSomeAnd, IfSome, is_some, option_map, if◌then◌else◌, refl, sym, ap, ◌∙◌, inl, inr, arith}
 use Rattle.std.specs.Prelude.{nat_le, slice_get}
 use Rattle.std.specs.Int.{is_in_range}
 use Rattle.std.specs.Option.{option_or}
@@ -34,7 +35,8 @@ abbrev IsFound : Re → Names → ℕ → Nested Re × Names → Type 0
 IsFound re names limit found =
     (found.0.depth ≤ limit) × SameCaptures re found.0.value × (names ≡ found.1) × (group_count re ≤ length names)
 
-within : (o : Option (Nested Re × Names)) (limit : ℕ) (re : Re) (names : Names) → IsSomeAnd o (IsFound re names limit) → is_read_as o (λ found. nat_le found.depth limit) ≡ true
+within : (o : Option (Nested Re × Names)) (limit : ℕ) (re : Re) (names : Names) → IsSomeAnd o (IsFound re names limit) →
+    is_read_as o (λ found. nat_le found.depth limit) ≡ true
 within None limit re names h = absurd h
 within (Some x) limit re names h = le-leb _ _ h.0
 
@@ -70,33 +72,41 @@ boundary_of_ascii text i ascii = at (slice_get_cases text i).1 where
   small : (b : ℕ) → b < 128 → not (is_in_range 0x80 0xBF b) ≡ true
   small b h = grind (arith, nat_tests)
 
-  at : (((x : ℕ) × (i < length text) × (slice_get text i ≡ Some x) × (get_or text i x ≡ x)) ⊎ ((length text ≤ i) × (slice_get text i ≡ None))) → is_none_or (slice_get text i) (λ b. not (is_in_range 0x80 0xBF b)) ≡ true
+  at : (((x : ℕ) × (i < length text) × (slice_get text i ≡ Some x) × (get_or text i x ≡ x)) ⊎
+      ((length text ≤ i) × (slice_get text i ≡ None))) → is_none_or (slice_get text i) (λ b. not (is_in_range 0x80 0xBF b)) ≡ true
   at (inl h) =
       let low : get_or text i 0 < 128 = ascii i in
       rw h.2 (small h.0 (rw (get_or_from_slice_get text i h.0 0 h.2) at low))
   at (inr h) = rw h.1 refl
 
 -- An automaton of the reduced tree finds a match in exactly the names that P matches whole.
-pub finds_of_compiled : (nfa : Nfa) (narrow tree : Hir) (p : List ℕ) → Implements nfa (meaning narrow) → SameInAscii (meaning narrow) (meaning tree) → IsReadAs (anchored p) tree → is_printable p ≡ true → FindsWhole nfa p
+pub finds_of_compiled : (nfa : Nfa) (narrow tree : Hir) (p : List ℕ) → Implements nfa (meaning narrow) →
+    SameInAscii (meaning narrow) (meaning tree) → IsReadAs (anchored p) tree → is_printable p ≡ true → FindsWhole nfa p
 unfolding FindsWhole matches_whole Reads find_str
 finds_of_compiled nfa narrow tree p implements same read printable name is_name =
     let ascii = ascii_of_printable name (printable_of_name name is_name) in
-    alike _ _ _ _ (λ re captures. first_alike _ _ (λ i. step i re captures ascii) (length name + 1 - 0) 0) (rw (chars_of_printable (anchored p) (printable_anchored p printable)) at read.reads) where
+    alike _ _ _ _ (λ re captures. first_alike _ _ (λ i. step i re captures ascii) (length name + 1 - 0) 0)
+    (rw (chars_of_printable (anchored p) (printable_anchored p printable)) at read.reads) where
       bytes : IsAscii name → All (λ x. x < 256) name
       bytes ascii = All-from_get_or (λ x. x < 256) name 0 (λ i inside. let small : get_or name i 0 < 128 = ascii i in omega (arith, small))
 
-      step : (i : ℕ) (re : Re) → SameCaptures (meaning tree) re → IsAscii name → is_some (run nfa name (length name) nfa.start i) ≡ is_some (if is_boundary name i then attempt name re accept i else None)
+      step : (i : ℕ) (re : Re) → SameCaptures (meaning tree) re → IsAscii name →
+          is_some (run nfa name (length name) nfa.start i) ≡ is_some (if is_boundary name i then attempt name re accept i else None)
       step i re captures ascii =
-          ap is_some (implements name i) ∙ same name ascii accept accept (λ j. refl) i ∙ seen _ _ (captures.at name (bytes ascii) accept i) ∙ rw (boundary_of_ascii name i ascii) refl
+          ap is_some (implements name i) ∙ same name ascii accept accept (λ j. refl) i ∙
+          seen _ _ (captures.at name (bytes ascii) accept i) ∙ rw (boundary_of_ascii name i ascii) refl
 
       alike : (o : Option (Nested Re × Names)) (limit : ℕ) (re : Re) (names : Names) →
-          ((other : Re) → SameCaptures re other → is_some (first_from (run nfa name (length name) nfa.start) (length name + 1 - 0) 0) ≡ is_some (find_str other name 0)) →
+          ((other : Re) → SameCaptures re other →
+          is_some (first_from (run nfa name (length name) nfa.start) (length name + 1 - 0) 0) ≡ is_some (find_str other name 0)) →
           IsSomeAnd o (IsFound re names limit) →
-          is_some (first_from (run nfa name (length name) nfa.start) (length name + 1 - 0) 0) ≡ is_read_as o (λ found. is_some (find_str found.value name 0))
+          is_some (first_from (run nfa name (length name) nfa.start) (length name + 1 - 0) 0) ≡ is_read_as o
+          (λ found. is_some (find_str found.value name 0))
       alike None limit re names found h = absurd h
       alike (Some x) limit re names found h = found x.0.value h.1
 
-refused_by : (o : Option (Nested Re × Names)) (limit : ℕ) (k : ErrorKind) → k ≢ kind.OutOfMemory → (k ≡ kind.OutOfMemory) ⊎ ((o ≡ None) ⊎ ((k ≡ kind.NestLimitExceeded) × IfSome o (λ (found, _). limit < found.depth))) →
+refused_by : (o : Option (Nested Re × Names)) (limit : ℕ) (k : ErrorKind) → k ≢ kind.OutOfMemory →
+    (k ≡ kind.OutOfMemory) ⊎ ((o ≡ None) ⊎ ((k ≡ kind.NestLimitExceeded) × IfSome o (λ (found, _). limit < found.depth))) →
     is_read_as o (λ found. nat_le found.depth limit) ≡ false
 refused_by o limit k other (inl e) = absurd (other e)
 refused_by None limit k other (inr h) = refl
@@ -104,12 +114,14 @@ refused_by (Some x) limit k other (inr (inl e)) = absurd cc
 refused_by (Some x) limit k other (inr (inr h)) = lt-leb _ _ h.1
 
 -- A text with an error of syntax isn't a pattern.
-pub no_regex_of_refused : (text : List ℕ) (k : ErrorKind) → Refuses default_config text k → k ≢ kind.OutOfMemory → is_printable text ≡ true → is_regex text ≡ false
+pub no_regex_of_refused : (text : List ℕ) (k : ErrorKind) → Refuses default_config text k → k ≢ kind.OutOfMemory →
+    is_printable text ≡ true → is_regex text ≡ false
 unfolding is_regex Refuses
 no_regex_of_refused text k refused other printable = refused_by _ _ k other (rw (chars_of_printable text printable) at refused)
 
 -- The fault of an error of `regex` is a fault of the text.
-pub syntax_fault : (text : List ℕ) (k : ErrorKind) (f : PatternFault) → IsRegexFault k f → Refuses default_config text k → is_printable text ≡ true → IsSyntaxFault f text
+pub syntax_fault : (text : List ℕ) (k : ErrorKind) (f : PatternFault) → IsRegexFault k f → Refuses default_config text k →
+    is_printable text ≡ true → IsSyntaxFault f text
 syntax_fault text k f (inl h) refused printable = rw h.1 tt
 syntax_fault text k f (inr h) refused printable = rw h.1 (no_regex_of_refused text k refused h.0 printable)
 
@@ -139,7 +151,8 @@ fault_alone p fault.BadPattern short printable h = (short, rw (printable, h) ref
 fault_alone p fault.NoRoom short printable h = (short, printable)
 
 -- And so is a fault that it finds in `^(?:P)$`.
-pub fault_whole : (p : List ℕ) (f : PatternFault) → length p ≤ 128 → is_printable p ≡ true → is_regex p ≡ true → IsSyntaxFault f (anchored p) → IsPatternFault f p
+pub fault_whole : (p : List ℕ) (f : PatternFault) → length p ≤ 128 → is_printable p ≡ true → is_regex p ≡ true →
+    IsSyntaxFault f (anchored p) → IsPatternFault f p
 unfolding is_pattern
 fault_whole p fault.TooLong short printable alone h = absurd h
 fault_whole p fault.BadPattern short printable alone h = (short, rw (printable, alone, h) refl)

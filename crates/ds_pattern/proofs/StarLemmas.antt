@@ -1,5 +1,6 @@
 -- `.*` is a pattern, and matches each name: what the grammar reads is computed.
-use Rattle.std.proofs.Common.{◌≡◌, ◌⊎◌, ℕ, zero, suc, ◌+◌, ◌-◌, ◌<◌, ◌≤◌, Bool, true, List, [], ◌∷◌, length, get_or, Option, None, Some, is_some, if◌then◌else◌, nat_lt, lt-ltb, refl, ◌∙◌, inl, inr, codes, arith}
+use Rattle.std.proofs.Common.{◌≡◌, ◌⊎◌, ℕ, zero, suc, ◌+◌, ◌-◌, ◌<◌, ◌≤◌, Bool, true, List, [], ◌∷◌, length, get_or, Option, None, Some}
+use Rattle.std.proofs.Common.{is_some, if◌then◌else◌, nat_lt, lt-ltb, refl, ◌∙◌, inl, inr, codes, arith}
 use Rattle.std.specs.Prelude.{slice_get}
 use Rattle.std.specs.Option.{option_or}
 use Rattle.std.specs.Char.{len_utf8}
@@ -67,14 +68,17 @@ dot_taken : (b : ℕ) → is_printable_byte b ≡ true → in_ranges dots b ≡ 
 unfolding dots negate
 dot_taken b h = rw in_ranges-members (grind (arith, nat_tests))
 
-read_dot : (name : List ℕ) (k : Rest) (i b : ℕ) → char_at name i ≡ Some b → in_ranges dots b ≡ true → len_utf8 b ≡ 1 → is_some (k (i + 1)) ≡ true → is_some (attempt name (char_in dots) k i) ≡ true
+read_dot : (name : List ℕ) (k : Rest) (i b : ℕ) → char_at name i ≡ Some b → in_ranges dots b ≡ true → len_utf8 b ≡ 1 →
+    is_some (k (i + 1)) ≡ true → is_some (attempt name (char_in dots) k i) ≡ true
 unfolding attempt
 read_dot name k i b char member one next = rw (char, member, one) next
 
 -- `.` matches each character of a name.
-one_dot : (name : List ℕ) (k : Rest) (i : ℕ) → is_printable name ≡ true → i < length name → is_some (k (i + 1)) ≡ true → is_some (attempt name (char_in dots) k i) ≡ true
+one_dot : (name : List ℕ) (k : Rest) (i : ℕ) → is_printable name ≡ true → i < length name → is_some (k (i + 1)) ≡ true →
+    is_some (attempt name (char_in dots) k i) ≡ true
 one_dot name k i printable inside next = at (slice_get_cases name i).1 where
-  at : (((x : ℕ) × (i < length name) × (slice_get name i ≡ Some x) × (get_or name i x ≡ x)) ⊎ ((length name ≤ i) × (slice_get name i ≡ None))) → is_some (attempt name (char_in dots) k i) ≡ true
+  at : (((x : ℕ) × (i < length name) × (slice_get name i ≡ Some x) × (get_or name i x ≡ x)) ⊎
+      ((length name ≤ i) × (slice_get name i ≡ None))) → is_some (attempt name (char_in dots) k i) ≡ true
   at (inl h) =
       let byte = byte_at name i h.0 printable h.2 in
       let small = ascii_byte h.0 byte in
@@ -82,17 +86,21 @@ one_dot name k i printable inside next = at (slice_get_cases name i).1 where
   at (inr h) = absurd (omega (arith, h.0))
 
 -- From each place of a name, `.*` goes on to its end.
-more_dots : (name : List ℕ) (k : Rest) → is_printable name ≡ true → is_some (k (length name)) ≡ true → (n i : ℕ) → i + n ≡ length name → is_some (rounds true (attempt name (char_in dots)) k n i) ≡ true
+more_dots : (name : List ℕ) (k : Rest) → is_printable name ≡ true → is_some (k (length name)) ≡ true → (n i : ℕ) → i + n ≡ length name →
+    is_some (rounds true (attempt name (char_in dots)) k n i) ≡ true
 unfolding rounds
 more_dots name k printable last zero i here = let end : i ≡ length name = omega arith in rw end last
 more_dots name k printable last (suc n) i here =
-    first_way _ (k i) (one_dot name (λ l. if nat_lt i l then rounds true (attempt name (char_in dots)) k n l else None) i printable (omega arith)
+    first_way _ (k i) (one_dot name (λ l. if nat_lt i l then rounds true (attempt name (char_in dots)) k n l else None) i printable
+    (omega arith)
     (rw (lt-ltb i (i + 1) (omega arith)) (more_dots name k printable last n (i + 1) (omega arith))))
 
-all_dots : (name : List ℕ) (k : Rest) → is_printable name ≡ true → 0 < length name → is_some (k (length name)) ≡ true → is_some (attempt name (plus true (char_in dots)) k 0) ≡ true
+all_dots : (name : List ℕ) (k : Rest) → is_printable name ≡ true → 0 < length name → is_some (k (length name)) ≡ true →
+    is_some (attempt name (plus true (char_in dots)) k 0) ≡ true
 unfolding attempt
 all_dots name k printable some last =
-    one_dot name (λ j. if nat_lt 0 j then more_rounds name true (attempt name (char_in dots)) k j else k j) 0 printable some (more_dots name k printable last (length name - 1) 1 (omega arith))
+    one_dot name (λ j. if nat_lt 0 j then more_rounds name true (attempt name (char_in dots)) k j else k j) 0 printable some
+    (more_dots name k printable last (length name - 1) 1 (omega arith))
 
 starts : (name : List ℕ) → holds look_at.Start name 0 ≡ true
 unfolding holds holds_between
@@ -106,7 +114,8 @@ matched : (name : List ℕ) → is_printable name ≡ true → 0 < length name �
 unfolding attempt
 matched name printable some =
     let last : is_some (attempt name then_end accept (length name)) ≡ true = rw (ends name) refl in
-    let middle : is_some (attempt name inside (attempt name then_end accept) 0) ≡ true = first_way _ _ (first_way _ _ (all_dots name (attempt name then_end accept) printable some last)) in
+    let middle : is_some (attempt name inside (attempt name then_end accept) 0) ≡ true =
+    first_way _ _ (first_way _ _ (all_dots name (attempt name then_end accept) printable some last)) in
     let whole : is_some (attempt name from_start accept 0) ≡ true = rw (starts name) middle in
     first_way _ _ whole
 
@@ -119,7 +128,8 @@ matches_name : (name : List ℕ) → IsName name → matches_whole (codes ".*") 
 unfolding matches_whole find_str
 matches_name name is_name =
     let printable = printable_of_name name is_name in
-    read_as_dot_star (λ re. is_some (find_str re name 0)) ∙ at_start _ _ (omega arith) (rw (boundary_of_ascii name 0 (ascii_of_printable name printable)) (matched name printable is_name.some))
+    read_as_dot_star (λ re. is_some (find_str re name 0)) ∙
+    at_start _ _ (omega arith) (rw (boundary_of_ascii name 0 (ascii_of_printable name printable)) (matched name printable is_name.some))
 
 -- `.*` matches each name.
 pub dot_star_matches : (p name : List ℕ) → p ≡ codes ".*" → IsName name → matches_whole p name ≡ true

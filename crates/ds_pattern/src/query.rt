@@ -1,6 +1,6 @@
 //! Queries of subscribers, with a pattern that isn't compiled yet.
 
-ghost use Rattle.std.specs.Prelude.{◌≡◌, ℕ, IfOk};
+ghost use Rattle.std.specs.Prelude.{◌≡◌, ◌≢◌, ℕ, [], IfOk, OnErr};
 ghost use Rattle.std.specs.Bool.{◌==◌};
 ghost use Rattle.std.proofs.lemmas.Cmp.{nat_list_eq_equiv};
 ghost use Rattle.std.specs.Cmp.{partial_equiv_from_equiv};
@@ -25,10 +25,16 @@ impl Model for PatternText {
 }
 
 impl PatternText {
-    /// Copies the bytes. Fails only if memory runs out.
+    /// Copies the bytes. Fails only if memory runs out; the copy of none takes none.
     pub fn of(alloc: Global, bytes: &[u8]) -> Result<PatternText, NoRoom>
-        ensures { IfOk result (λ text. text ≡ bytes.now) }
+        ensures same { IfOk result (λ text. text ≡ bytes.now) }
+        ensures room { OnErr result (bytes.now ≢ []) }
     {
+        if bytes.is_empty() {
+            return Ok(PatternText {
+                bytes: Vec::new(alloc),
+            });
+        }
         Ok(PatternText {
             bytes: bytes.to_vec(alloc)?,
         })
@@ -41,9 +47,10 @@ impl PatternText {
         &self.bytes
     }
 
-    /// Copies the text. Fails only if memory runs out.
+    /// Copies the text. Fails only if memory runs out; the copy of an empty text takes none.
     pub fn copy(&self, alloc: Global) -> Result<PatternText, NoRoom>
-        ensures { IfOk result (λ text. text ≡ self.now) }
+        ensures same { IfOk result (λ text. text ≡ self.now) }
+        ensures room { OnErr result (self.now ≢ []) }
     {
         PatternText::of(alloc, &self.bytes)
     }
@@ -73,9 +80,10 @@ pub struct Query {
 }
 
 impl Query {
-    /// Copies the query. Fails only if memory runs out.
+    /// Copies the query. Fails only if memory runs out; the copy of an empty text takes none.
     pub fn copy(&self, alloc: Global) -> Result<Query, NoRoom>
-        ensures { IfOk result (λ query. query ≡ self.now) }
+        ensures same { IfOk result (λ query. query ≡ self.now) }
+        ensures room { OnErr result (self.now.text ≢ []) }
     {
         Ok(Query {
             text: self.text.copy(alloc)?,

@@ -234,7 +234,8 @@ module _ (laws : ReaderLaws) (stood : State → Type 0) (s : State) (sub : ℕ) 
         }
 
 -- one more with the reader's own stamp that showed items
-pub checked_more : (laws : ReaderLaws) → (stood : State → Type 0) (s : State) (sub stamp count : ℕ) (reading : Reading) (items more : List Item)
+pub checked_more : (laws : ReaderLaws) → (stood : State → Type 0) (s : State) (sub stamp count : ℕ) (reading : Reading)
+    (items more : List Item)
     (k : Checking stood s sub reading.max reading.query items stamp count) (t : State) (before after : ℕ) →
     Asked k.now (commands.Check sub reading.max) (replies.Checked more before after) t → before ≡ stamp → more ≢ [] →
     count < reading.questions → (turns : List CheckTurn) × IsCheckedMore s t reading turns

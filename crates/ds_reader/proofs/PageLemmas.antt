@@ -1,5 +1,6 @@
 -- The pages of a reader are whole, with the items of the journal.
-use Rattle.std.proofs.Common.{◌≡◌, ◌≢◌, ℕ, ◌+◌, ◌≤◌, Bool, true, false, List, [], ◌∷◌, ◌++◌, length, Option, Some, None, refl, ap, sym, ◌∙◌, subst, arith, append_assoc}
+use Rattle.std.proofs.Common.{◌≡◌, ◌≢◌, ℕ, ◌+◌, ◌≤◌, Bool, true, false, List, [], ◌∷◌, ◌++◌, length, Option, Some, None, refl, ap, sym, ◌∙◌}
+use Rattle.std.proofs.Common.{subst, arith, append_assoc}
 use Rattle.std.specs.Option.{unwrap_or}
 use Rattle.std.proofs.lemmas.List.{length_push}
 use Rattle.std.proofs.lemmas.List.Elements.{All-nil, All-push}
@@ -191,7 +192,8 @@ module _ (laws : ReaderLaws) (stood : State → Type 0) (s : State) (reading : R
         (page_passed u.feed (is_under query) (key_after None k.turns) turn p.is)
         (sinces_passed u.feed (is_under query) (unwrap_or from page.cursor) caught.turns caught.are)) in
         record {
-          among = subst (λ (x : List Item). IsPartOf x (under (is_under query) known)) same (part_under (is_under query) _ known part passed);
+          among = subst (λ (x : List Item). IsPartOf x (under (is_under query) known)) same
+              (part_under (is_under query) _ known part passed);
           whole =
               subst (λ (r : ℕ). IsWhole u.feed (is_under query) (given known all) r) caught.to_end
               (subst (λ (c : Cursor). IsWhole u.feed (is_under query) (given known all) (cursor_after c caught.turns).position)

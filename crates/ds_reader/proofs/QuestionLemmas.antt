@@ -31,7 +31,8 @@ module _ {A : Type 0} (asks_once : A → Command → A → Type 0) where
   -- fewer than may be
   pub fewer : (is_one : Command → Type 0) (count most : ℕ) (old new : A) → count ≤ most → AsksFew asks_once is_one count old new →
       AsksFew asks_once is_one most old new
-  fewer is_one count most old new small few = record { commands = few.commands; asked = few.asked; all = few.all; few = omega (arith, few.few, small) }
+  fewer is_one count most old new small few =
+      record { commands = few.commands; asked = few.asked; all = few.all; few = omega (arith, few.few, small) }
 
   -- ---- a reader by checks, after `count` of them
   module _ (sub : ℕ) (reading : Reading) where
@@ -41,7 +42,8 @@ module _ {A : Type 0} (asks_once : A → Command → A → Type 0) where
     abbrev pub HasChecked : ℕ → A → A → Type 0
     HasChecked count old now = AsksSoManyChecks asks_once sub reading count old now
 
-    pub has_begun : (old new : A) (query : Query) → query ≡ reading.query → asks_once old (subscribe_anew sub query) new → HasChecked 0 old new
+    pub has_begun : (old new : A) (query : Query) → query ≡ reading.query → asks_once old (subscribe_anew sub query) new →
+        HasChecked 0 old new
     has_begun old new query same asks = record {
       subscribed = new;
       begins = subst (λ (q : Query). asks_once old (subscribe_anew sub q) new) same asks;
@@ -51,7 +53,8 @@ module _ {A : Type 0} (asks_once : A → Command → A → Type 0) where
       counted = refl;
     }
 
-    pub checks_more : (count : ℕ) (old now new : A) → HasChecked count old now → asks_once now (Check sub reading.max) new → HasChecked (count + 1) old new
+    pub checks_more : (count : ℕ) (old now new : A) → HasChecked count old now → asks_once now (Check sub reading.max) new →
+        HasChecked (count + 1) old new
     checks_more count old now new h asks = record {
       subscribed = h.subscribed;
       begins = h.begins;
@@ -61,7 +64,8 @@ module _ {A : Type 0} (asks_once : A → Command → A → Type 0) where
       counted = omega (arith, h.counted, length_push h.commands (Check sub reading.max));
     }
 
-    pub by_checks : (count : ℕ) (old new : A) → count ≤ reading.questions → HasChecked count old new → AsksByChecks asks_once sub reading old new
+    pub by_checks : (count : ℕ) (old new : A) → count ≤ reading.questions → HasChecked count old new →
+        AsksByChecks asks_once sub reading old new
     by_checks count old new small h =
         inr record {
           subscribed = h.subscribed;
@@ -80,12 +84,15 @@ module _ {A : Type 0} (asks_once : A → Command → A → Type 0) where
     pub sinces_more : (count : ℕ) (old mid new : A) (scope : Scope) (at : Cursor) → scope ≡ Under reading.query → Sinces count old mid →
         asks_once mid (Since scope at reading.max) new → Sinces (count + 1) old new
     sinces_more count old mid new scope at same few asks =
-        one_more (IsSinceOf reading) count old mid new (Since scope at reading.max) few asks (at, ap (λ (s : Scope). Since s at reading.max) same)
+        one_more (IsSinceOf reading) count old mid new (Since scope at reading.max) few asks
+        (at, ap (λ (s : Scope). Since s at reading.max) same)
 
-    pub pages_more : (count : ℕ) (old mid new : A) (scope : Scope) (after : Option Key) → scope ≡ Under reading.query → Pages count old mid →
+    pub pages_more : (count : ℕ) (old mid new : A) (scope : Scope) (after : Option Key) → scope ≡ Under reading.query →
+        Pages count old mid →
         asks_once mid (Page scope after reading.max) new → Pages (count + 1) old new
     pages_more count old mid new scope after same few asks =
-        one_more (IsPageOf reading) count old mid new (Page scope after reading.max) few asks (after, ap (λ (s : Scope). Page s after reading.max) same)
+        one_more (IsPageOf reading) count old mid new (Page scope after reading.max) few asks
+        (after, ap (λ (s : Scope). Page s after reading.max) same)
 
     -- with no question to the journal yet
     pub by_pages : (count : ℕ) (old new : A) → count ≤ reading.questions → Pages count old new → AsksByPages asks_once reading old new
@@ -95,5 +102,7 @@ module _ {A : Type 0} (asks_once : A → Command → A → Type 0) where
       sinces = none_asked (IsSinceOf reading) reading.questions new;
     }
 
-    pub by_both : (count : ℕ) (old mid new : A) → count ≤ reading.questions → Pages count old mid → Sinces reading.questions mid new → AsksByPages asks_once reading old new
-    by_both count old mid new small few sinces = record { paged = mid; pages = fewer (IsPageOf reading) count reading.questions old mid small few; sinces = sinces }
+    pub by_both : (count : ℕ) (old mid new : A) → count ≤ reading.questions → Pages count old mid → Sinces reading.questions mid new →
+        AsksByPages asks_once reading old new
+    by_both count old mid new small few sinces =
+        record { paged = mid; pages = fewer (IsPageOf reading) count reading.questions old mid small few; sinces = sinces }

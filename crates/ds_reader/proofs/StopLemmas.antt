@@ -123,7 +123,8 @@ has_room (Ok x) h e = absurd h
 has_room (Err y) h e = absurd (cc)
 
 -- it says so only where the fault does that it passes on
-pub by_fault : {T X : Type 0} (r : Result T ReadFault) (fault : ReadFault) → IsErrAnd r (λ y. y ≡ fault) → (fault ≡ Worn → X) → r ≡ Err Worn → X
+pub by_fault : {T X : Type 0} (r : Result T ReadFault) (fault : ReadFault) → IsErrAnd r (λ y. y ≡ fault) → (fault ≡ Worn → X) →
+    r ≡ Err Worn → X
 by_fault (Ok x) fault h says e = absurd h
 by_fault (Err y) fault h says e = says (cc)
 
@@ -132,12 +133,14 @@ pub has_room_still : {T X : Type 0} (r : Result T ReadFault) → IsErrAnd r (λ 
 has_room_still (Ok x) h e = absurd h
 has_room_still (Err y) h e = absurd (cc)
 
-pub by_overtaken : {T X : Type 0} (r : Result T ReadFault) (fault : ReadFault) → IsErrAnd r (λ y. y ≡ fault) → (fault ≡ Overtaken → X) → r ≡ Err Overtaken → X
+pub by_overtaken : {T X : Type 0} (r : Result T ReadFault) (fault : ReadFault) → IsErrAnd r (λ y. y ≡ fault) → (fault ≡ Overtaken → X) →
+    r ≡ Err Overtaken → X
 by_overtaken (Ok x) fault h says e = absurd h
 by_overtaken (Err y) fault h says e = says (cc)
 
 -- a command that isn't answered doesn't say so
-pub stops_otherwise : {A X : Type 0} (stands : A → State → Type 0) (worn : A → Type 0) (old new : A) (command : Command) (fault : ReadFault) → StopsThere stands worn old command fault new → fault ≡ Overtaken → X
+pub stops_otherwise : {A X : Type 0} (stands : A → State → Type 0) (worn : A → Type 0) (old new : A) (command : Command)
+    (fault : ReadFault) → StopsThere stands worn old command fault new → fault ≡ Overtaken → X
 stops_otherwise stands worn old new command Overtaken h e = absurd h
 stops_otherwise stands worn old new command (Refused r) h e = absurd (cc)
 stops_otherwise stands worn old new command NoRoom h e = absurd (cc)

@@ -1,5 +1,6 @@
 -- What Asks bring in.
-use Rattle.std.proofs.Common.{◌≡◌, ◌==◌, ℕ, ◌<◌, nat_le, Bool, true, false, not, ◌&&◌, cond, List, [], ◌∷◌, ◌++◌, map, Option, Some, None, refl, ap, sym, ◌∙◌, subst, inl, inr, arith, Contains, zero, suc}
+use Rattle.std.proofs.Common.{◌≡◌, ◌==◌, ℕ, ◌<◌, nat_le, Bool, true, false, not, ◌&&◌, cond, List, [], ◌∷◌, ◌++◌, map, Option, Some, None}
+use Rattle.std.proofs.Common.{refl, ap, sym, ◌∙◌, subst, inl, inr, arith, Contains, zero, suc}
 use Rattle.std.specs.List.{find}
 use Rattle.std.specs.Option.{option_map, option_map_or, unwrap_or}
 use Rattle.std.specs.Cmp.Lexicographic.{pointwise}
@@ -10,7 +11,8 @@ use Rattle.ds_names.specs.Kind.{kind_place, is_label}
 use Rattle.ds_names.specs.declared.kind.Kind.{Kind}
 use Rattle.ds_names.specs.declared.kind.Kind.TheVariants as kinds
 use Rattle.ds_names.specs.declared.version.Version.{Version}
-use Rattle.ds_entry.specs.Change.{ChangeRecord, kind_of, IsOfKind, IsChange, IsLabelChange, IsLabelBody, IsBelowSweeps, KeepsRule, is_of_kind, is_label_body}
+use Rattle.ds_entry.specs.Change.{ChangeRecord, kind_of, IsOfKind, IsChange, IsLabelChange, IsLabelBody, IsBelowSweeps, KeepsRule}
+use Rattle.ds_entry.specs.Change.{is_of_kind, is_label_body}
 use Rattle.ds_entry.specs.Floor.{floor_of, IsFloor}
 use Rattle.ds_entry.specs.declared.floor.Floor.{Floor}
 use Rattle.ds_entry.specs.Item.{IsItem}
@@ -26,7 +28,8 @@ use Rattle.ds_machine.specs.Parts.{changes_in, floor_at}
 use Rattle.ds_machine.specs.State.{State, held, takes_effect, owed}
 use Rattle.ds_machine.specs.Order.{by_command, by_version, by_room}
 use Rattle.ds_machine.specs.Standing.{standing_of, on_floor}
-use Rattle.ds_machine.specs.Asking.{AskedChange, published, deleted, name_of, is_label_change, is_callers_version, against_asked, asked_in, cause_against}
+use Rattle.ds_machine.specs.Asking.{AskedChange, published, deleted, name_of, is_label_change, is_callers_version, against_asked, asked_in}
+use Rattle.ds_machine.specs.Asking.{cause_against}
 use Rattle.ds_machine.specs.Machine.{answer_for, Step}
 use Rattle.ds_machine.specs.Effect.{known_after, learnt_by, raised_by}
 use Rattle.ds_machine.specs.declared.refusal.Cause.{Cause}
@@ -45,7 +48,8 @@ use Rattle.ds_replica.specs.declared.event.Holder.TheVariants.{Store, Map}
 use Rattle.ds_replica.specs.declared.event.Event.{Event}
 use Rattle.ds_replica.specs.declared.event.Event.TheVariants.{Ask, NewMap, Deliver, ClearMap, RestartStore}
 use Rattle.ds_replica.specs.declared.outcome.Outcome.{Outcome}
-use Rattle.ds_replica.specs.declared.outcome.Outcome.TheVariants.{MapMade, Merged as AllMerged, Stopped, Cleared, Restarted, Refused as Refusing}
+use Rattle.ds_replica.specs.declared.outcome.Outcome.TheVariants.{MapMade, Merged as AllMerged, Stopped, Cleared, Restarted}
+use Rattle.ds_replica.specs.declared.outcome.Outcome.TheVariants.{Refused as Refusing}
 use Rattle.ds_replica.specs.World.{World}
 use Rattle.ds_replica.specs.Happens.{items_given, ask_outcome, Asks, Happens}
 use Rattle.ds_replica.specs.Known.{StoreAccount, Account, store_of, with_account, with_reply, delivered, sent_first, extended}
@@ -108,9 +112,11 @@ rs_is_name = record { some = omega arith; limit = omega arith; allowed = refl }
 -- ---- a change that a caller asks for
 -- the causes that need only the command and its caller don't apply
 abbrev pub IsJudged : State → AskedChange → Body → Type 0
-IsJudged s a body = (r : Refusal) → Contains by_command r → against_asked (standing_of s (asked_in s a body)) (name_of (held s) a.caller) a body (causes.Refused r) ≡ false
+IsJudged s a body = (r : Refusal) → Contains by_command r →
+    against_asked (standing_of s (asked_in s a body)) (name_of (held s) a.caller) a body (causes.Refused r) ≡ false
 
-module _ (s : State) (a : AskedChange) (body : Body) (items : AreItems (held s)) (parts : AreParts a.key a.version body) (free : IsJudged s a body) where
+module _ (s : State) (a : AskedChange) (body : Body) (items : AreItems (held s)) (parts : AreParts a.key a.version body)
+    (free : IsJudged s a body) where
   right_kind : is_of_kind a.key.kind body ≡ true
   right_kind = not-false (is_of_kind a.key.kind body) (free refusals.BadKind (4, omega arith, refl))
 
@@ -118,20 +124,29 @@ module _ (s : State) (a : AskedChange) (body : Body) (items : AreItems (held s))
   of_kind (Put value) e = kind_is (kind_of value) a.key.kind e
   of_kind Gone e = tt
 
-  caller_named : (o : Option ChangeRecord) → find (names_endpoint a.caller) (changes_in (held s)) ≡ o → IsName (unwrap_or (option_map (λ (c : ChangeRecord). c.key.name) o) rs_name)
+  caller_named : (o : Option ChangeRecord) → find (names_endpoint a.caller) (changes_in (held s)) ≡ o →
+      IsName (unwrap_or (option_map (λ (c : ChangeRecord). c.key.name) o) rs_name)
   caller_named None e = rs_is_name
-  caller_named (Some c) e = (items (Changed c) (changes_in-from (held s) c (found (names_endpoint a.caller) (changes_in (held s)) c e).0)).name
+  caller_named (Some c) e = (items (Changed c)
+      (changes_in-from (held s) c (found (names_endpoint a.caller) (changes_in (held s)) c e).0)).name
 
-  owner_named : (b : Bool) → IsName (unwrap_or (cond b (Some rs_name) (option_map (λ (c : ChangeRecord). c.key.name) (find (names_endpoint a.caller) (changes_in (held s))))) rs_name)
+  owner_named : (b : Bool) → IsName (unwrap_or
+      (cond b (Some rs_name) (option_map (λ (c : ChangeRecord). c.key.name) (find (names_endpoint a.caller) (changes_in (held s)))))
+      rs_name)
   owner_named true = rs_is_name
   owner_named false = caller_named (find (names_endpoint a.caller) (changes_in (held s))) refl
 
   owner_of_rs : is_rs a.caller ≡ true → unwrap_or (name_of (held s) a.caller) rs_name ≡ rs_name
-  owner_of_rs e = ap (λ (b : Bool). unwrap_or (cond b (Some rs_name) (option_map (λ (c : ChangeRecord). c.key.name) (find (names_endpoint a.caller) (changes_in (held s))))) rs_name) e
+  owner_of_rs e = ap (λ (b : Bool). unwrap_or
+      (cond b (Some rs_name) (option_map (λ (c : ChangeRecord). c.key.name) (find (names_endpoint a.caller) (changes_in (held s)))))
+      rs_name) e
 
   label_body : (version : Version) (b : Body) → is_label_body version b ≡ true → IsLabelBody version b
-  label_body version (Put (values.Label e)) t =
-      (equal_numbers version.seq 0 (left_of (version.seq == 0) (version.epoch == e.generation) t), equal_numbers version.epoch e.generation (right_true (version.seq == 0) (version.epoch == e.generation) t))
+  label_body version (Put (values.Label e)) t = (
+    equal_numbers version.seq 0 (left_of (version.seq == 0) (version.epoch == e.generation) t),
+    equal_numbers version.epoch e.generation
+        (right_true (version.seq == 0) (version.epoch == e.generation) t),
+  )
   label_body version (Put (values.U32 n)) t = let n : false ≡ true = t in cc
   label_body version (Put (values.Str n)) t = let n : false ≡ true = t in cc
   label_body version (Put (values.Mem n)) t = let n : false ≡ true = t in cc
@@ -191,8 +206,10 @@ is_known (causes.Refused r) = false
 
 judged_free : (s : State) (a : AskedChange) (body : Body) → cause_against s a body ≡ None → IsJudged s a body
 judged_free s a body e r h =
-    missing (against_asked (standing_of s (asked_in s a body)) (name_of (held s) a.caller) a body) (map causes.Refused by_command ++ by_version (Some a.version) ++ map causes.Refused by_room) (causes.Refused r) e
-    (Contains-append_left (map causes.Refused by_command) (by_version (Some a.version) ++ map causes.Refused by_room) (causes.Refused r) (Contains-map causes.Refused by_command r h))
+    missing (against_asked (standing_of s (asked_in s a body)) (name_of (held s) a.caller) a body)
+    (map causes.Refused by_command ++ by_version (Some a.version) ++ map causes.Refused by_room) (causes.Refused r) e
+    (Contains-append_left (map causes.Refused by_command) (by_version (Some a.version) ++ map causes.Refused by_room) (causes.Refused r)
+    (Contains-map causes.Refused by_command r h))
 
 judged_known : (s : State) (a : AskedChange) (body : Body) → cause_against s a body ≡ Some causes.Known → IsJudged s a body
 unfolding is_known
@@ -207,15 +224,20 @@ one_item i f j h = subst IsItem (sym (Contains-single i j h)) f
 no_items : AreItems []
 no_items i h = absurd (Contains-nil i h)
 
-asking_items : (s : State) (a : AskedChange) (body : Body) (reply : Reply) → AreItems (held s) → AreParts a.key a.version body → (o : Option Cause) → cause_against s a body ≡ o
+asking_items : (s : State) (a : AskedChange) (body : Body) (reply : Reply) → AreItems (held s) → AreParts a.key a.version body →
+    (o : Option Cause) → cause_against s a body ≡ o
     → reply ≡ (option_map_or {U = Reply × State} (λ (cause : Cause). (answer_for cause, s)) o
-    (Accepted (owed s (Changed (asked_in s a body) ∷ [])), takes_effect s (Changed (asked_in s a body) ∷ []))).0 → AreItems (known_after reply
+    (Accepted (owed s (Changed (asked_in s a body) ∷ [])), takes_effect s (Changed (asked_in s a body) ∷ []))).0 →
+    AreItems (known_after reply
     (Changed (asked_in s a body) ∷ []))
 asking_items s a body reply items parts None q e =
-    subst (λ (x : Reply). AreItems (known_after x (Changed (asked_in s a body) ∷ []))) (sym e) (one_item (Changed (asked_in s a body)) (asked_change s a body items parts (judged_free s a body q)))
+    subst (λ (x : Reply). AreItems (known_after x (Changed (asked_in s a body) ∷ []))) (sym e)
+    (one_item (Changed (asked_in s a body)) (asked_change s a body items parts (judged_free s a body q)))
 asking_items s a body reply items parts (Some causes.Known) q e =
-    subst (λ (x : Reply). AreItems (known_after x (Changed (asked_in s a body) ∷ []))) (sym e) (one_item (Changed (asked_in s a body)) (asked_change s a body items parts (judged_known s a body q)))
-asking_items s a body reply items parts (Some (causes.Refused r)) q e = subst (λ (x : Reply). AreItems (known_after x (Changed (asked_in s a body) ∷ []))) (sym e) no_items
+    subst (λ (x : Reply). AreItems (known_after x (Changed (asked_in s a body) ∷ []))) (sym e)
+    (one_item (Changed (asked_in s a body)) (asked_change s a body items parts (judged_known s a body q)))
+asking_items s a body reply items parts (Some (causes.Refused r)) q e =
+    subst (λ (x : Reply). AreItems (known_after x (Changed (asked_in s a body) ∷ []))) (sym e) no_items
 
 -- whatever the reply, no more is known than was brought
 known_part : (reply : Reply) (items : List Item) → AreItems items → AreItems (known_after reply items)
@@ -237,22 +259,28 @@ raised_items s f p = by (on_floor (floor_at (held s) f.owner) (nat_le f.generati
     by true = no_items
     by false = one_item (Floored f) p
 
-pub learnt_items : (s t : State) (command : Command) (reply : Reply) → AreItems (held s) → IsProper command → Step s command reply t → AreItems (learnt_by s command reply)
-learnt_items s t (Publish caller key version value overwrite) reply items p (inl (inl is)) = let a : AskedChange = published caller key version overwrite in
+pub learnt_items : (s t : State) (command : Command) (reply : Reply) → AreItems (held s) → IsProper command → Step s command reply t →
+    AreItems (learnt_by s command reply)
+learnt_items s t (Publish caller key version value overwrite) reply items p (inl (inl is)) = let a : AskedChange =
+    published caller key version overwrite in
     asking_items s a (Put value) reply items p (cause_against s a (Put value)) refl is.reply_is
 learnt_items s t (Publish caller key version value overwrite) reply items p (inl (inr w)) = refused_items reply refusals.NoRoom _ w.reply_is
 learnt_items s t (Publish caller key version value overwrite) reply items p (inr w) = absurd w
-learnt_items s t (Delete caller key version) reply items p (inl (inl is)) = let a : AskedChange = deleted caller key version in asking_items s a Gone reply items p (cause_against s a Gone) refl is.reply_is
+learnt_items s t (Delete caller key version) reply items p (inl (inl is)) = let a : AskedChange = deleted caller key version in
+    asking_items s a Gone reply items p (cause_against s a Gone) refl is.reply_is
 learnt_items s t (Delete caller key version) reply items p (inl (inr w)) = refused_items reply refusals.NoRoom _ w.reply_is
 learnt_items s t (Delete caller key version) reply items p (inr w) = absurd w
-learnt_items s t (Sweep caller owner generation) reply items p step = known_part reply (raised_by s (floor_of owner generation)) (raised_items s (floor_of owner generation) p)
+learnt_items s t (Sweep caller owner generation) reply items p step =
+    known_part reply (raised_by s (floor_of owner generation)) (raised_items s (floor_of owner generation) p)
 learnt_items s t (Merge group) reply items p step = known_part reply group p
 learnt_items s t command reply items p step = known_part reply [] no_items
 
 -- ---- events
 module _ (account : Account) (w new : World) (f : Fits account w) (all : AreItems account.brought) where
-  ask_items : (side : Side) (command : Command) (out : Outcome) → IsProper command → Asks w side command out new → AreItems (extended account (Ask side command) out).brought
-  ask_items side command out p h = subst (λ (x : Account). AreItems x.brought) (sym (account_is (items_given h.reply) refl h.outcome_is)) more
+  ask_items : (side : Side) (command : Command) (out : Outcome) → IsProper command → Asks w side command out new →
+      AreItems (extended account (Ask side command) out).brought
+  ask_items side command out p h = subst (λ (x : Account). AreItems x.brought) (sym (account_is (items_given h.reply) refl h.outcome_is))
+      more
     where
       step : Step (store_of account side).state command h.reply h.after
       step = subst (λ (s : State). Step s command h.reply h.after) (sym (store_fits account w side f).state_is) h.step
@@ -266,9 +294,11 @@ module _ (account : Account) (w new : World) (f : Fits account w) (all : AreItem
         | inr l ↦ learnt_items (store_of account side).state h.after command h.reply held_items p step i l
       ]
 
-      account_is : (o : Option (List Item)) → items_given h.reply ≡ o → out ≡ ask_outcome w h.reply o → extended account (Ask side command) out ≡ with_reply account side command h.reply
+      account_is : (o : Option (List Item)) → items_given h.reply ≡ o → out ≡ ask_outcome w h.reply o →
+          extended account (Ask side command) out ≡ with_reply account side command h.reply
       account_is None e q = ap (extended account (Ask side command)) q
-      account_is (Some items) e q = ap (extended account (Ask side command)) q ∙ ap (with_reply account side command) (sym (given_reply (store_of account side).state h.after command h.reply items step e))
+      account_is (Some items) e q = ap (extended account (Ask side command)) q ∙
+          ap (with_reply account side command) (sym (given_reply (store_of account side).state h.after command h.reply items step e))
 
   put_items : (side : Side) (x : StoreAccount) → AreItems (with_account account side x).brought
   put_items A x = all
@@ -278,7 +308,8 @@ module _ (account : Account) (w new : World) (f : Fits account w) (all : AreItem
   delivered_items (Store side) items = put_items side _
   delivered_items (Map j) items = all
 
-  event_items : (event : Event) (out : Outcome) → IsProperEvent event → Happens w event out new → AreItems (extended account event out).brought
+  event_items : (event : Event) (out : Outcome) → IsProperEvent event → Happens w event out new →
+      AreItems (extended account event out).brought
   event_items (Ask side command) (Refusing fault) p h = all
   event_items (Ask side command) out p h = ask_items side command out p h.1
   event_items (NewMap query) (MapMade j) p h = all
@@ -294,5 +325,6 @@ module _ (account : Account) (w new : World) (f : Fits account w) (all : AreItem
 pub events_bring_items : EventsBringItems
 events_bring_items account old new [] f h p all = all
 events_bring_items account old new (e ∷ es) f h p all =
-    events_bring_items (extended account e.0 e.1) h.0 new es (event_fits account old h.0 e.0 e.1 f h.1) h.2 (λ x k. p x (Contains-tail e es x k))
+    events_bring_items (extended account e.0 e.1) h.0 new es (event_fits account old h.0 e.0 e.1 f h.1) h.2
+    (λ x k. p x (Contains-tail e es x k))
     (event_items account old h.0 f all e.0 e.1 (p e (Contains-head e es)) h.1)

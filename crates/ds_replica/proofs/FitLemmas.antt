@@ -1,5 +1,6 @@
 -- What fits still fits later.
-use Rattle.std.proofs.Common.{◌≡◌, ℕ, zero, suc, ◌≤◌, Bool, true, false, cond, List, [], ◌∷◌, ◌++◌, length, take, Option, Some, None, refl, ap, sym, ◌∙◌, subst, inl, inr, arith, Contains}
+use Rattle.std.proofs.Common.{◌≡◌, ℕ, zero, suc, ◌≤◌, Bool, true, false, cond, List, [], ◌∷◌, ◌++◌, length, take, Option, Some, None, refl}
+use Rattle.std.proofs.Common.{ap, sym, ◌∙◌, subst, inl, inr, arith, Contains}
 use Rattle.std.specs.List.{AllZip, take-map}
 use Rattle.std.proofs.lemmas.List.{take-take}
 use Rattle.std.proofs.lemmas.List.Elements.{Contains-append_left, Contains-append_right, Contains-append_cases}
@@ -35,7 +36,8 @@ use Rattle.ds_entry.specs.Under.{under}
 -- ---- with more brought in
 module _ (brought wider : List Item) (more : IsPartOf brought wider) where
   pub store_wider : (a : StoreAccount) (s : State) → FitsStore brought a s → FitsStore wider a s
-  store_wider a s f = record { state_is = f.state_is; reached = f.reached; top = f.top; accepted = f.accepted; within = λ i h. more i (f.within i h) }
+  store_wider a s f =
+      record { state_is = f.state_is; reached = f.reached; top = f.top; accepted = f.accepted; within = λ i h. more i (f.within i h) }
 
   pub map_wider : (a : MapAccount) (m : MapState) → FitsMap brought a m → FitsMap wider a m
   map_wider a m f = record { query_is = f.query_is; map = f.map; within = λ s h i k. more i (f.within s h i k) }
@@ -44,15 +46,19 @@ module _ (brought wider : List Item) (more : IsPartOf brought wider) where
   message_wider a items f = record { items_are = f.items_are; sent = f.sent; within = λ s h i k. more i (f.within s h i k) }
 
 -- ---- at each side
-pub store_fits : (account : Account) (w : World) (side : Side) → Fits account w → FitsStore account.brought (store_of account side) (store_at w side)
+pub store_fits : (account : Account) (w : World) (side : Side) → Fits account w →
+    FitsStore account.brought (store_of account side) (store_at w side)
 store_fits account w A f = f.a
 store_fits account w B f = f.b
 
 -- the same, said of the account's own state
-pub own_fits : (account : Account) (w : World) (side : Side) → Fits account w → FitsStore account.brought (store_of account side) (store_of account side).state
-own_fits account w side f = subst (FitsStore account.brought (store_of account side)) (sym (store_fits account w side f).state_is) (store_fits account w side f)
+pub own_fits : (account : Account) (w : World) (side : Side) → Fits account w →
+    FitsStore account.brought (store_of account side) (store_of account side).state
+own_fits account w side f = subst (FitsStore account.brought (store_of account side)) (sym (store_fits account w side f).state_is)
+    (store_fits account w side f)
 
-pub put_fits : (account : Account) (w : World) (side : Side) (x : StoreAccount) (t : State) → Fits account w → FitsStore account.brought x t → Fits (with_account account side x) (with_state w side t)
+pub put_fits : (account : Account) (w : World) (side : Side) (x : StoreAccount) (t : State) → Fits account w →
+    FitsStore account.brought x t → Fits (with_account account side x) (with_state w side t)
 put_fits account w A x t f g = record { a = g; b = f.b; maps = f.maps; messages = f.messages }
 put_fits account w B x t f g = record { a = f.a; b = g; maps = f.maps; messages = f.messages }
 
@@ -61,27 +67,47 @@ module _ (account : Account) (w : World) (x : StoreAccount) (t : State) (learnt 
   more i h = Contains-append_left account.brought learnt i h
 
   maps_still : AllZip (FitsMap (account.brought ++ learnt)) account.maps w.maps
-  maps_still = AllZip-weaker (FitsMap account.brought) (FitsMap (account.brought ++ learnt)) (map_wider account.brought (account.brought ++ learnt) more) account.maps w.maps f.maps
+  maps_still = AllZip-weaker (FitsMap account.brought) (FitsMap (account.brought ++ learnt))
+      (map_wider account.brought (account.brought ++ learnt) more) account.maps w.maps f.maps
 
   messages_still : AllZip (FitsMessage (account.brought ++ learnt)) account.messages w.messages
-  messages_still = AllZip-weaker (FitsMessage account.brought) (FitsMessage (account.brought ++ learnt)) (message_wider account.brought (account.brought ++ learnt) more) account.messages w.messages f.messages
+  messages_still = AllZip-weaker (FitsMessage account.brought) (FitsMessage (account.brought ++ learnt))
+      (message_wider account.brought (account.brought ++ learnt) more) account.messages w.messages f.messages
 
   -- a store that learnt something, and what it replied
-  pub asked_fits : (side : Side) (o : Option (List Item)) → FitsStore (account.brought ++ learnt) x t → ((items : List Item) → o ≡ Some items → FitsMessage (account.brought ++ learnt) (given known items) items)
-      → Fits (record (with_account account side x) { messages = with_sent account.messages known o; brought = account.brought ++ learnt }) (with_items (with_state w side t) o)
-  asked_fits A None g m = record { a = g; b = store_wider account.brought (account.brought ++ learnt) more account.b w.b f.b; maps = maps_still; messages = messages_still }
+  pub asked_fits : (side : Side) (o : Option (List Item)) → FitsStore (account.brought ++ learnt) x t →
+      ((items : List Item) → o ≡ Some items → FitsMessage (account.brought ++ learnt) (given known items) items)
+      → Fits (record (with_account account side x) { messages = with_sent account.messages known o; brought = account.brought ++ learnt })
+      (with_items (with_state w side t) o)
+  asked_fits A None g m =
+      record {
+        a = g;
+        b = store_wider account.brought (account.brought ++ learnt) more account.b w.b f.b;
+        maps = maps_still;
+        messages =
+            messages_still;
+      }
   asked_fits A (Some items) g m = record {
     a = g;
     b = store_wider account.brought (account.brought ++ learnt) more account.b w.b f.b;
     maps = maps_still;
-    messages = AllZip-last (FitsMessage (account.brought ++ learnt)) account.messages w.messages (given known items) items messages_still (m items refl);
+    messages = AllZip-last (FitsMessage (account.brought ++ learnt)) account.messages w.messages (given known items) items messages_still
+        (m items refl);
   }
-  asked_fits B None g m = record { a = store_wider account.brought (account.brought ++ learnt) more account.a w.a f.a; b = g; maps = maps_still; messages = messages_still }
+  asked_fits B None g m =
+      record {
+        a = store_wider account.brought (account.brought ++ learnt) more account.a w.a f.a;
+        b = g;
+        maps = maps_still;
+        messages =
+            messages_still;
+      }
   asked_fits B (Some items) g m = record {
     a = store_wider account.brought (account.brought ++ learnt) more account.a w.a f.a;
     b = g;
     maps = maps_still;
-    messages = AllZip-last (FitsMessage (account.brought ++ learnt)) account.messages w.messages (given known items) items messages_still (m items refl);
+    messages = AllZip-last (FitsMessage (account.brought ++ learnt)) account.messages w.messages (given known items) items messages_still
+        (m items refl);
   }
 
 -- ---- a message
@@ -90,7 +116,8 @@ items_given_back known [] = refl
 items_given_back known (i ∷ items) = ap (λ (l : List Item). i ∷ l) (items_given_back known items)
 
 -- what a store sends of what it knows
-pub message_given : (brought known items : List Item) → IsPartOf items known → IsPartOf known brought → FitsMessage brought (given known items) items
+pub message_given : (brought known items : List Item) → IsPartOf items known → IsPartOf known brought →
+    FitsMessage brought (given known items) items
 message_given brought known items part within = record {
   items_are = items_given_back known items;
   sent = given_is_sent known items part;
@@ -100,7 +127,8 @@ message_given brought known items part within = record {
 }
 
 -- ---- a store after a command
-pub asked_store : (brought : List Item) (a : StoreAccount) (t : State) (command : Command) (reply : Reply) → FitsStore brought a a.state → Step a.state command reply t →
+pub asked_store : (brought : List Item) (a : StoreAccount) (t : State) (command : Command) (reply : Reply) → FitsStore brought a a.state →
+    Step a.state command reply t →
     FitsStore (brought ++ learnt_by a.state command reply) (store_asked a command reply) t
 asked_store brought a t command reply f step =
     let learnt = learnt_by a.state command reply in
@@ -108,8 +136,10 @@ asked_store brought a t command reply f step =
       state_is = sym (step_left a.state t command reply f.reached step);
       reached = steps_stay_reached a.state t command reply f.reached step;
       top = known_stays_held a.state t command reply a.known f.reached step f.top;
-      accepted = λ i h. elim (step_accepts a.state t command reply f.reached step i h) [ inl k ↦ Contains-append_left a.known learnt i (f.accepted i k) | inr k ↦ Contains-append_right a.known learnt i k ];
-      within = λ i h. elim (Contains-append_cases a.known learnt i h) [ inl k ↦ Contains-append_left brought learnt i (f.within i k) | inr k ↦ Contains-append_right brought learnt i k ];
+      accepted = λ i h. elim (step_accepts a.state t command reply f.reached step i h)
+          [ inl k ↦ Contains-append_left a.known learnt i (f.accepted i k) | inr k ↦ Contains-append_right a.known learnt i k ];
+      within = λ i h. elim (Contains-append_cases a.known learnt i h)
+          [ inl k ↦ Contains-append_left brought learnt i (f.within i k) | inr k ↦ Contains-append_right brought learnt i k ];
     }
 
 -- ---- items that were taken
@@ -119,7 +149,8 @@ length_take (suc n) [] = omega arith
 length_take (suc n) (x ∷ xs) = let l = length_take n xs in omega (arith, l)
 
 -- the first of a message's items that were delivered are the first of the account's
-pub first_sent : (brought : List Item) (sent : List Sent) (items : List Item) (n c : ℕ) → FitsMessage brought sent items → n ≤ length (take c items) → take n (take c items) ≡ items_of (take n sent)
+pub first_sent : (brought : List Item) (sent : List Sent) (items : List Item) (n c : ℕ) → FitsMessage brought sent items →
+    n ≤ length (take c items) → take n (take c items) ≡ items_of (take n sent)
 first_sent brought sent items n c f l =
     let most = length_take c items in
     take-take n c items (omega (arith, l, most)) ∙ (ap (take n) (sym f.items_are) ∙ take-map (λ (s : Sent). s.item) n sent)
@@ -128,28 +159,37 @@ module _ (brought : List Item) (more : List Sent) (sent : (s : Sent) → Contain
   items_stood : IsPartOf (items_of more) (stood_for more)
   items_stood i h =
       let s = Contains-from_map (λ (t : Sent). t.item) more i h in
-      subst (λ (z : Item). Contains (stood_for more) z) s.2 (stood more s.0 s.0.item s.1 ((sent s.0 s.1).among s.0.item (Contains-head s.0.item [])))
+      subst (λ (z : Item). Contains (stood_for more) z) s.2
+      (stood more s.0 s.0.item s.1 ((sent s.0 s.1).among s.0.item (Contains-head s.0.item [])))
 
   stood_within : IsPartOf (stood_for more) brought
   stood_within i h = let s = from_stood more i h in within s.0 s.1 i s.2
 
-  pub took_store : (a : StoreAccount) (t : State) → FitsStore brought a a.state → Gone a.state (items_of more) t → FitsStore brought (took a more) t
+  pub took_store : (a : StoreAccount) (t : State) → FitsStore brought a a.state → Gone a.state (items_of more) t →
+      FitsStore brought (took a more) t
   took_store a t f g =
       record {
         state_is = sym g.state_is;
         reached = g.reached;
-        top = holder_takes a.known (held a.state) (held t) more sent f.top (g.top (held a.state) (held_is_top (held a.state) a.known f.top));
-        accepted = λ i h. elim (g.accepted i h) [ inl k ↦ Contains-append_left a.known (stood_for more) i (f.accepted i k) | inr k ↦ Contains-append_right a.known (stood_for more) i (items_stood i k) ];
+        top = holder_takes a.known (held a.state) (held t) more sent f.top
+            (g.top (held a.state) (held_is_top (held a.state) a.known f.top));
+        accepted = λ i h. elim (g.accepted i h) [
+          | inl k ↦ Contains-append_left a.known (stood_for more) i (f.accepted i k)
+          | inr k ↦
+              Contains-append_right a.known (stood_for more) i (items_stood i k)
+        ];
         within = λ i h. elim (Contains-append_cases a.known (stood_for more) i h) [ inl k ↦ f.within i k | inr k ↦ stood_within i k ];
       }
 
   under_items : (query : Key → Bool) (items : List Sent) → under query (items_of items) ≡ items_of (sent_under query items)
   under_items query [] = refl
   under_items query (s ∷ items) =
-      elim (passes query s.item) as (λ b. cond b (s.item ∷ under query (items_of items)) (under query (items_of items)) ≡ items_of (cond b (s ∷ sent_under query items) (sent_under query items)))
+      elim (passes query s.item) as (λ b. cond b (s.item ∷ under query (items_of items)) (under query (items_of items)) ≡ items_of
+      (cond b (s ∷ sent_under query items) (sent_under query items)))
       [ true ↦ ap (λ (l : List Item). s.item ∷ l) (under_items query items) | false ↦ under_items query items ]
 
-  pub took_map : (a : MapAccount) (m after : MapState) → FitsMap brought a m → after.query ≡ m.query → IsTop after.held (m.held ++ under (is_under m.query) (items_of more)) → FitsMap brought (record a { taken = a.taken ++ more }) after
+  pub took_map : (a : MapAccount) (m after : MapState) → FitsMap brought a m → after.query ≡ m.query →
+      IsTop after.held (m.held ++ under (is_under m.query) (items_of more)) → FitsMap brought (record a { taken = a.taken ++ more }) after
   took_map a m after f e top =
       record {
         query_is = f.query_is ∙ sym e;

@@ -45,7 +45,8 @@ module _ (account : Account) (w : World) (f : Fits account w) where
     where
       by_map : (o : Option MapAccount) → slice_get account.maps j ≡ o → IsTop (held_by w (Map j)) (known_at account (Map j))
       by_map None e =
-          subst (λ (x : Option MapState). IsTop (map_held x) (known_at account (Map j))) (sym (AllZip-none (FitsMap account.brought) account.maps w.maps j f.maps e))
+          subst (λ (x : Option MapState). IsTop (map_held x) (known_at account (Map j)))
+          (sym (AllZip-none (FitsMap account.brought) account.maps w.maps j f.maps e))
           (subst (λ (x : Option MapAccount). IsTop [] (map_known x)) (sym e) top_of_nothing)
       by_map (Some a) e =
           let m = AllZip-at_left (FitsMap account.brought) account.maps w.maps j a f.maps e in
@@ -144,14 +145,16 @@ module _ (account : Account) (w : World) (j : ℕ) (m : MapAccount) (side : Side
   pub least : CoversAll (held_by w (Map j)) (under (is_under m.query) (held_by w (Store side)))
   least =
       let own = own_fits account w side f in
-      let covers = wholes.holds_at_least s.feed (is_under m.query) m.taken (held s) at.0.held (held_is_top s own.reached) at.2.map all.whole in
+      let covers = wholes.holds_at_least s.feed (is_under m.query) m.taken (held s) at.0.held (held_is_top s own.reached) at.2.map
+      all.whole in
       subst (λ (x : State). CoversAll (held_by w (Map j)) (under (is_under m.query) (held x))) same
       (subst (λ l. CoversAll l (under (is_under m.query) (held s))) (sym map_is) covers)
 
   -- what the map holds is under its query
   held_passes : (i : Item) → Contains (held_by w (Map j)) i → passes (is_under m.query) i ≡ true
   held_passes i h =
-      let own : Contains (under (is_under m.query) at.0.held) i = subst (λ l. Contains l i) (map_is ∙ sym (wholes.map_holds_its_query (is_under m.query) m.taken at.0.held at.2.map)) h in
+      let own : Contains (under (is_under m.query) at.0.held) i =
+      subst (λ l. Contains l i) (map_is ∙ sym (wholes.map_holds_its_query (is_under m.query) m.taken at.0.held at.2.map)) h in
       (Contains-from_under (is_under m.query) at.0.held i own).1
 
   abbrev query : Key → Bool
@@ -167,7 +170,8 @@ module _ (account : Account) (w : World) (j : ℕ) (m : MapAccount) (side : Side
   top_of_known : IsPartOf (under query (known_by m)) known → IsTop (held_by w (Map j)) (under query known)
   top_of_known part = record {
     in_order = map_top.in_order;
-    among = λ i h. Contains-under query known i (part i (Contains-under query (known_by m) i (map_top.among i h) (held_passes i h))) (held_passes i h);
+    among = λ i h. Contains-under query known i (part i (Contains-under query (known_by m) i (map_top.among i h) (held_passes i h)))
+        (held_passes i h);
     greatest = λ i h.
         let k = Contains-from_under query known i h in
         let d = (store_fits account w side f).top.greatest i k.0 in
@@ -193,12 +197,17 @@ holds_at_least account w j m side f all = least account w j m side f all
 pub whole_is_all : WholeIsAll
 whole_is_all account j m side items r there part whole l =
     let f = (store_of account side).state.feed in
-    record { there = there; whole = more_is_whole f (is_under m.query) items m.taken (position f) part (earlier_is_whole f (is_under m.query) items (position f) r l whole) }
+    record {
+      there = there;
+      whole = more_is_whole f (is_under m.query) items m.taken (position f) part
+          (earlier_is_whole f (is_under m.query) items (position f) r l whole);
+    }
 
 -- ---- labels
 pub labels_are_newest : LabelsAreNewestInWorlds
 labels_are_newest account w f items j m side name all part q =
-    labels.labels_of_a_top (is_under m.query) (store_of account side).known (held_by w (Map j)) name (λ i h. items i (known_within account w f (Store side) i h)) (top_of_known account w j m side f all part) q
+    labels.labels_of_a_top (is_under m.query) (store_of account side).known (held_by w (Map j)) name
+    (λ i h. items i (known_within account w f (Store side) i h)) (top_of_known account w j m side f all part) q
 
 -- ---- floors
 pub nothing_below_floors : NothingBelowFloorsInWorlds

@@ -1,6 +1,7 @@
 -- Packed replies.
-use Rattle.std.proofs.Common.{◌≡◌, true, List, is_some, refl}
+use Rattle.std.proofs.Common.{◌≡◌, ◌≢◌, true, List, [], ◌∷◌, ◌++◌, is_some, refl}
 use Rattle.ds_entry.specs.declared.item.Item.{Item}
+use Rattle.ds_machine.specs.Copying.{ReplyCopyTakesMemory}
 use Rattle.ds_replica.specs.Happens.{items_given}
 use Rattle.ds_replica.specs.Head.{reply_with, IsHead}
 use Rattle.ds_replica.specs.declared.head.Head.{Head}
@@ -19,3 +20,15 @@ head_of_packed (Checked before after) items = refl
 head_of_packed (Journaled cursor) items = refl
 head_of_packed (Snapped cursor) items = refl
 head_of_packed (Paged last cursor) items = refl
+
+-- Its copy takes memory if it has an item.
+pub packed_takes_memory : (head : Head) (items : List Item) → items ≢ [] → ReplyCopyTakesMemory (reply_with head items)
+packed_takes_memory (Checked before after) items some = some
+packed_takes_memory (Journaled cursor) items some = some
+packed_takes_memory (Snapped cursor) items some = some
+packed_takes_memory (Paged last cursor) items some = some
+
+-- Items with one more are some.
+pub one_is_some : (first all : List Item) (x : Item) (left : List Item) → first ++ x ∷ left ≡ all → all ≢ []
+one_is_some [] all x left same = λ none. cc
+one_is_some (y ∷ first) all x left same = λ none. cc

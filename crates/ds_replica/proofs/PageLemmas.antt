@@ -1,5 +1,6 @@
 -- The items of all pages, with the journal, are whole.
-use Rattle.std.proofs.Common.{◌≡◌, ℕ, zero, suc, ◌+◌, ◌≤◌, not, Bool, true, false, List, [], ◌∷◌, ◌++◌, take, drop, length, filter, Option, Some, None, refl, sym, ap, ◌∙◌, subst, inl, inr, ◌⊎◌, arith}
+use Rattle.std.proofs.Common.{◌≡◌, ℕ, zero, suc, ◌+◌, ◌≤◌, not, Bool, true, false, List, [], ◌∷◌, ◌++◌, take, drop, length, filter, Option}
+use Rattle.std.proofs.Common.{Some, None, refl, sym, ap, ◌∙◌, subst, inl, inr, ◌⊎◌, arith}
 use Rattle.std.specs.declared.cmp.Ordering.TheVariants.{Less}
 use Rattle.std.specs.Prelude.{nat_le}
 use Rattle.std.specs.Ordering.{is_lt}
@@ -38,7 +39,8 @@ use Rattle.ds_replica.proofs.JournalLemmas.{front_is, front_part, journal_covers
 -- ---- after a key
 
 -- What comes after the first n changes of an ordered list comes after the last key of these.
-drop_after : (after : Option Key) (xs : List Item) (n : ℕ) (d : ChangeRecord) → IsStrictlySortedBy item_cmp xs → ((i : Item) → In i xs → is_after_key after i ≡ true) →
+drop_after : (after : Option Key) (xs : List Item) (n : ℕ) (d : ChangeRecord) → IsStrictlySortedBy item_cmp xs →
+    ((i : Item) → In i xs → is_after_key after i ≡ true) →
     In (Changed d) (drop n xs) → is_after_key (last_key after (take n xs)) (Changed d) ≡ true
 unfolding IsStrictlySortedBy
 drop_after after [] zero d s f h = absurd h
@@ -50,7 +52,8 @@ drop_after after (Changed x ∷ xs) (suc n) d s f h = drop_after (Some x.key) xs
     here (Changed c) e = ap is_lt e
     here (Floored g) e = cc
 
-    below : (ys : List Item) (i : Item) → AllByRecursion (λ y. item_cmp (Changed x) y ≡ Less) ys → In i ys → is_after_key (Some x.key) i ≡ true
+    below : (ys : List Item) (i : Item) → AllByRecursion (λ y. item_cmp (Changed x) y ≡ Less) ys → In i ys →
+        is_after_key (Some x.key) i ≡ true
     below [] i a k = absurd k
     below (y ∷ ys) i a (inl e) = here i (subst (λ (z : Item). item_cmp (Changed x) z ≡ Less) (sym e) a.0)
     below (y ∷ ys) i a (inr k) = below ys i a.1 k
@@ -63,7 +66,8 @@ floors_give_none after (Changed c ∷ xs) ys = floors_give_none after xs ys
 floors_give_none after (Floored f ∷ xs) ys = floors_give_none after xs ys
 
 -- The other change of the key is after the same keys.
-same_after : (after : Option Key) (c d : ChangeRecord) → d.key ≡ c.key → is_after_key after (Changed c) ≡ true → is_after_key after (Changed d) ≡ true
+same_after : (after : Option Key) (c d : ChangeRecord) → d.key ≡ c.key → is_after_key after (Changed c) ≡ true →
+    is_after_key after (Changed d) ≡ true
 same_after None c d e h = refl
 same_after (Some a) c d e h = subst (λ (k : Key). is_lt (key_cmp a k) ≡ true) (sym e) h
 
@@ -93,7 +97,8 @@ module _ (f : Feed) (scope : Key → Bool) (after : Option Key) (t : PageTurn) (
   in_order : IsStrictlySortedBy item_cmp changes
   in_order =
       IsStrictlySortedBy-filter item_cmp (λ i. not (is_floor i)) rest
-      (IsStrictlySortedBy-filter item_cmp (is_after_key after) (filter (passes scope) t.held) (IsStrictlySortedBy-filter item_cmp (passes scope) t.held s.top.in_order))
+      (IsStrictlySortedBy-filter item_cmp (is_after_key after) (filter (passes scope) t.held)
+      (IsStrictlySortedBy-filter item_cmp (passes scope) t.held s.top.in_order))
 
   all_after : (i : Item) → In i changes → is_after_key after i ≡ true
   all_after i h =
@@ -111,36 +116,45 @@ module _ (f : Feed) (scope : Key → Bool) (after : Option Key) (t : PageTurn) (
       Contains t.page.items (Changed d) ⊎ ((t.page.last ≡ false) × (is_after_key (last_key after t.page.items) (Changed d) ≡ true))
   on_page d h p b =
       by_place (Contains-append_cases (take t.max changes) (drop t.max changes) (Changed d)
-      (subst (λ (l : List Item). Contains l (Changed d)) (sym (take-append-drop t.max changes)) (Contains-filter (λ (j : Item). not (is_floor j)) rest (Changed d) (to_come (Changed d) h p b) refl)))
+      (subst (λ (l : List Item). Contains l (Changed d)) (sym (take-append-drop t.max changes))
+      (Contains-filter (λ (j : Item). not (is_floor j)) rest (Changed d) (to_come (Changed d) h p b) refl)))
     where
       past : Contains (drop t.max changes) (Changed d) → is_after_key (last_key after t.page.items) (Changed d) ≡ true
       past k =
-          let key : last_key after t.page.items ≡ last_key after (take t.max changes) = ap (last_key after) items_are ∙ floors_give_none after rest (take t.max changes) in
-          ap (λ (o : Option Key). is_after_key o (Changed d)) key ∙ drop_after after changes t.max d in_order all_after (In-from_Contains (Changed d) (drop t.max changes) k)
+          let key : last_key after t.page.items ≡ last_key after (take t.max changes) =
+          ap (last_key after) items_are ∙ floors_give_none after rest (take t.max changes) in
+          ap (λ (o : Option Key). is_after_key o (Changed d)) key ∙
+          drop_after after changes t.max d in_order all_after (In-from_Contains (Changed d) (drop t.max changes) k)
 
-      at_end : (b : Bool) → t.page.last ≡ b → Contains (drop t.max changes) (Changed d) → Contains t.page.items (Changed d) ⊎ ((t.page.last ≡ false) × (is_after_key (last_key after t.page.items) (Changed d) ≡ true))
+      at_end : (b : Bool) → t.page.last ≡ b → Contains (drop t.max changes) (Changed d) →
+          Contains t.page.items (Changed d) ⊎ ((t.page.last ≡ false) × (is_after_key (last_key after t.page.items) (Changed d) ≡ true))
       at_end false e k = inr (e, past k)
       at_end true e k =
           let few : length changes ≤ t.max = leb-true (length changes) t.max (sym last_is ∙ e) in
-          inl (taken (Changed d) (subst (λ (l : List Item). Contains l (Changed d)) (sym (take_all t.max changes few)) (Contains-from_drop t.max changes (Changed d) k)))
+          inl (taken (Changed d) (subst (λ (l : List Item). Contains l (Changed d)) (sym (take_all t.max changes few))
+          (Contains-from_drop t.max changes (Changed d) k)))
 
-      by_place : Contains (take t.max changes) (Changed d) ⊎ Contains (drop t.max changes) (Changed d) → Contains t.page.items (Changed d) ⊎ ((t.page.last ≡ false) × (is_after_key (last_key after t.page.items) (Changed d) ≡ true))
+      by_place : Contains (take t.max changes) (Changed d) ⊎ Contains (drop t.max changes) (Changed d) →
+          Contains t.page.items (Changed d) ⊎ ((t.page.last ≡ false) × (is_after_key (last_key after t.page.items) (Changed d) ≡ true))
       by_place (inl k) = inl (taken (Changed d) k)
       by_place (inr k) = at_end t.page.last refl k
 
   floor_to_come : (g : Floor) → is_after_key after (Floored g) ≡ true → Contains t.held (Floored g) → Contains t.page.items (Floored g)
   floor_to_come g b h =
       subst (λ (l : List Item). Contains l (Floored g)) (sym items_are)
-      (Contains-append_left (floors_of rest) (take t.max changes) (Floored g) (Contains-filter is_floor rest (Floored g) (to_come (Floored g) h refl b) refl))
+      (Contains-append_left (floors_of rest) (take t.max changes) (Floored g)
+      (Contains-filter is_floor rest (Floored g) (to_come (Floored g) h refl b) refl))
 
 -- the first page stands for all that a floor of that time covers
-first_page : (f : Feed) (scope : Key → Bool) (t : PageTurn) → IsPageTurn f scope None t → (g : Floor) (i : Item) → Contains t.feed.accepted (Floored g) →
+first_page : (f : Feed) (scope : Key → Bool) (t : PageTurn) → IsPageTurn f scope None t → (g : Floor) (i : Item) →
+    Contains t.feed.accepted (Floored g) →
     Contains t.feed.accepted i → covers (Floored g) i ≡ true → Contains (stood_for (given t.known t.page.items)) i
 first_page f scope t s g i h k e = let d = s.top.greatest (Floored g) h in over d.0 d.1 d.2
   where
     over : (d : Item) → Contains t.held d → covers d (Floored g) ≡ true → Contains (stood_for (given t.known t.page.items)) i
     over (Changed d) l q = cc
-    over (Floored d) l q = given_stands t.known t.page.items i (Floored d) (floor_to_come f scope None t s d refl l) (s.knows i k) (covers-trans (Floored d) (Floored g) i q e)
+    over (Floored d) l q = given_stands t.known t.page.items i (Floored d) (floor_to_come f scope None t s d refl l) (s.knows i k)
+        (covers-trans (Floored d) (Floored g) i q e)
 
 -- ---- all pages
 
@@ -154,7 +168,8 @@ module _ (f : Feed) (scope : Key → Bool) where
   Follow t after ts = MatchBool t.page.last (ts ≡ []) (ArePages f scope after t.page.cursor.position ts)
 
   -- No page's cursor is past the last one's.
-  rises : (t : PageTurn) (after : Option Key) (ts : List PageTurn) → Follow t after ts → t.page.cursor.position ≤ (last_cursor t.page.cursor ts).position
+  rises : (t : PageTurn) (after : Option Key) (ts : List PageTurn) → Follow t after ts →
+      t.page.cursor.position ≤ (last_cursor t.page.cursor ts).position
   rises t after [] w = omega arith
   rises t after (u ∷ us) w = by_last t.page.last w (rises u (last_key after u.page.items) us)
     where
@@ -168,8 +183,10 @@ module _ (f : Feed) (scope : Key → Bool) where
           omega arith
 
   -- The pages after a key stand for each change after it that took effect before them, unless a floor covers it by then.
-  pages_stand : (after : Option Key) (p : ℕ) (at : Cursor) (ts : List PageTurn) → ArePages f scope after p ts → (b : Feed) (c : ChangeRecord) → IsFront b f → position b ≤ p → Contains b.accepted (Changed c) →
-      passes scope (Changed c) ≡ true → is_after_key after (Changed c) ≡ true → Contains (stood_for (page_items ts)) (Changed c) ⊎ IsFloored f (last_cursor at ts).position (Changed c)
+  pages_stand : (after : Option Key) (p : ℕ) (at : Cursor) (ts : List PageTurn) → ArePages f scope after p ts →
+      (b : Feed) (c : ChangeRecord) → IsFront b f → position b ≤ p → Contains b.accepted (Changed c) →
+      passes scope (Changed c) ≡ true → is_after_key after (Changed c) ≡ true →
+      Contains (stood_for (page_items ts)) (Changed c) ⊎ IsFloored f (last_cursor at ts).position (Changed c)
   pages_stand after p at [] w b c front early h q r = absurd w
   pages_stand after p at (t ∷ ts) w b c front early h q r =
       let d = w.0.top.greatest (Changed c) accepted in
@@ -182,18 +199,24 @@ module _ (f : Feed) (scope : Key → Bool) where
       on = let low : p ≤ t.page.cursor.position = w.1 in omega arith
 
       accepted : Contains t.feed.accepted (Changed c)
-      accepted = front_part b t.feed f front w.0.front (let l : position b ≤ t.page.cursor.position = on in let e : t.page.cursor.position ≡ position t.feed = place in omega arith) (Changed c) h
+      accepted = front_part b t.feed f front w.0.front
+          (let l : position b ≤ t.page.cursor.position = on in let e : t.page.cursor.position ≡ position t.feed = place in omega arith)
+          (Changed c) h
 
       here : (d : Item) → covers d (Changed c) ≡ true → Contains t.page.items d → Contains (stood_for (page_items (t ∷ ts))) (Changed c)
-      here d e k = stood_left (given t.known t.page.items) (page_items ts) (Changed c) (given_stands t.known t.page.items (Changed c) d k (w.0.knows (Changed c) accepted) e)
+      here d e k = stood_left (given t.known t.page.items) (page_items ts) (Changed c)
+          (given_stands t.known t.page.items (Changed c) d k (w.0.knows (Changed c) accepted) e)
 
-      next : (b : Bool) → t.page.last ≡ b → b ≡ false → Follow t (last_key after t.page.items) ts → ArePages f scope (last_key after t.page.items) t.page.cursor.position ts
+      next : (b : Bool) → t.page.last ≡ b → b ≡ false → Follow t (last_key after t.page.items) ts →
+          ArePages f scope (last_key after t.page.items) t.page.cursor.position ts
       next true e n v = cc
-      next false e n v = subst (λ (b : Bool). MatchBool b (ts ≡ []) (ArePages f scope (last_key after t.page.items) t.page.cursor.position ts)) e v
+      next false e n v = subst (λ (b : Bool). MatchBool b (ts ≡ [])
+          (ArePages f scope (last_key after t.page.items) t.page.cursor.position ts)) e v
 
       on_or_after : (d : ChangeRecord) → covers (Changed d) (Changed c) ≡ true →
           Contains t.page.items (Changed d) ⊎ ((t.page.last ≡ false) × (is_after_key (last_key after t.page.items) (Changed d) ≡ true)) →
-          (ArePages f scope (last_key after t.page.items) t.page.cursor.position ts → is_after_key (last_key after t.page.items) (Changed c) ≡ true →
+          (ArePages f scope (last_key after t.page.items) t.page.cursor.position ts →
+          is_after_key (last_key after t.page.items) (Changed c) ≡ true →
           Contains (stood_for (page_items ts)) (Changed c) ⊎ IsFloored f (last_cursor t.page.cursor ts).position (Changed c)) →
           Contains (stood_for (page_items (t ∷ ts))) (Changed c) ⊎ IsFloored f (last_cursor t.page.cursor ts).position (Changed c)
       on_or_after d e (inl k) more = inl (here (Changed d) e k)
@@ -204,14 +227,22 @@ module _ (f : Feed) (scope : Key → Bool) where
           ]
 
       over : (d : Item) → Contains t.held d → covers d (Changed c) ≡ true →
-          (ArePages f scope (last_key after t.page.items) t.page.cursor.position ts → is_after_key (last_key after t.page.items) (Changed c) ≡ true →
+          (ArePages f scope (last_key after t.page.items) t.page.cursor.position ts →
+          is_after_key (last_key after t.page.items) (Changed c) ≡ true →
           Contains (stood_for (page_items ts)) (Changed c) ⊎ IsFloored f (last_cursor t.page.cursor ts).position (Changed c)) →
           Contains (stood_for (page_items (t ∷ ts))) (Changed c) ⊎ IsFloored f (last_cursor t.page.cursor ts).position (Changed c)
       over (Floored g) k e more =
-          let there : Contains (before f t.page.cursor.position) (Floored g) = subst (λ (l : List Item). Contains l (Floored g)) (sym (page_front f scope after t w.0)) (w.0.top.among (Floored g) k) in
-          inr (g, before_part f t.page.cursor.position (last_cursor t.page.cursor ts).position (rises t (last_key after t.page.items) ts w.2) (Floored g) there, e)
+          let there : Contains (before f t.page.cursor.position) (Floored g) =
+          subst (λ (l : List Item). Contains l (Floored g)) (sym (page_front f scope after t w.0)) (w.0.top.among (Floored g) k) in
+          inr (
+            g,
+            before_part f t.page.cursor.position (last_cursor t.page.cursor ts).position
+                (rises t (last_key after t.page.items) ts w.2) (Floored g) there,
+            e,
+          )
       over (Changed d) k e more =
-          on_or_after d e (on_page f scope after t w.0 d k (covers-query scope (Changed d) (Changed c) e q) (same_after after c d (sym (covers-key d c e)) r)) more
+          on_or_after d e (on_page f scope after t w.0 d k (covers-query scope (Changed d) (Changed c) e q)
+          (same_after after c d (sym (covers-key d c e)) r)) more
 
 -- No page's cursor is past the store's position.
 front_within : (f late : Feed) → IsFront f late → position f ≤ position late
@@ -220,7 +251,8 @@ front_within f late g =
     let first : late.first ≡ f.first = g.first in
     omega arith
 
-pub pages_end : (f : Feed) (scope : Key → Bool) (first : PageTurn) (pages : List PageTurn) → ArePages f scope None 0 (first ∷ pages) → (last_cursor first.page.cursor pages).position ≤ position f
+pub pages_end : (f : Feed) (scope : Key → Bool) (first : PageTurn) (pages : List PageTurn) → ArePages f scope None 0 (first ∷ pages) →
+    (last_cursor first.page.cursor pages).position ≤ position f
 pages_end f scope first pages w = at first None 0 pages w
   where
     end_at : (after : Option Key) (t : PageTurn) → IsPageTurn f scope after t → t.page.cursor.position ≤ position f
@@ -229,12 +261,15 @@ pages_end f scope first pages w = at first None 0 pages w
         let within : position t.feed ≤ position f = front_within t.feed f s.front in
         omega arith
 
-    at : (t : PageTurn) (after : Option Key) (p : ℕ) (ts : List PageTurn) → ArePages f scope after p (t ∷ ts) → (last_cursor t.page.cursor ts).position ≤ position f
+    at : (t : PageTurn) (after : Option Key) (p : ℕ) (ts : List PageTurn) → ArePages f scope after p (t ∷ ts) →
+        (last_cursor t.page.cursor ts).position ≤ position f
     at t after p [] w = end_at after t w.0
     at t after p (u ∷ us) w = by_last t.page.last w.2 (at u (last_key after t.page.items) t.page.cursor.position us)
       where
-        by_last : (b : Bool) → MatchBool b ((u ∷ us) ≡ []) (ArePages f scope (last_key after t.page.items) t.page.cursor.position (u ∷ us)) →
-            (ArePages f scope (last_key after t.page.items) t.page.cursor.position (u ∷ us) → (last_cursor u.page.cursor us).position ≤ position f) →
+        by_last : (b : Bool) → MatchBool b ((u ∷ us) ≡ []) (ArePages f scope (last_key after t.page.items) t.page.cursor.position (u ∷ us))
+            →
+            (ArePages f scope (last_key after t.page.items) t.page.cursor.position (u ∷ us) →
+            (last_cursor u.page.cursor us).position ≤ position f) →
             (last_cursor u.page.cursor us).position ≤ position f
         by_last true e rest = cc
         by_last false v rest = rest v
@@ -253,20 +288,28 @@ pages_are_whole f scope other query first pages turns keep keep_other w s bound 
     to : Cursor
     to = cursor_after first.page.cursor turns
 
-    first_stands : (j : Item) → Contains (stood_for (given first.known first.page.items)) j → Contains (stood_for (page_items (first ∷ pages) ++ since_items turns)) j
-    first_stands j l = stood_left (page_items (first ∷ pages)) (since_items turns) j (stood_left (given first.known first.page.items) (page_items pages) j l)
+    first_stands : (j : Item) → Contains (stood_for (given first.known first.page.items)) j →
+        Contains (stood_for (page_items (first ∷ pages) ++ since_items turns)) j
+    first_stands j l = stood_left (page_items (first ∷ pages)) (since_items turns) j
+        (stood_left (given first.known first.page.items) (page_items pages) j l)
 
     -- A floor that took effect by the last page is on the first page or in the journal.
-    floored : (c : ChangeRecord) → Contains first.feed.accepted (Changed c) → IsFloored f (last_cursor first.page.cursor pages).position (Changed c) → Contains (stood_for (page_items (first ∷ pages) ++ since_items turns)) (Changed c)
+    floored : (c : ChangeRecord) → Contains first.feed.accepted (Changed c) →
+        IsFloored f (last_cursor first.page.cursor pages).position (Changed c) →
+        Contains (stood_for (page_items (first ∷ pages) ++ since_items turns)) (Changed c)
     floored c l g =
-        let in_time : Contains (before f to.position) (Floored g.0) = before_part f (last_cursor from pages).position to.position bound (Floored g.0) g.1 in
+        let in_time : Contains (before f to.position) (Floored g.0) =
+        before_part f (last_cursor from pages).position to.position bound (Floored g.0) g.1 in
         let place : from.position ≡ position first.feed = place_is f scope None first w.0 in
-        elim (journal_covers f other from turns (Floored g.0) (Changed c) s refl g.2 (inl (first.feed, w.0.front, omega arith, l)) in_time) [
-          | inl m ↦ first_stands (Changed c) (first_page f scope first w.0 g.0 (Changed c) (subst (λ (xs : List Item). Contains xs (Floored g.0)) (page_front f scope None first w.0) m) l g.2)
+        elim
+        (journal_covers f other from turns (Floored g.0) (Changed c) s refl g.2 (inl (first.feed, w.0.front, omega arith, l)) in_time) [
+          | inl m ↦ first_stands (Changed c) (first_page f scope first w.0 g.0 (Changed c)
+              (subst (λ (xs : List Item). Contains xs (Floored g.0)) (page_front f scope None first w.0) m) l g.2)
           | inr m ↦ stood_right (page_items (first ∷ pages)) (since_items turns) (Changed c) m
         ]
 
-    early : (j : Item) → passes scope j ≡ true → Contains first.feed.accepted j → Contains (stood_for (page_items (first ∷ pages) ++ since_items turns)) j
+    early : (j : Item) → passes scope j ≡ true → Contains first.feed.accepted j →
+        Contains (stood_for (page_items (first ∷ pages) ++ since_items turns)) j
     early (Floored g) q l = first_stands (Floored g) (first_page f scope first w.0 g (Floored g) l l (covers-refl (Floored g)))
     early (Changed c) q l =
         let place : from.position ≡ position first.feed = place_is f scope None first w.0 in

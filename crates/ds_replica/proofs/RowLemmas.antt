@@ -1,5 +1,6 @@
 -- The worked rows.
-use Rattle.std.proofs.Common.{◌≡◌, ◌⊎◌, ℕ, ◌≤◌, true, false, List, [], ◌∷◌, length, filter, Some, None, refl, ap, sym, ◌∙◌, subst, inl, inr, arith, codes, Contains}
+use Rattle.std.proofs.Common.{◌≡◌, ◌⊎◌, ℕ, ◌≤◌, true, false, List, [], ◌∷◌, length, filter, Some, None, refl, ap, sym, ◌∙◌, subst, inl, inr}
+use Rattle.std.proofs.Common.{arith, codes, Contains}
 use Rattle.ds_names.specs.Endpoint.{endpoint_of}
 use Rattle.ds_names.specs.Name.{is_name_byte, is_same_name, rs_name}
 use Rattle.ds_entry.specs.Change.{ChangeRecord}
@@ -37,25 +38,38 @@ use Rattle.ds_replica.specs.Happens.{Asks, ask_outcome, items_given, HappenAll}
 use Rattle.ds_replica.specs.Delivery.{Tally, counting, StoreTakes, MapTakes}
 use Rattle.ds_replica.specs.Known.{known_by}
 use Rattle.ds_replica.specs.CaughtUp.{AreItems}
-use Rattle.ds_replica.specs.Rows.{fresh_world, driver_label, floor, irq, one, other, later, ended, renewed, OwnersChange, contradicted, with_both, with_other, AsksFor, ReplicasConverge}
-use Rattle.ds_replica.specs.Rows.{ReplicasDiffer, MapCatchesUp, MapLags, MapLeads, MapsCatchUp, MapsLag, MapsLead, ReplicasClash, MapClashes, MapsClash}
+use Rattle.ds_replica.specs.Rows.{fresh_world, driver_label, floor, irq, one, other, later, ended, renewed, OwnersChange, contradicted}
+use Rattle.ds_replica.specs.Rows.{with_both, with_other, AsksFor, ReplicasConverge}
+use Rattle.ds_replica.specs.Rows.{ReplicasDiffer, MapCatchesUp, MapLags, MapLeads, MapsCatchUp, MapsLag, MapsLead, ReplicasClash}
+use Rattle.ds_replica.specs.Rows.{MapClashes, MapsClash}
 use Rattle.ds_names.specs.Limits.{most_items}
 use Rattle.ds_names.specs.Key.{label_key}
 use Rattle.ds_entry.specs.Under.{under}
 
 -- ---- what takes part
 one_change : (c : ChangeRecord) → AreSingleNumbered (Changed c ∷ [])
-one_change c = record { one_change = λ d e h k q v. is d h ∙ sym (is e k); one_owner = λ d e h k q. ap (λ (x : ChangeRecord). x.owner) (is d h ∙ sym (is e k)) }
+one_change c =
+    record {
+      one_change = λ d e h k q v. is d h ∙ sym (is e k);
+      one_owner = λ d e h k q.
+          ap (λ (x : ChangeRecord). x.owner) (is d h ∙ sym (is e k));
+    }
   where
     is : (d : ChangeRecord) → Contains (Changed c ∷ []) (Changed d) → d ≡ c
     is d h = changed_same d c (Contains-single (Changed c) (Changed d) h)
 
 -- a floor beside a change
 beside : (f : Floor) (c : ChangeRecord) → AreSingleNumbered (Floored f ∷ Changed c ∷ [])
-beside f c = record { one_change = λ d e h k q v. is d h ∙ sym (is e k); one_owner = λ d e h k q. ap (λ (x : ChangeRecord). x.owner) (is d h ∙ sym (is e k)) }
+beside f c =
+    record {
+      one_change = λ d e h k q v. is d h ∙ sym (is e k);
+      one_owner = λ d e h k q.
+          ap (λ (x : ChangeRecord). x.owner) (is d h ∙ sym (is e k));
+    }
   where
     is : (d : ChangeRecord) → Contains (Floored f ∷ Changed c ∷ []) (Changed d) → d ≡ c
-    is d h = elim (Contains-cons (Floored f) (Changed c ∷ []) (Changed d) h) [ inl e ↦ absurd (let q : Changed d ≡ Floored f = e in cc) | inr k ↦ changed_same d c (Contains-single (Changed c) (Changed d) k) ]
+    is d h = elim (Contains-cons (Floored f) (Changed c ∷ []) (Changed d) h)
+        [ inl e ↦ absurd (let q : Changed d ≡ Floored f = e in cc) | inr k ↦ changed_same d c (Contains-single (Changed c) (Changed d) k) ]
 
 -- of items that were done, and of those that were taken
 abbrev done : ℕ → ℕ → Tally
@@ -65,7 +79,8 @@ few_there : (i : Item) (group : List Item) → Contains ((i ∷ []) ∷ []) grou
 few_there i group h = subst (λ (l : List Item). length l ≤ most_items) (sym (Contains-single (i ∷ []) group h)) (omega arith)
 
 -- one item goes to a store, as a Merge of its own
-stored : (s : State) (i : Item) → Step s (Merge (i ∷ [])) (AllMerged 1 1 0 0) (takes_effect s (i ∷ [])) → StoreTakes s (i ∷ []) (done 1 1) (takes_effect s (i ∷ []))
+stored : (s : State) (i : Item) → Step s (Merge (i ∷ [])) (AllMerged 1 1 0 0) (takes_effect s (i ∷ [])) →
+    StoreTakes s (i ∷ []) (done 1 1) (takes_effect s (i ∷ []))
 stored s i step = record {
   groups = (i ∷ []) ∷ [];
   all = refl;
@@ -99,7 +114,9 @@ replicas_differ = record {
 }
 
 delivered : World
-delivered = record fresh_world { a = after_publish; b = takes_effect (opening 2 0 4 larger) (driver_label ∷ []); messages = (driver_label ∷ []) ∷ [] }
+delivered =
+    record fresh_world
+    { a = after_publish; b = takes_effect (opening 2 0 4 larger) (driver_label ∷ []); messages = (driver_label ∷ []) ∷ [] }
 
 pub replicas_converge : ReplicasConverge
 unfolding after_publish delivered
@@ -160,7 +177,8 @@ driver_is = record {
 
 both_are : AreItems both
 unfolding both
-both_are i h = elim (Contains-cons floor (driver_label ∷ []) i h) [ inl e ↦ subst IsItem (sym e) floor_is | inr k ↦ subst IsItem (sym (Contains-single driver_label i k)) driver_is ]
+both_are i h = elim (Contains-cons floor (driver_label ∷ []) i h)
+    [ inl e ↦ subst IsItem (sym e) floor_is | inr k ↦ subst IsItem (sym (Contains-single driver_label i k)) driver_is ]
 
 -- they are the top of themselves
 itself : IsTop both both
@@ -168,11 +186,14 @@ unfolding both
 itself = top_of_one rs_name (floor ∷ driver_label ∷ []) (tt, (refl, tt))
 
 -- none of them is gone
-still_put : {P Q : ChangeRecord → Type 0} → ((d : ChangeRecord) × Contains (floor ∷ driver_label ∷ []) (Changed d) × P d × (d.body ≡ Gone) × Q d) → ⊥
+still_put : {P Q : ChangeRecord → Type 0} →
+    ((d : ChangeRecord) × Contains (floor ∷ driver_label ∷ []) (Changed d) × P d × (d.body ≡ Gone) × Q d) → ⊥
 still_put {P} {Q} g =
     elim (Contains-cons floor (driver_label ∷ []) (Changed g.0) g.1) [
       | inl e ↦ (let q : Changed g.0 ≡ floor = e in cc)
-      | inr k ↦ (let b : g.0.body ≡ Put (Label (endpoint_of 3 17)) = ap (λ (c : ChangeRecord). c.body) (changed_same g.0 _ (Contains-single driver_label (Changed g.0) k)) in let n : Gone ≡ Put (Label (endpoint_of 3 17)) = sym g.3 ∙ b in cc)
+      | inr k ↦ (let b : g.0.body ≡ Put (Label (endpoint_of 3 17)) =
+          ap (λ (c : ChangeRecord). c.body) (changed_same g.0 _ (Contains-single driver_label (Changed g.0) k)) in
+          let n : Gone ≡ Put (Label (endpoint_of 3 17)) = sym g.3 ∙ b in cc)
     ]
 
 module _ (query : Query) (asks : AsksFor query (label_key (codes "eth0"))) where
@@ -338,7 +359,8 @@ swapped x y i h = elim (Contains-cons x (y ∷ []) i h) [
 
 -- what the two stores hold isn't the same
 apart : other ∷ [] ≡ one ∷ [] → ⊥
-apart q = let m : other ≡ one = cc in let e : Put (Number 11) ≡ Put (Number 9) = ap (λ (c : ChangeRecord). c.body) (changed_same _ _ m) in cc
+apart q = let m : other ≡ one = cc in let e : Put (Number 11) ≡ Put (Number 9) = ap (λ (c : ChangeRecord). c.body) (changed_same _ _ m) in
+    cc
 
 abbrev clash : Refusal
 clash = Clash (record { epoch = 3; seq = 0 })
@@ -356,7 +378,13 @@ stopped s i step = record {
 }
 
 abbrev clashing : World
-clashing = record fresh_world { a = takes_effect (opening 3 0 4 larger) (one ∷ []); b = takes_effect (opening 4 0 4 larger) (other ∷ []); messages = (one ∷ []) ∷ (other ∷ []) ∷ [] }
+clashing =
+    record fresh_world {
+      a = takes_effect (opening 3 0 4 larger) (one ∷ []);
+      b = takes_effect (opening 4 0 4 larger) (other ∷ []);
+      messages =
+          (one ∷ []) ∷ (other ∷ []) ∷ [];
+    }
 
 contradicted_happen : HappenAll fresh_world contradicted clashing
 contradicted_happen = (
@@ -369,16 +397,27 @@ contradicted_happen = (
       record fresh_world { a = opening 3 0 4 larger; messages = (one ∷ []) ∷ [] },
       (refl, record { outcome_is = refl; world_is = refl }),
       (
-        record fresh_world { a = opening 3 0 4 larger; b = takes_effect (opening 2 0 4 larger) (other ∷ later ∷ []); messages = (one ∷ []) ∷ [] },
+        record fresh_world
+            { a = opening 3 0 4 larger; b = takes_effect (opening 2 0 4 larger) (other ∷ later ∷ []); messages = (one ∷ []) ∷ [] },
         (refl, does _ _ _),
         (
-          record fresh_world { a = opening 3 0 4 larger; b = takes_effect (opening 2 0 4 larger) (other ∷ later ∷ []); messages = (one ∷ []) ∷ (other ∷ []) ∷ [] },
+          record fresh_world {
+            a = opening 3 0 4 larger;
+            b = takes_effect (opening 2 0 4 larger) (other ∷ later ∷ []);
+            messages =
+                (one ∷ []) ∷ (other ∷ []) ∷ [];
+          },
           (refl, does _ _ _),
           (
             record fresh_world { a = opening 3 0 4 larger; b = opening 4 0 4 larger; messages = (one ∷ []) ∷ (other ∷ []) ∷ [] },
             (refl, record { outcome_is = refl; world_is = refl }),
             (
-              record fresh_world { a = takes_effect (opening 3 0 4 larger) (one ∷ []); b = opening 4 0 4 larger; messages = (one ∷ []) ∷ (other ∷ []) ∷ [] },
+              record fresh_world {
+                a = takes_effect (opening 3 0 4 larger) (one ∷ []);
+                b = opening 4 0 4 larger;
+                messages =
+                    (one ∷ []) ∷ (other ∷ []) ∷ [];
+              },
               (
                 refl,
                 record {
@@ -394,7 +433,12 @@ contradicted_happen = (
                 },
               ),
               (
-                record fresh_world { a = takes_effect (opening 3 0 4 larger) (one ∷ []); b = takes_effect (opening 4 0 4 larger) (other ∷ []); messages = (one ∷ []) ∷ (other ∷ []) ∷ [] },
+                record fresh_world {
+                  a = takes_effect (opening 3 0 4 larger) (one ∷ []);
+                  b = takes_effect (opening 4 0 4 larger) (other ∷ []);
+                  messages =
+                      (one ∷ []) ∷ (other ∷ []) ∷ [];
+                },
                 (
                   refl,
                   record {
@@ -460,30 +504,31 @@ module _ (query : Query) (asks : AsksFor query irq) where
   clashes : MapClashes query
   clashes = record {
     world = record clashing { maps = map_of (other ∷ []) ∷ [] };
-    happen = happen_then contradicted ((NewMap query, MapMade 0) ∷ (Deliver 1 (Map 0) None, Merged (counting 1 1 0) 0) ∷ []) fresh_world clashing (record clashing { maps = map_of (other ∷ []) ∷ [] }) contradicted_happen (
-      record clashing { maps = map_of [] ∷ [] },
-      (asks.read, record { outcome_is = refl; world_is = refl }),
-      (
-        record clashing { maps = map_of (other ∷ []) ∷ [] },
-        (
-          refl,
-          record {
-            items = other ∷ [];
-            there = refl;
-            tally = done 1 1;
-            taken = record {
-              old = map_of [];
-              there = refl;
-              after = map_of (other ∷ []);
-              takes = record { query = refl; top = other_top; counted = omega arith; owed = refl; ends = refl };
-              world_is = refl;
-            };
-            outcome_is = refl;
-          },
-        ),
-        refl,
-      ),
-    );
+    happen = happen_then contradicted ((NewMap query, MapMade 0) ∷ (Deliver 1 (Map 0) None, Merged (counting 1 1 0) 0) ∷ []) fresh_world
+        clashing (record clashing { maps = map_of (other ∷ []) ∷ [] }) contradicted_happen (
+          record clashing { maps = map_of [] ∷ [] },
+          (asks.read, record { outcome_is = refl; world_is = refl }),
+          (
+            record clashing { maps = map_of (other ∷ []) ∷ [] },
+            (
+              refl,
+              record {
+                items = other ∷ [];
+                there = refl;
+                tally = done 1 1;
+                taken = record {
+                  old = map_of [];
+                  there = refl;
+                  after = map_of (other ∷ []);
+                  takes = record { query = refl; top = other_top; counted = omega arith; owed = refl; ends = refl };
+                  world_is = refl;
+                };
+                outcome_is = refl;
+              },
+            ),
+            refl,
+          ),
+        );
     all = record { there = refl; whole = λ i h. Contains-tail other (one ∷ []) i (Contains-from_under (is_under query) (one ∷ []) i h).0 };
     nothing_else = λ i h. swapped other one i
         (stood_wider (filter (λ s. passes (is_under query) s.item) (with_other query).taken) (with_other query).taken
@@ -576,7 +621,12 @@ owners_change = record {
             items = both_renewed;
             there = refl;
             tally = done 2 2;
-            taken = record { after = then_told; takes = stored_both (opening 2 0 4 larger) (inl (inl (record { reply_is = refl; state_is = refl }))); world_is = refl };
+            taken =
+                record {
+                  after = then_told;
+                  takes = stored_both (opening 2 0 4 larger) (inl (inl (record { reply_is = refl; state_is = refl })));
+                  world_is = refl;
+                };
             outcome_is = refl;
           },
         ),

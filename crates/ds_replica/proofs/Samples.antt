@@ -19,7 +19,8 @@ use Rattle.ds_feed.specs.Feed.{Feed}
 
 -- a change of the owner `o` in epoch 1
 abbrev pub record_of : Kind → ℕ → ℕ → Body → ChangeRecord
-record_of kind name seq body = record { key = record { name = name ∷ []; kind = kind }; owner = 111 ∷ []; version = record { epoch = 1; seq = seq }; body = body }
+record_of kind name seq body =
+    record { key = record { name = name ∷ []; kind = kind }; owner = 111 ∷ []; version = record { epoch = 1; seq = seq }; body = body }
 
 abbrev pub change : Kind → ℕ → ℕ → Body → Item
 change kind name seq body = Changed (record_of kind name seq body)
@@ -84,7 +85,9 @@ one_owner owner items a front back (Changed c) e =
     let own : IsOf owner (Changed c) = of_one owner items (Changed c) a
     (In-from_Contains (Changed c) items (subst (λ (l : List Item). Contains l (Changed c)) (sym e)
     (Contains-append_right front (Changed c ∷ back) (Changed c) (Contains-head (Changed c) back)))) in
-    let other : IsOf owner (Changed d) = of_one owner items (Changed d) a (In-from_Contains (Changed d) items (subst (λ (l : List Item). Contains l (Changed d)) (sym e) (Contains-append_left front (Changed c ∷ back) (Changed d) h))) in
+    let other : IsOf owner (Changed d) = of_one owner items (Changed d) a
+    (In-from_Contains (Changed d) items (subst (λ (l : List Item). Contains l (Changed d)) (sym e)
+    (Contains-append_left front (Changed c ∷ back) (Changed d) h))) in
     own ∙ sym other
 
 -- what is held of items of one owner is their top

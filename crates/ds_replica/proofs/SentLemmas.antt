@@ -7,7 +7,8 @@ use Rattle.ds_entry.specs.Item.{passes}
 use Rattle.ds_entry.specs.ItemCovers.{covers, covered_by}
 use Rattle.ds_entry.specs.declared.item.Item.{Item}
 use Rattle.ds_entry.specs.declared.item.Item.TheVariants.{Change as Changed, Floor as Floored}
-use Rattle.ds_entry.proofs.Members.{Contains-single, Contains-head, Contains-tail, Contains-filter, Contains-from_filter, Contains-map, Contains-from_map, Contains-flat_map, Contains-from_flat_map}
+use Rattle.ds_entry.proofs.Members.{Contains-single, Contains-head, Contains-tail, Contains-filter, Contains-from_filter, Contains-map}
+use Rattle.ds_entry.proofs.Members.{Contains-from_map, Contains-flat_map, Contains-from_flat_map}
 use Rattle.ds_entry.proofs.ItemLemmas.{covers-query}
 use Rattle.ds_join.specs.ItemTop.{IsPartOf}
 use Rattle.ds_join.proofs.ItemTopLemmas.{top_of_covered}
@@ -18,10 +19,12 @@ use Rattle.ds_entry.specs.Under.{under}
 
 -- ---- under a query
 
-pub Contains-under : (query : Key → Bool) (items : List Item) (i : Item) → Contains items i → passes query i ≡ true → Contains (under query items) i
+pub Contains-under : (query : Key → Bool) (items : List Item) (i : Item) → Contains items i → passes query i ≡ true →
+    Contains (under query items) i
 Contains-under query items i h e = Contains-filter (passes query) items i h e
 
-pub Contains-from_under : (query : Key → Bool) (items : List Item) (i : Item) → Contains (under query items) i → Contains items i × (passes query i ≡ true)
+pub Contains-from_under : (query : Key → Bool) (items : List Item) (i : Item) → Contains (under query items) i →
+    Contains items i × (passes query i ≡ true)
 Contains-from_under query items i h = Contains-from_filter (passes query) items i h
 
 -- a scope that keeps all keys of a query keeps all its items
@@ -29,10 +32,12 @@ pub kept : (scope query : Key → Bool) → KeepsQuery scope query → (i : Item
 kept scope query k (Changed c) e = k c.key e
 kept scope query k (Floored f) e = refl
 
-pub under-all : (query : Key → Bool) (items : List Item) → ((i : Item) → Contains items i → passes query i ≡ true) → under query items ≡ items
+pub under-all : (query : Key → Bool) (items : List Item) → ((i : Item) → Contains items i → passes query i ≡ true) →
+    under query items ≡ items
 under-all query [] f = refl
 under-all query (i ∷ is) f =
-    ap (λ (b : Bool). cond b (i ∷ under query is) (under query is)) (f i (Contains-head i is)) ∙ ap (λ (l : List Item). i ∷ l) (under-all query is (λ j h. f j (Contains-tail i is j h)))
+    ap (λ (b : Bool). cond b (i ∷ under query is) (under query is)) (f i (Contains-head i is)) ∙
+    ap (λ (l : List Item). i ∷ l) (under-all query is (λ j h. f j (Contains-tail i is j h)))
 
 -- ---- what items stand for
 
@@ -55,11 +60,14 @@ pub stood_right : (xs ys : List Sent) → IsPartOf (stood_for ys) (stood_for (xs
 stood_right xs ys = stood_wider ys (xs ++ ys) (λ s h. Contains-append_right xs ys s h)
 
 -- What is returned stands for everything that is known and covered by it.
-pub given_stands : (known items : List Item) (i j : Item) → Contains items j → Contains known i → covers j i ≡ true → Contains (stood_for (given known items)) i
-given_stands known items i j h k e = stood (given known items) (sent_by known j) i (Contains-map (sent_by known) items j h) (Contains-filter (covers j) known i k e)
+pub given_stands : (known items : List Item) (i j : Item) → Contains items j → Contains known i → covers j i ≡ true →
+    Contains (stood_for (given known items)) i
+given_stands known items i j h k e = stood (given known items) (sent_by known j) i (Contains-map (sent_by known) items j h)
+    (Contains-filter (covers j) known i k e)
 
 -- And for nothing else.
-pub from_given : (known items : List Item) (i : Item) → Contains (stood_for (given known items)) i → (j : Item) × Contains items j × (covers j i ≡ true)
+pub from_given : (known items : List Item) (i : Item) → Contains (stood_for (given known items)) i →
+    (j : Item) × Contains items j × (covers j i ≡ true)
 from_given known items i h =
     let s = from_stood (given known items) i h in
     let j = Contains-from_map (sent_by known) items s.0 s.1 in
@@ -80,7 +88,8 @@ sent_covers s t i h =
     subst (λ (z : Item). covers z i ≡ true) (Contains-single s.item d.0 d.1) d.2
 
 -- What is stood for and under the query, a map with this query learns.
-pub learnt_of : (query : Key → Bool) (items : List Sent) → ((s : Sent) → Contains items s → IsSent s) → (i : Item) → passes query i ≡ true → Contains (stood_for items) i → Contains (learnt query items) i
+pub learnt_of : (query : Key → Bool) (items : List Sent) → ((s : Sent) → Contains items s → IsSent s) → (i : Item) →
+    passes query i ≡ true → Contains (stood_for items) i → Contains (learnt query items) i
 learnt_of query items sent i q h =
     let s = from_stood items i h in
     let p : passes query s.0.item ≡ true = covers-query query s.0.item i (sent_covers s.0 (sent s.0 s.1) i s.2) q in

@@ -12,7 +12,8 @@ use Rattle.ds_replica.specs.Headline.{AccountFitsAtStart}
 use Rattle.ds_machine.proofs.ReachedLemmas.{opening_is_reached}
 
 -- a store that was just opened, and knows nothing
-pub opened_fits : (brought : List Item) (incarnation first ring : ℕ) (limits : LimitsRecord) → IsReached (opening incarnation first ring limits) →
+pub opened_fits : (brought : List Item) (incarnation first ring : ℕ) (limits : LimitsRecord) →
+    IsReached (opening incarnation first ring limits) →
     FitsStore brought (opened (opening incarnation first ring limits)) (opening incarnation first ring limits)
 opened_fits brought incarnation first ring limits r =
     record { state_is = refl; reached = r; top = top_of_nothing; accepted = λ i h. h; within = λ i h. absurd (Contains-nil i h) }

@@ -19,7 +19,8 @@ module _ (more : List Sent) (sent : (s : Sent) → Contains more s → IsSent s)
   items_stood : IsPartOf (items_of more) (stood_for more)
   items_stood i h =
       let s = Contains-from_map (λ (t : Sent). t.item) more i h in
-      subst (λ (z : Item). Contains (stood_for more) z) s.2 (stood more s.0 s.0.item s.1 ((sent s.0 s.1).among s.0.item (Contains-head s.0.item [])))
+      subst (λ (z : Item). Contains (stood_for more) z) s.2
+      (stood more s.0 s.0.item s.1 ((sent s.0 s.1).among s.0.item (Contains-head s.0.item [])))
 
   -- and covers all of that
   items_cover : CoversAll (items_of more) (stood_for more)
@@ -37,7 +38,8 @@ holder_takes known held new more sent t u =
       | inr k ↦ Contains-append_right known (stood_for more) i (items_stood more sent i k)
     ]
 
-    by_side : (i : Item) → Contains known i ⊎ Contains (stood_for more) i → (j : Item) × Contains (known ++ items_of more) j × (covers j i ≡ true)
+    by_side : (i : Item) → Contains known i ⊎ Contains (stood_for more) i →
+        (j : Item) × Contains (known ++ items_of more) j × (covers j i ≡ true)
     by_side i (inl k) = (i, Contains-append_left known (items_of more) i k, covers-refl i)
     by_side i (inr k) = let d = items_cover more sent i k in (d.0, Contains-append_right known (items_of more) d.0 d.1, d.2)
 
@@ -54,8 +56,12 @@ module _ (query : Key → Bool) (items more : List Sent) where
   both_learnt : IsPartOf (learnt query items ++ stood_for (sent_under query more)) (learnt query (items ++ more))
   both_learnt i h =
       elim (Contains-append_cases (learnt query items) (stood_for (sent_under query more)) i h) [
-        | inl k ↦ stood_wider (sent_under query items) (sent_under query (items ++ more)) (λ s m. let f = Contains-from_filter is_under items s m in Contains-filter is_under (items ++ more) s (Contains-append_left items more s f.0) f.1) i k
-        | inr k ↦ stood_wider (sent_under query more) (sent_under query (items ++ more)) (λ s m. let f = Contains-from_filter is_under more s m in Contains-filter is_under (items ++ more) s (Contains-append_right items more s f.0) f.1) i k
+        | inl k ↦ stood_wider (sent_under query items) (sent_under query (items ++ more))
+            (λ s m. let f = Contains-from_filter is_under items s m in
+            Contains-filter is_under (items ++ more) s (Contains-append_left items more s f.0) f.1) i k
+        | inr k ↦ stood_wider (sent_under query more) (sent_under query (items ++ more))
+            (λ s m. let f = Contains-from_filter is_under more s m in
+            Contains-filter is_under (items ++ more) s (Contains-append_right items more s f.0) f.1) i k
       ]
 
   learnt_both : IsPartOf (learnt query (items ++ more)) (learnt query items ++ stood_for (sent_under query more))
@@ -63,14 +69,18 @@ module _ (query : Key → Bool) (items more : List Sent) where
       let s = from_stood (sent_under query (items ++ more)) i h in
       let f = Contains-from_filter is_under (items ++ more) s.0 s.1 in
       elim (Contains-append_cases items more s.0 f.0) [
-        | inl k ↦ Contains-append_left (learnt query items) (stood_for (sent_under query more)) i (stood (sent_under query items) s.0 i (Contains-filter is_under items s.0 k f.1) s.2)
-        | inr k ↦ Contains-append_right (learnt query items) (stood_for (sent_under query more)) i (stood (sent_under query more) s.0 i (Contains-filter is_under more s.0 k f.1) s.2)
+        | inl k ↦ Contains-append_left (learnt query items) (stood_for (sent_under query more)) i
+            (stood (sent_under query items) s.0 i (Contains-filter is_under items s.0 k f.1) s.2)
+        | inr k ↦ Contains-append_right (learnt query items) (stood_for (sent_under query more)) i
+            (stood (sent_under query more) s.0 i (Contains-filter is_under more s.0 k f.1) s.2)
       ]
 
 pub map_takes : MapsTake
 map_takes query items more held new sent m u = record {
   sent = λ s h. elim (Contains-append_cases items more s h) [ inl k ↦ m.sent s k | inr k ↦ sent s k ];
   top =
-      top_of_same new (learnt query items ++ stood_for (sent_under query more)) (learnt query (items ++ more)) (both_learnt query items more) (learnt_both query items more)
-      (holder_takes (learnt query items) held new (sent_under query more) (λ s h. sent s (Contains-from_filter (λ (t : Sent). passes query t.item) more s h).0) m.top u);
+      top_of_same new (learnt query items ++ stood_for (sent_under query more)) (learnt query (items ++ more))
+      (both_learnt query items more) (learnt_both query items more)
+      (holder_takes (learnt query items) held new (sent_under query more)
+      (λ s h. sent s (Contains-from_filter (λ (t : Sent). passes query t.item) more s h).0) m.top u);
 }

@@ -1,5 +1,6 @@
 -- Snapshots and journals are whole.
-use Rattle.std.proofs.Common.{◌≡◌, ℕ, ◌-◌, ◌≤◌, List, [], ◌∷◌, ◌++◌, take, length, refl, sym, ap, ◌∙◌, subst, append_assoc, append-nil, arith}
+use Rattle.std.proofs.Common.{◌≡◌, ℕ, ◌-◌, ◌≤◌, List, [], ◌∷◌, ◌++◌, take, length, refl, sym, ap, ◌∙◌, subst, append_assoc, append-nil}
+use Rattle.std.proofs.Common.{arith}
 use Rattle.std.specs.List.{Contains}
 use Rattle.std.proofs.lemmas.List.{take-append-le, take-take}
 use Rattle.ds_entry.specs.declared.item.Item.{Item}
@@ -18,7 +19,8 @@ snapshot_is_whole f known held scope query top knows keep i h =
     let k = Contains-from_under query (before f (position f)) i h in
     let accepted : Contains f.accepted i = Contains-from_take (position f - f.first) f.accepted i k.0 in
     let d = top.greatest i accepted in
-    given_stands known (under scope held) i d.0 (Contains-under scope held d.0 d.1 (kept scope query keep d.0 (covers-query query d.0 i d.2 k.1))) (knows i accepted) d.2
+    given_stands known (under scope held) i d.0
+    (Contains-under scope held d.0 d.1 (kept scope query keep d.0 (covers-query query d.0 i d.2 k.1))) (knows i accepted) d.2
 
 -- ---- more, earlier, narrower
 
@@ -37,7 +39,8 @@ more_is_whole f query items more r wider w i h = stood_wider items more wider i 
 pub before_part : (f : Feed) (p r : ℕ) → p ≤ r → IsPartOf (before f p) (before f r)
 before_part f p r l i h =
     let n : p - f.first ≤ r - f.first = omega arith in
-    Contains-from_take (p - f.first) (before f r) i (subst (λ (xs : List Item). Contains xs i) (sym (take-take (p - f.first) (r - f.first) f.accepted n)) h)
+    Contains-from_take (p - f.first) (before f r) i
+    (subst (λ (xs : List Item). Contains xs i) (sym (take-take (p - f.first) (r - f.first) f.accepted n)) h)
 
 pub earlier_is_whole : EarlierIsWhole
 earlier_is_whole f query items p r l w i h =
@@ -56,7 +59,8 @@ pub before_later : (f late : Feed) (r : ℕ) → IsFront f late → r ≤ positi
 before_later f late r g l =
     let first : late.first ≡ f.first = g.first in
     let n : r - f.first ≤ length f.accepted = omega arith in
-    ap (λ (k : ℕ). take (r - k) late.accepted) first ∙ (ap (take (r - f.first)) g.grown.1 ∙ take-append-le (r - f.first) f.accepted g.grown.0 n)
+    ap (λ (k : ℕ). take (r - k) late.accepted) first ∙
+    (ap (take (r - f.first)) g.grown.1 ∙ take-append-le (r - f.first) f.accepted g.grown.0 n)
 
 pub whole_stays : WholeStays
 whole_stays f late query items r g l w i h = w i (subst (λ (xs : List Item). Contains (under query xs) i) (before_later f late r g l) h)
@@ -68,7 +72,11 @@ pub front_later : (f g h : Feed) → IsFront f g → IsFront g h → IsFront f h
 front_later f g h a b = record {
   incarnation = b.incarnation ∙ a.incarnation;
   first = b.first ∙ a.first;
-  grown = (a.grown.0 ++ b.grown.0, b.grown.1 ∙ (ap (λ (l : List Item). l ++ b.grown.0) a.grown.1 ∙ append_assoc f.accepted a.grown.0 b.grown.0));
+  grown = (
+    a.grown.0 ++ b.grown.0,
+    b.grown.1 ∙ (ap (λ (l : List Item). l ++ b.grown.0) a.grown.1 ∙
+        append_assoc f.accepted a.grown.0 b.grown.0),
+  );
 }
 
 pub feeds_grow : FeedsGrow

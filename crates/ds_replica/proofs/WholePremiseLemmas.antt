@@ -36,9 +36,13 @@ pub since_needs : SinceNeeds
 since_needs = record {
   knows = λ law.
       Contains-nil a1
-      (law store [] all all [] start 1 (since_of store (passes all) start 1) (λ key e. e) (record { reached = refl; given = refl }) (λ i h. absurd (Contains-nil i h)) a1 (Contains-head a1 []));
-  scope = λ law. not_whole (law store (a1 ∷ []) none all [] start 1 (since_of store (passes none) start 1) (λ i h. h) (record { reached = refl; given = refl }) (λ i h. absurd (Contains-nil i h)));
-  whole = λ law. let late : Cursor = record { incarnation = 0; position = 1 } in not_whole (law store (a1 ∷ []) all all [] late 1 (since_of store (passes all) late 1) (λ i h. h) (λ key e. e) (record { reached = refl; given = refl }));
+      (law store [] all all [] start 1 (since_of store (passes all) start 1) (λ key e. e) (record { reached = refl; given = refl })
+      (λ i h. absurd (Contains-nil i h)) a1 (Contains-head a1 []));
+  scope = λ law. not_whole (law store (a1 ∷ []) none all [] start 1 (since_of store (passes none) start 1) (λ i h. h)
+      (record { reached = refl; given = refl }) (λ i h. absurd (Contains-nil i h)));
+  whole = λ law. let late : Cursor = record { incarnation = 0; position = 1 } in
+      not_whole (law store (a1 ∷ []) all all [] late 1 (since_of store (passes all) late 1) (λ i h. h) (λ key e. e)
+      (record { reached = refl; given = refl }));
 }
 
 pub whole_needs : WholeNeeds
@@ -47,6 +51,8 @@ whole_needs = record {
   more = λ law. not_whole (law store all (given (a1 ∷ []) (a1 ∷ [])) [] 1 (λ i h. h));
   earlier = λ law. not_whole (law store all [] 1 0 (λ i h. h));
   narrower = λ law. not_whole (law store none all [] 1 (λ i h. h));
-  front = λ law. not_among (covers a1) (b1 ∷ []) a1 refl refl (law (feed_of (b1 ∷ [])) store all (given (b1 ∷ []) (b1 ∷ [])) 1 (omega arith) (λ i h. h) a1 (Contains-head a1 []));
-  reached = λ law. not_whole (law (feed_of []) store all [] 1 (record { incarnation = refl; first = refl; grown = (a1 ∷ [], refl) }) (λ i h. h));
+  front = λ law. not_among (covers a1) (b1 ∷ []) a1 refl refl
+      (law (feed_of (b1 ∷ [])) store all (given (b1 ∷ []) (b1 ∷ [])) 1 (omega arith) (λ i h. h) a1 (Contains-head a1 []));
+  reached = λ law. not_whole (law (feed_of []) store all [] 1 (record { incarnation = refl; first = refl; grown = (a1 ∷ [], refl) })
+      (λ i h. h));
 }

@@ -11,7 +11,8 @@ module _ {X Y : Type 0} (R : X → Y → Type 0) where
   AllZip-last (a ∷ xs) (b ∷ ys) x y h k = (h.0, AllZip-last xs ys x y h.1 k)
 
   -- what belongs to an item of the second list
-  pub AllZip-at : (xs : List X) (ys : List Y) (j : ℕ) (y : Y) → AllZip R xs ys → slice_get ys j ≡ Some y → (x : X) × (slice_get xs j ≡ Some x) × R x y
+  pub AllZip-at : (xs : List X) (ys : List Y) (j : ℕ) (y : Y) → AllZip R xs ys → slice_get ys j ≡ Some y →
+      (x : X) × (slice_get xs j ≡ Some x) × R x y
   AllZip-at [] [] j y h e = cc
   AllZip-at [] (b ∷ ys) j y h e = absurd h
   AllZip-at (a ∷ xs) [] j y h e = absurd h
@@ -19,7 +20,8 @@ module _ {X Y : Type 0} (R : X → Y → Type 0) where
   AllZip-at (a ∷ xs) (b ∷ ys) (suc j) y h e = AllZip-at xs ys j y h.1 e
 
   -- and what belongs to one of the first
-  pub AllZip-at_left : (xs : List X) (ys : List Y) (j : ℕ) (x : X) → AllZip R xs ys → slice_get xs j ≡ Some x → (y : Y) × (slice_get ys j ≡ Some y) × R x y
+  pub AllZip-at_left : (xs : List X) (ys : List Y) (j : ℕ) (x : X) → AllZip R xs ys → slice_get xs j ≡ Some x →
+      (y : Y) × (slice_get ys j ≡ Some y) × R x y
   AllZip-at_left [] [] j x h e = cc
   AllZip-at_left [] (b ∷ ys) j x h e = absurd h
   AllZip-at_left (a ∷ xs) [] j x h e = absurd h
@@ -33,14 +35,16 @@ module _ {X Y : Type 0} (R : X → Y → Type 0) where
   AllZip-none (a ∷ xs) (b ∷ ys) zero h e = cc
   AllZip-none (a ∷ xs) (b ∷ ys) (suc j) h e = AllZip-none xs ys j h.1 e
 
-  pub AllZip-both_set : (xs : List X) (ys : List Y) (j : ℕ) (x : X) (y : Y) → AllZip R xs ys → R x y → AllZip R (slice_set xs j x) (slice_set ys j y)
+  pub AllZip-both_set : (xs : List X) (ys : List Y) (j : ℕ) (x : X) (y : Y) → AllZip R xs ys → R x y →
+      AllZip R (slice_set xs j x) (slice_set ys j y)
   AllZip-both_set [] [] j x y h k = h
   AllZip-both_set [] (b ∷ ys) j x y h k = absurd h
   AllZip-both_set (a ∷ xs) [] j x y h k = absurd h
   AllZip-both_set (a ∷ xs) (b ∷ ys) zero x y h k = (k, h.1)
   AllZip-both_set (a ∷ xs) (b ∷ ys) (suc j) x y h k = (h.0, AllZip-both_set xs ys j x y h.1 k)
 
-pub AllZip-weaker : {X Y : Type 0} (R S : X → Y → Type 0) → ((x : X) (y : Y) → R x y → S x y) → (xs : List X) (ys : List Y) → AllZip R xs ys → AllZip S xs ys
+pub AllZip-weaker : {X Y : Type 0} (R S : X → Y → Type 0) → ((x : X) (y : Y) → R x y → S x y) → (xs : List X) (ys : List Y) →
+    AllZip R xs ys → AllZip S xs ys
 AllZip-weaker R S f [] [] h = h
 AllZip-weaker R S f [] (y ∷ ys) h = h
 AllZip-weaker R S f (x ∷ xs) [] h = h

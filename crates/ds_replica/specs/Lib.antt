@@ -37,3 +37,4 @@ pub mod Growth
 pub mod Head
 pub mod Kept
 pub mod Lent
+pub mod Copying

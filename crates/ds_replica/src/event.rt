@@ -1,6 +1,7 @@
 //! The events of a world.
 
-ghost use Rattle.std.specs.Prelude.{◌≡◌, IfOk};
+ghost use Rattle.std.specs.Prelude.{◌≡◌, IfOk, OnErr};
+ghost use Rattle.ds_replica.specs.Copying.{EventCopyTakesMemory};
 
 use ds_machine::Command;
 use ds_names::NoRoom;
@@ -55,7 +56,8 @@ pub enum Event {
 impl Event {
     /// Returns a copy. Fails only if memory runs out for a command's or a query's copy.
     pub fn copy(&self, alloc: Global) -> Result<Event, NoRoom>
-        ensures { IfOk result (λ copy. copy ≡ self.now) }
+        ensures same { IfOk result (λ copy. copy ≡ self.now) }
+        ensures room { OnErr result (EventCopyTakesMemory self.now) }
     {
         match self {
             Event::Ask { side, command } => Ok(Event::Ask {

@@ -1,6 +1,7 @@
 //! Messages.
 
-ghost use Rattle.std.specs.Prelude.{◌≡◌, true, is_some, IfOk, IfSome, IfNone, None, Some};
+ghost use Rattle.std.specs.Prelude.{◌≡◌, ◌≢◌, [], true, is_some, IfOk, OnErr, IfSome, IfNone, None, Some};
+ghost use Rattle.ds_machine.specs.Copying.{ReplyCopyTakesMemory};
 ghost use Rattle.ds_replica.specs.Happens.{items_given};
 ghost use Rattle.ds_replica.specs.Head.{IsHead};
 ghost use Rattle.ds_replica.specs.Lent.{items_lent};
@@ -99,9 +100,11 @@ impl Message {
         }
     }
 
-    /// Returns a copy of the reply.
+    /// Returns a copy of the reply. Fails only if memory runs out; without a text, a blob or an item it takes none.
+    #[tactic(auto, using(crate::proofs::PackLemmas::packed_takes_memory))]
     pub fn copy(&self, alloc: Global) -> Result<Reply, NoRoom>
-        ensures { IfOk result (λ reply. reply ≡ self.now) }
+        ensures same { IfOk result (λ reply. reply ≡ self.now) }
+        ensures room { OnErr result (ReplyCopyTakesMemory self.now) }
     {
         match &self.kept {
             Kept::Whole(reply) => reply.copy(alloc),
@@ -121,9 +124,11 @@ impl Message {
     }
 }
 
-// Returns the packed items.
+// Returns the packed items. None take no memory.
+#[tactic(auto, using(crate::proofs::PackLemmas::one_is_some))]
 fn unpacked(alloc: Global, packed: &Packed) -> Result<Items, NoRoom>
-    ensures { IfOk result (λ items. items ≡ packed.now) }
+    ensures same { IfOk result (λ items. items ≡ packed.now) }
+    ensures room { OnErr result (packed.now ≢ []) }
 {
     let mut items = Items::new(alloc);
     let mut left = packed.items();

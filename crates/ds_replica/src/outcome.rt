@@ -1,6 +1,7 @@
 //! The outcomes of events.
 
-ghost use Rattle.std.specs.Prelude.{◌≡◌, IfOk};
+ghost use Rattle.std.specs.Prelude.{◌≡◌, IfOk, OnErr};
+ghost use Rattle.ds_replica.specs.Copying.{OutcomeCopyTakesMemory};
 
 use ds_join::Count;
 use ds_machine::{Refusal, Reply};
@@ -73,9 +74,10 @@ pub enum EventFault {
 }
 
 impl Outcome {
-    /// Returns a copy. Fails only if memory runs out.
+    /// Returns a copy. Fails only if memory runs out for a reply's copy.
     pub fn copy(&self, alloc: Global) -> Result<Outcome, NoRoom>
-        ensures { IfOk result (λ copy. copy ≡ self.now) }
+        ensures same { IfOk result (λ copy. copy ≡ self.now) }
+        ensures room { OnErr result (OutcomeCopyTakesMemory self.now) }
     {
         match self {
             Outcome::Replied(reply) => Ok(Outcome::Replied(reply.copy(alloc)?)),

@@ -1,6 +1,7 @@
 -- A replay from its start to its end.
 use Rattle.std.specs.List.{All}
-use Rattle.std.proofs.Common.{◌≡◌, ◌≢◌, ℕ, suc, ◌+◌, Bool, true, false, List, [], ◌∷◌, ◌++◌, length, Option, refl, sym, ap, subst, ◌∙◌, ◌⊎◌, inl, inr, arith, append_assoc, append-nil}
+use Rattle.std.proofs.Common.{◌≡◌, ◌≢◌, ℕ, suc, ◌+◌, Bool, true, false, List, [], ◌∷◌, ◌++◌, length, Option, refl, sym, ap, subst, ◌∙◌, ◌⊎◌}
+use Rattle.std.proofs.Common.{inl, inr, arith, append_assoc, append-nil}
 use Rattle.std.specs.Io.KnownBytes.{Appends, Consumes, IsAtEnd}
 use Rattle.std.proofs.KnownBytes.{Appends-nil, Appends-trans, Consumes-nil, Consumes-trans}
 use Rattle.std.proofs.lemmas.List.Elements.{All-nil}
@@ -17,7 +18,8 @@ use Rattle.ds_script.proofs.RunLemmas.{text_sent, texts_then, stops_then}
 
 -- ---- answers
 
-are_answers : (policy : BadLines) (lines : List (List ℕ)) (bad : ℕ) (output : List ℕ) (start end : SessionContent) → IsOpened 256 start → AnswersLines policy 0 start lines output bad end → AreAnswers policy lines bad output
+are_answers : (policy : BadLines) (lines : List (List ℕ)) (bad : ℕ) (output : List ℕ) (start end : SessionContent) → IsOpened 256 start →
+    AnswersLines policy 0 start lines output bad end → AreAnswers policy lines bad output
 are_answers policy [] bad output start end opened a = (a.0, a.1)
 are_answers policy (line ∷ lines) bad output start end opened a = (start, end, opened, a)
 
@@ -25,7 +27,8 @@ none_both : (n a b : ℕ) → n ≡ a + b → a ≡ 0 → b ≡ 0 → n ≡ 0
 none_both n a b sum first rest = omega arith
 
 -- none is bad where a bad line ends the replay
-pub none_bad : (before : ℕ) (old new : SessionContent) (lines : List (List ℕ)) (out : List ℕ) (bad : ℕ) → AnswersLines End before old lines out bad new → bad ≡ 0
+pub none_bad : (before : ℕ) (old new : SessionContent) (lines : List (List ℕ)) (out : List ℕ) (bad : ℕ) →
+    AnswersLines End before old lines out bad new → bad ≡ 0
 none_bad before old new [] out bad a = a.1
 none_bad before old new (line ∷ lines) out bad a =
     let rest : a.4 ≡ 0 = none_bad (suc before) a.0 new lines a.2 a.4 a.6 in
@@ -40,20 +43,38 @@ none_of (line ∷ lines) bad output a = none_bad 0 a.0 a.1 (line ∷ lines) outp
 
 pub answered_at_end : (input output : List ℕ) (count bad : ℕ) → IsReplayed End input count bad output → IsReplayed End input count 0 output
 answered_at_end input output count bad a =
-    record { lines = a.lines; split = a.split; answers = subst (λ (n : ℕ). AreAnswers End a.lines n output) (none_of a.lines bad output a.answers) a.answers; counted = a.counted }
+    record {
+      lines = a.lines;
+      split = a.split;
+      answers =
+          subst (λ (n : ℕ). AreAnswers End a.lines n output) (none_of a.lines bad output a.answers) a.answers;
+      counted = a.counted;
+    }
 
 -- ---- whole lines
 
 -- each with its newline
 abbrev whole_lines : (lines : List (List ℕ)) → All IsUnbroken lines → HasLines (joined lines) lines
-whole_lines lines unbroken = record { front = lines; last = []; text = sym (append-nil (joined lines)); unbroken = unbroken; unbroken_last = All-nil (λ (x : ℕ). x ≢ 10); all = sym (append-nil lines) }
+whole_lines lines unbroken =
+    record {
+      front = lines;
+      last = [];
+      text = sym (append-nil (joined lines));
+      unbroken = unbroken;
+      unbroken_last =
+          All-nil (λ (x : ℕ). x ≢ 10);
+      all = sym (append-nil lines);
+    }
 
 -- the last of which may have none
-all_lines : (bytes last : List ℕ) (lines : List (List ℕ)) → bytes ≡ joined lines ++ last → All IsUnbroken lines → IsUnbroken last → HasLines bytes (lines ++ unended last)
-all_lines bytes last lines split unbroken whole = record { front = lines; last = last; text = split; unbroken = unbroken; unbroken_last = whole; all = refl }
+all_lines : (bytes last : List ℕ) (lines : List (List ℕ)) → bytes ≡ joined lines ++ last → All IsUnbroken lines → IsUnbroken last →
+    HasLines bytes (lines ++ unended last)
+all_lines bytes last lines split unbroken whole =
+    record { front = lines; last = last; text = split; unbroken = unbroken; unbroken_last = whole; all = refl }
 
 -- some of the answers are left
-part_of : (policy : BadLines) (to : Option (List ℕ)) (rest input output answers left : List ℕ) (count bad : ℕ) → IsAnsweredUpTo policy rest input count bad answers → answers ≡ output ++ left → IsAnsweredInPart policy to input output
+part_of : (policy : BadLines) (to : Option (List ℕ)) (rest input output answers left : List ℕ) (count bad : ℕ) →
+    IsAnsweredUpTo policy rest input count bad answers → answers ≡ output ++ left → IsAnsweredInPart policy to input output
 part_of policy to rest input output answers left count bad u same =
     record {
       front = joined u.lines;
@@ -62,7 +83,14 @@ part_of policy to rest input output answers left count bad u same =
       count = count;
       bad = bad;
       split = u.split;
-      answered = record { lines = u.lines; split = whole_lines u.lines u.unbroken; answers = subst (λ (o : List ℕ). AreAnswers policy u.lines bad o) same u.answers; counted = u.counted };
+      answered =
+          record {
+            lines = u.lines;
+            split = whole_lines u.lines u.unbroken;
+            answers =
+                subst (λ (o : List ℕ). AreAnswers policy u.lines bad o) same u.answers;
+            counted = u.counted;
+          };
       ends = inl refl;
     }
 
@@ -84,14 +112,22 @@ pub record Come (from to had has : Option (List ℕ)) (policy : BadLines) (now :
   pub read : Consumes from to bytes
   pub text : TakesText had has (start first policy) bytes now pending
 
-pub come_none : (from had : Option (List ℕ)) (old : Reached) (pending : List ℕ) → IsOpened 256 old.session → old.waiting ≡ [] → old.lines ≡ 0 → old.bad ≡ 0 → pending ≡ [] → Come from from had had old.policy old pending
+pub come_none : (from had : Option (List ℕ)) (old : Reached) (pending : List ℕ) → IsOpened 256 old.session → old.waiting ≡ [] →
+    old.lines ≡ 0 → old.bad ≡ 0 → pending ≡ [] → Come from from had had old.policy old pending
 come_none from had old pending opened empty lines bad none =
     record {
       first = old.session;
       opened = opened;
       bytes = [];
       read = Consumes-nil from;
-      text = record { lines = []; split = sym none; unbroken = All-nil IsUnbroken; takes = takes_kept had had (start old.session old.policy) old [] (sym empty) (Appends-nil had) refl lines bad refl };
+      text =
+          record {
+            lines = [];
+            split = sym none;
+            unbroken = All-nil IsUnbroken;
+            takes =
+                takes_kept had had (start old.session old.policy) old [] (sym empty) (Appends-nil had) refl lines bad refl;
+          };
     }
 
 -- a turn left more to read
@@ -104,7 +140,8 @@ come_more from mid to had is has policy old new pending rest p t = (
     opened = p.opened;
     bytes = p.bytes ++ t.0;
     read = Consumes-trans from mid to p.bytes t.0 p.read t.1;
-    text = texts_then had is has (start p.first policy) old new p.bytes pending t.0 (pending ++ t.0) (p.bytes ++ t.0) rest p.text refl refl t.2;
+    text = texts_then had is has (start p.first policy) old new p.bytes pending t.0 (pending ++ t.0) (p.bytes ++ t.0) rest p.text refl refl
+        t.2;
   },
   t.3,
 )
@@ -123,14 +160,16 @@ read_all from mid to bytes first second = subst (Consumes from to) (append-nil b
 
 -- all was read and answered
 abbrev pub Answered : (from to had has : Option (List ℕ)) → BadLines → (count bad : ℕ) → Type 0
-Answered from to had has policy count bad = (input output : List ℕ) × Consumes from to input × IsAtEnd to × Appends had has output × IsReplayed policy input count bad output
+Answered from to had has policy count bad =
+    (input output : List ℕ) × Consumes from to input × IsAtEnd to × Appends had has output × IsReplayed policy input count bad output
 
 come_whole : (from mid to had is has : Option (List ℕ)) (policy : BadLines) (old new : Reached) (pending rest : List ℕ)
     → Come from mid had is policy old pending → IsUnbroken pending → Turns false mid to is has old pending new rest
     → Answered from to had has policy new.lines new.bad
 come_whole from mid to had is has policy old new pending rest p whole t =
     let lines : List (List ℕ) = p.text.lines ++ unended pending in
-    let a : TakesLines had has (start p.first policy) lines new = takes_then had is has (start p.first policy) old new p.text.lines (unended pending) p.text.takes t.2 in
+    let a : TakesLines had has (start p.first policy) lines new =
+    takes_then had is has (start p.first policy) old new p.text.lines (unended pending) p.text.takes t.2 in
     let same : a.output ≡ a.sent = a.split ∙ ap (λ t. a.sent ++ t) t.3 ∙ append-nil a.sent in
     let bads : a.bad ≡ new.bad = omega (arith, a.told) in (
       p.bytes,
@@ -141,7 +180,8 @@ come_whole from mid to had is has policy old new pending rest p whole t =
       record {
         lines = lines;
         split = all_lines p.bytes pending p.text.lines p.text.split p.text.unbroken whole;
-        answers = are_answers policy lines new.bad a.output p.first new.session p.opened (subst (λ (n : ℕ). AnswersLines policy 0 p.first lines a.output n new.session) bads a.answers);
+        answers = are_answers policy lines new.bad a.output p.first new.session p.opened
+            (subst (λ (n : ℕ). AnswersLines policy 0 p.first lines a.output n new.session) bads a.answers);
         counted = omega (arith, a.counted);
       },
     )
@@ -150,16 +190,19 @@ pub come_end : (from mid to had is has : Option (List ℕ)) (policy : BadLines) 
     → more ≡ false → Come from mid had is policy old pending → IsUnbroken pending → Turns more mid to is has old pending new rest
     → Answered from to had has policy new.lines new.bad
 come_end from mid to had is has policy old new pending rest more same p whole t =
-    come_whole from mid to had is has policy old new pending rest p whole (subst (λ (m : Bool). Turns m mid to is has old pending new rest) same t)
+    come_whole from mid to had is has policy old new pending rest p whole
+    (subst (λ (m : Bool). Turns m mid to is has old pending new rest) same t)
 
 -- ---- to a fault
 
 -- some input was read and some output written, and the fault ended the replay there
 abbrev pub Stopped : BadLines → ReplayFault → (from to had has : Option (List ℕ)) → List ℕ → Type 0
-Stopped policy fault from to had has waiting = (input output : List ℕ) × Consumes from to input × Appends had has output × Stops policy fault to input output waiting
+Stopped policy fault from to had has waiting =
+    (input output : List ℕ) × Consumes from to input × Appends had has output × Stops policy fault to input output waiting
 
 -- whole lines were answered
-up_to : (had has : Option (List ℕ)) (first : SessionContent) (policy : BadLines) (now : Reached) (input rest waiting : List ℕ) → IsOpened 256 first → (t : TakesText had has (start first policy) input now rest) → now.waiting ≡ waiting
+up_to : (had has : Option (List ℕ)) (first : SessionContent) (policy : BadLines) (now : Reached) (input rest waiting : List ℕ) →
+    IsOpened 256 first → (t : TakesText had has (start first policy) input now rest) → now.waiting ≡ waiting
     → IsAnsweredUpTo policy rest input now.lines t.takes.bad (t.takes.sent ++ waiting)
 up_to had has first policy now input rest waiting opened t same =
     let split : t.takes.output ≡ t.takes.sent ++ waiting = t.takes.split ∙ ap (λ w. t.takes.sent ++ w) same in
@@ -167,7 +210,8 @@ up_to had has first policy now input rest waiting opened t same =
       lines = t.lines;
       unbroken = t.unbroken;
       split = t.split;
-      answers = are_answers policy t.lines t.takes.bad (t.takes.sent ++ waiting) first now.session opened (subst (λ (o : List ℕ). AnswersLines policy 0 first t.lines o t.takes.bad now.session) split t.takes.answers);
+      answers = are_answers policy t.lines t.takes.bad (t.takes.sent ++ waiting) first now.session opened
+          (subst (λ (o : List ℕ). AnswersLines policy 0 first t.lines o t.takes.bad now.session) split t.takes.answers);
       counted = omega (arith, t.takes.counted);
     }
 
@@ -175,20 +219,36 @@ unwritten : (from to had has : Option (List ℕ)) (first : SessionContent) (poli
     (input rest waiting : List ℕ)
     → IsOpened 256 first → Consumes from to input → (t : TakesText had has (start first policy) input now rest)
     → Stopped policy WriteFault from to had has waiting
-unwritten from to had has first policy now input rest waiting opened read t =
-    (input, t.takes.sent, read, t.takes.written, part_of policy to rest input t.takes.sent (t.takes.sent ++ now.waiting) now.waiting now.lines t.takes.bad (up_to had has first policy now input rest now.waiting opened t refl) refl)
+unwritten from to had has first policy now input rest waiting opened read t = (
+  input,
+  t.takes.sent,
+  read,
+  t.takes.written,
+  part_of policy to rest input t.takes.sent (t.takes.sent ++ now.waiting) now.waiting
+      now.lines t.takes.bad (up_to had has first policy now input rest now.waiting opened t refl) refl,
+)
 
 text_stopped : (fault : ReplayFault) (from to had has : Option (List ℕ)) (first : SessionContent) (policy : BadLines)
     (input waiting : List ℕ)
     → IsOpened 256 first → Consumes from to input → TextStops fault to had has (start first policy) input waiting
     → Stopped policy fault from to had has waiting
 text_stopped (BadLine number place expected) from to had has first policy input waiting opened read s =
-    let t = s.2.takes in
-    (input, t.sent, read, t.written, (sym t.policy ∙ s.3.0, (s.0.lines, t.bad, s.1, up_to had has first policy s.0 input s.1 waiting opened s.2 s.3.1, (s.3.2, s.3.3))))
+    let t = s.2.takes in (
+      input,
+      t.sent,
+      read,
+      t.written,
+      (
+        sym t.policy ∙
+            s.3.0,
+        (s.0.lines, t.bad, s.1, up_to had has first policy s.0 input s.1 waiting opened s.2 s.3.1, (s.3.2, s.3.3)),
+      ),
+    )
 text_stopped ReadFault from to had has first policy input waiting opened read s =
     let t = s.2.takes in
     (input, t.sent, read, t.written, (s.0.lines, t.bad, s.1, up_to had has first policy s.0 input s.1 waiting opened s.2 s.3.0, s.3.1))
-text_stopped WriteFault from to had has first policy input waiting opened read s = unwritten from to had has first policy s.0 input s.1 waiting opened read s.2
+text_stopped WriteFault from to had has first policy input waiting opened read s =
+    unwritten from to had has first policy s.0 input s.1 waiting opened read s.2
 text_stopped NoRoom from to had has first policy input waiting opened read s =
     let t = s.2.takes in
     (input, t.sent, read, t.written, (s.0.lines, t.bad, s.1, up_to had has first policy s.0 input s.1 waiting opened s.2 s.3, tt))
@@ -203,11 +263,13 @@ last_stopped from mid to had is has policy old pending waiting p whole read end 
     elim s.2 [
       | inl none ↦
           (let sent : TakesLines is has old [] s.1 = subst (λ (ls : List (List ℕ)). TakesLines is has old ls s.1) none s.3 in
-          unwritten from to had has p.first policy s.1 p.bytes pending waiting p.opened input (text_sent had is has (start p.first policy) old s.1 p.bytes pending p.text sent))
+          unwritten from to had has p.first policy s.1 p.bytes pending waiting p.opened input
+          (text_sent had is has (start p.first policy) old s.1 p.bytes pending p.text sent))
       | inr all ↦
           (let one : TakesLines is has old (unended pending) s.1 = subst (λ (ls : List (List ℕ)). TakesLines is has old ls s.1) all s.3 in
           let lines : List (List ℕ) = p.text.lines ++ unended pending in
-          let a : TakesLines had has (start p.first policy) lines s.1 = takes_then had is has (start p.first policy) old s.1 p.text.lines (unended pending) p.text.takes one in (
+          let a : TakesLines had has (start p.first policy) lines s.1 =
+          takes_then had is has (start p.first policy) old s.1 p.text.lines (unended pending) p.text.takes one in (
             p.bytes,
             a.sent,
             input,
@@ -222,7 +284,8 @@ last_stopped from mid to had is has policy old pending waiting p whole read end 
               answered = record {
                 lines = lines;
                 split = all_lines p.bytes pending p.text.lines p.text.split p.text.unbroken whole;
-                answers = are_answers policy lines a.bad (a.sent ++ s.1.waiting) p.first s.1.session p.opened (subst (λ (o : List ℕ). AnswersLines policy 0 p.first lines o a.bad s.1.session) a.split a.answers);
+                answers = are_answers policy lines a.bad (a.sent ++ s.1.waiting) p.first s.1.session p.opened
+                    (subst (λ (o : List ℕ). AnswersLines policy 0 p.first lines o a.bad s.1.session) a.split a.answers);
                 counted = refl;
               };
               ends = inr (refl, end);
@@ -247,29 +310,35 @@ come_stop fault from mid to had is has policy old pending waiting p whole s =
             text_stopped fault from to had has p.first policy p.bytes waiting p.opened (read_all from mid to p.bytes p.read t.0)
             (stops_then fault to had is has (start p.first policy) old p.bytes pending [] pending p.bytes waiting p.text
             (append-nil pending) (append-nil p.bytes) u)
-        | inr u ↦ subst (λ (f : ReplayFault). Stopped policy f from to had has waiting) (sym u.0) (last_stopped from mid to had is has policy old pending waiting p whole t.0 t.1 u.1)
+        | inr u ↦ subst (λ (f : ReplayFault). Stopped policy f from to had has waiting) (sym u.0)
+            (last_stopped from mid to had is has policy old pending waiting p whole t.0 t.1 u.1)
       ]
     ]
 
 -- the turns are over
-pub come_over : (from to had has : Option (List ℕ)) (policy : BadLines) (now : Reached) (pending : List ℕ) → Come from to had has policy now pending → IsUnbroken pending → Stopped policy ReadFault from to had has now.waiting
-come_over from to had has policy now pending p whole = text_stopped ReadFault from to had has p.first policy p.bytes now.waiting p.opened p.read (now, pending, p.text, (refl, whole))
+pub come_over : (from to had has : Option (List ℕ)) (policy : BadLines) (now : Reached) (pending : List ℕ) →
+    Come from to had has policy now pending → IsUnbroken pending → Stopped policy ReadFault from to had has now.waiting
+come_over from to had has policy now pending p whole =
+    text_stopped ReadFault from to had has p.first policy p.bytes now.waiting p.opened p.read (now, pending, p.text, (refl, whole))
 
 -- ---- after a fault
 
 -- what the caller learns
 abbrev pub Told : BadLines → ReplayFault → (from to had has : Option (List ℕ)) → Type 0
-Told policy fault from to had has = (input output : List ℕ) × Consumes from to input × Appends had has output × StopsWith policy fault to input output
+Told policy fault from to had has = (input output : List ℕ) × Consumes from to input × Appends had has output ×
+    StopsWith policy fault to input output
 
 -- the answers that waited were written, or the writer failed
 settles : (policy : BadLines) (fault given : ReplayFault) (from to had is has : Option (List ℕ)) (input output waiting rest : List ℕ)
     (count bad : ℕ)
     → Consumes from to input → Appends had is output → IsAnsweredUpTo policy rest input count bad (output ++ waiting)
     → StopsWith policy fault to input (output ++ waiting)
-    → ((given ≡ fault) × Appends is has waiting) ⊎ ((given ≡ WriteFault) × ((sent left : List ℕ) × (waiting ≡ sent ++ left) × Appends is has sent)) → Told policy given from to had has
+    → ((given ≡ fault) × Appends is has waiting) ⊎
+    ((given ≡ WriteFault) × ((sent left : List ℕ) × (waiting ≡ sent ++ left) × Appends is has sent)) → Told policy given from to had has
 settles policy fault given from to had is has input output waiting rest count bad read written up s h =
     elim h [
-      | inl w ↦ subst (λ (f : ReplayFault). Told policy f from to had has) (sym w.0) (input, output ++ waiting, read, Appends-trans had is has output waiting written w.1, s)
+      | inl w ↦ subst (λ (f : ReplayFault). Told policy f from to had has) (sym w.0)
+          (input, output ++ waiting, read, Appends-trans had is has output waiting written w.1, s)
       | inr w ↦
           (let v = w.1 in
           subst (λ (f : ReplayFault). Told policy f from to had has) (sym w.0) (
@@ -277,7 +346,8 @@ settles policy fault given from to had is has input output waiting rest count ba
             output ++ v.0,
             read,
             Appends-trans had is has output v.0 written v.3,
-            part_of policy to rest input (output ++ v.0) (output ++ waiting) v.1 count bad up (ap (λ t. output ++ t) v.2 ∙ sym (append_assoc output v.0 v.1)),
+            part_of policy to rest input (output ++ v.0) (output ++ waiting) v.1 count bad up
+                (ap (λ t. output ++ t) v.2 ∙ sym (append_assoc output v.0 v.1)),
           ))
     ]
 
@@ -286,7 +356,10 @@ pub settled_stops : (policy : BadLines) (fault given : ReplayFault) (from to had
 settled_stops policy (BadLine number place expected) given from to had is has waiting s h =
     let at = s.4.1 in
     settles policy (BadLine number place expected) given from to had is has s.0 s.1 waiting at.2 at.0 at.1 s.2 s.3 at.3 s.4 h
-settled_stops policy ReadFault given from to had is has waiting s h = settles policy ReadFault given from to had is has s.0 s.1 waiting s.4.2 s.4.0 s.4.1 s.2 s.3 s.4.3 s.4 h
+settled_stops policy ReadFault given from to had is has waiting s h =
+    settles policy ReadFault given from to had is has s.0 s.1 waiting s.4.2 s.4.0 s.4.1 s.2 s.3 s.4.3 s.4 h
 settled_stops policy WriteFault given from to had is has waiting s h =
-    subst (λ (f : ReplayFault). Told policy f from to had has) (sym h.0) (s.0, s.1, s.2, subst (λ (w : Option (List ℕ)). Appends had w s.1) (sym h.1) s.3, s.4)
-settled_stops policy NoRoom given from to had is has waiting s h = settles policy NoRoom given from to had is has s.0 s.1 waiting s.4.2 s.4.0 s.4.1 s.2 s.3 s.4.3 s.4 h
+    subst (λ (f : ReplayFault). Told policy f from to had has) (sym h.0)
+    (s.0, s.1, s.2, subst (λ (w : Option (List ℕ)). Appends had w s.1) (sym h.1) s.3, s.4)
+settled_stops policy NoRoom given from to had is has waiting s h =
+    settles policy NoRoom given from to had is has s.0 s.1 waiting s.4.2 s.4.0 s.4.1 s.2 s.3 s.4.3 s.4 h

@@ -1,5 +1,6 @@
 -- Lines, and the commands that are allowed on them.
-use Rattle.std.proofs.Common.{◌≡◌, ◌≢◌, ℕ, zero, suc, ◌≤◌, ◌⊎◌, inl, inr, false, List, [], ◌∷◌, ◌++◌, length, Option, Some, Result, Ok, Err, refl, sym, ap, subst, ◌∙◌, length-append, arith}
+use Rattle.std.proofs.Common.{◌≡◌, ◌≢◌, ℕ, zero, suc, ◌≤◌, ◌⊎◌, inl, inr, false, List, [], ◌∷◌, ◌++◌, length, Option, Some, Result, Ok, Err}
+use Rattle.std.proofs.Common.{refl, sym, ap, subst, ◌∙◌, length-append, arith}
 use Rattle.ds_entry.specs.declared.item.Item.{Item}
 use Rattle.ds_line.specs.Part.{texts}
 use Rattle.ds_line.specs.ItemSpelling.{item_parts}
@@ -41,17 +42,20 @@ offer_line before bytes command read none = refl
 
 -- ---- the first line, and those after it
 
-pub line_after : (before : ℕ) (bytes : List ℕ) (result : Result ScriptCommand CommandFault) → (before ≡ 0 → ReadsAs IsCommand bytes result) → (before ≢ 0 → ReadsAs IsLater bytes result) → ReadsAs (MayStand before) bytes result
+pub line_after : (before : ℕ) (bytes : List ℕ) (result : Result ScriptCommand CommandFault) →
+    (before ≡ 0 → ReadsAs IsCommand bytes result) → (before ≢ 0 → ReadsAs IsLater bytes result) → ReadsAs (MayStand before) bytes result
 line_after zero bytes result first later = first refl
 line_after (suc before) bytes result first later = later (λ none. omega (arith, none))
 
 -- what is read alike as a first and as a later line is read so after any number of lines
-pub read_after : (before : ℕ) (bytes : List ℕ) (result : Result ScriptCommand CommandFault) → ReadsAs IsCommand bytes result → ReadsAs IsLater bytes result → ReadsAs (MayStand before) bytes result
+pub read_after : (before : ℕ) (bytes : List ℕ) (result : Result ScriptCommand CommandFault) → ReadsAs IsCommand bytes result →
+    ReadsAs IsLater bytes result → ReadsAs (MayStand before) bytes result
 read_after zero bytes result first later = first
 read_after (suc before) bytes result first later = later
 
 -- the item that is in the place is the one that is offered
-pub offered_item : (Answers : Result ScriptCommand CommandFault → Type 0) (placed : Option Item) (i : Item) → placed ≡ Some i → OfPlaced CommandFault Answers (Ok tt) placed → Answers (Ok (Offer i))
+pub offered_item : (Answers : Result ScriptCommand CommandFault → Type 0) (placed : Option Item) (i : Item) → placed ≡ Some i →
+    OfPlaced CommandFault Answers (Ok tt) placed → Answers (Ok (Offer i))
 offered_item Answers placed i is read = subst (λ (p : Option Item). OfPlaced CommandFault Answers (Ok tt) p) is read
 
 -- ---- one line, and its answer
@@ -70,8 +74,12 @@ answered_after before bytes out command old new short read answers text is =
 pub refused_after : (before : ℕ) (bytes : List ℕ) (session : SessionContent) → length bytes ≤ 4097
     → ReadsAs (MayStand before) bytes (Err NoRoom)
     → (text : List ℕ) → bytes ≡ with_newline text → AnswersLine before session text refused_noroom session
-refused_after before bytes session short read text is =
-    (read.0, record { written = read.1; text = sym is ∙ read.2; short = short_text bytes text short is }, inl (memory_room read.0 session read.3, (refl, refl)))
+refused_after before bytes session short read text is = (
+  read.0,
+  record { written = read.1; text = sym is ∙ read.2; short = short_text bytes text short is },
+  inl
+      (memory_room read.0 session read.3, (refl, refl)),
+)
 
 -- a line that isn't a command is bad
 pub bad_after : (before : ℕ) (bad : CommandFault) (bytes text : List ℕ) → length bytes ≤ 4097 → bytes ≡ with_newline text
@@ -82,7 +90,8 @@ bad_after before NoRoom bytes text short is fault = tt
 
 -- a line of which no command was read is refused if memory ran out
 pub unread_after : (before : ℕ) (bytes had has : List ℕ) (fault : CommandFault) (session : SessionContent) → length bytes ≤ 4097
-    → ReadsAs (MayStand before) bytes (Err fault) → (fault ≡ NoRoom) × (has ≡ had ++ refused_noroom) → AppendsLine before bytes had has session session
+    → ReadsAs (MayStand before) bytes (Err fault) → (fault ≡ NoRoom) × (has ≡ had ++ refused_noroom) →
+    AppendsLine before bytes had has session session
 unread_after before bytes had has fault session short read answered = (
   refused_noroom,
   answered.1,
@@ -90,9 +99,11 @@ unread_after before bytes had has fault session short read answered = (
 )
 
 -- or its fault is returned
-pub unread_fault : (before : ℕ) (fault told : CommandFault) (bytes : List ℕ) → length bytes ≤ 4097 → ReadsAs (MayStand before) bytes (Err fault) → told ≡ fault
+pub unread_fault : (before : ℕ) (fault told : CommandFault) (bytes : List ℕ) → length bytes ≤ 4097 →
+    ReadsAs (MayStand before) bytes (Err fault) → told ≡ fault
     → (text : List ℕ) → bytes ≡ with_newline text → IsUnendedFault before told text
-unread_fault before fault told bytes short read same text is = subst (λ (f : CommandFault). IsUnendedFault before f text) (sym same) (bad_after before fault bytes text short is read)
+unread_fault before fault told bytes short read same text is =
+    subst (λ (f : CommandFault). IsUnendedFault before f text) (sym same) (bad_after before fault bytes text short is read)
 
 -- a session is kept by itself
 pub keeps : (fault : CommandFault) (session : SessionContent) → KeepsSession fault session session
@@ -105,4 +116,5 @@ pub event_after : (before : ℕ) (bytes out : List ℕ) (command : ScriptCommand
     → AnswersAsEvent command old out new ⊎ (AnswerTakesMemory command old × IsLineRefused old out new)
     → (text : List ℕ) → bytes ≡ with_newline text → AnswersLine before old text out new
 event_after before bytes out command old new short first later answers =
-    answered_after before bytes out command old new short (read_after before bytes (Ok command) first later) (event_answers command old out new answers)
+    answered_after before bytes out command old new short (read_after before bytes (Ok command) first later)
+    (event_answers command old out new answers)

@@ -13,15 +13,22 @@ abbrev pub session_of : WorldRecord → Side → ServersRecord → SessionConten
 session_of world side servers = record { world = world; side = side; servers = servers }
 
 module _ (world : WorldRecord) (side : Side) (old new : ServersRecord) (before after : List ℕ) where
-  pub led : (R : Servers → List ℕ → Servers → Type 0) → AppendsLed R before after old new → AppendsByServers R before after (session_of world side old) (session_of world side new)
+  pub led : (R : Servers → List ℕ → Servers → Type 0) → AppendsLed R before after old new →
+      AppendsByServers R before after (session_of world side old) (session_of world side new)
   led R a = (a.0, a.1, (a.2, refl, refl))
 
-  pub accepted : (text : List ℕ) → AppendsLedOrRefuses text before after old new → AppendsSettings text before after (session_of world side old) (session_of world side new)
+  pub accepted : (text : List ℕ) → AppendsLedOrRefuses text before after old new →
+      AppendsSettings text before after (session_of world side old) (session_of world side new)
   accepted text a = (
     a.0,
     a.1,
-    elim a.2 [ inl done ↦ inl (done, refl, refl) | inr refused ↦ inr (ap (λ (v : ServersRecord). session_of world side v) refused.kept, refused.told) ],
+    elim a.2 [
+      | inl done ↦ inl (done, refl, refl)
+      | inr refused ↦ inr
+          (ap (λ (v : ServersRecord). session_of world side v) refused.kept, refused.told)
+    ],
   )
 
-  pub served : (event : services.Event) (tick : ℕ) (to : WorldRecord) → AppendsService event tick side before after old world new to → AppendsByServices event tick before after (session_of world side old) (session_of to side new)
+  pub served : (event : services.Event) (tick : ℕ) (to : WorldRecord) → AppendsService event tick side before after old world new to →
+      AppendsByServices event tick before after (session_of world side old) (session_of to side new)
   served event tick to a = (a.0, a.1, (a.2, refl))

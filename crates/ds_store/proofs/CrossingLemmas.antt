@@ -17,7 +17,13 @@ content_send =
       search (send, sendable) depth 40,
       (
         search (marked.the_send, masks.the_send, sendable, crosses) depth 40,
-        (search sendable depth 40, (search (journal.the_send, sendable) depth 40, (search sendable depth 40, (search (subscriptions_send, sendable) depth 40, tt)))),
+        (
+          search sendable depth 40,
+          (
+            search (journal.the_send, sendable) depth 40,
+            (search sendable depth 40, (search (subscriptions_send, sendable) depth 40, tt)),
+          ),
+        ),
       ),
     ) in
     search (inside, sendable) depth 40
@@ -28,17 +34,25 @@ content_sync =
       search (sync, sendable) depth 40,
       (
         search (marked.the_sync, masks.the_sync, sendable, crosses) depth 40,
-        (search sendable depth 40, (search (journal.the_sync, sendable) depth 40, (search sendable depth 40, (search (subscriptions_sync, sendable) depth 40, tt)))),
+        (
+          search sendable depth 40,
+          (
+            search (journal.the_sync, sendable) depth 40,
+            (search sendable depth 40, (search (subscriptions_sync, sendable) depth 40, tt)),
+          ),
+        ),
       ),
     ) in
     search (inside, sendable) depth 40
 
 pub store_send : IsSend Store.the_row
 store_send =
-    let inside : IsSend in_store.the_row = declared_send in_store.the_type (search (send, sendable) depth 40, (search (content_send, crosses, sendable) depth 40, tt)) in
+    let inside : IsSend in_store.the_row = declared_send in_store.the_type
+    (search (send, sendable) depth 40, (search (content_send, crosses, sendable) depth 40, tt)) in
     search (inside, sendable) depth 40
 
 pub store_sync : IsSync Store.the_row
 store_sync =
-    let inside : IsSync in_store.the_row = declared_sync in_store.the_type (search (sync, sendable) depth 40, (search (content_sync, crosses, sendable) depth 40, tt)) in
+    let inside : IsSync in_store.the_row = declared_sync in_store.the_type
+    (search (sync, sendable) depth 40, (search (content_sync, crosses, sendable) depth 40, tt)) in
     search (inside, sendable) depth 40

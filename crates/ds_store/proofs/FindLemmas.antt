@@ -25,10 +25,12 @@ use Rattle.ds_store.proofs.AnswerLemmas.{kind_in_place}
 -- ---- a Retrieve
 
 -- The live value of a key is that of the change that is held for it.
-pub live_of : (v : ContentRecord) (s : State) (key : Key) → ContentStands v s → option_and_then value_of (held_at v.held key) ≡ live_at s key
+pub live_of : (v : ContentRecord) (s : State) (key : Key) → ContentStands v s →
+    option_and_then value_of (held_at v.held key) ≡ live_at s key
 live_of v s key stands = ap (λ (hs : List Item). option_and_then value_of (held_at hs key)) stands.held
 
-pub retrieve_step : (s : State) (key : Key) (live : Option Value) → live ≡ live_at s key → Step s (Retrieve key) (found_or (option_map Found live)) s
+pub retrieve_step : (s : State) (key : Key) (live : Option Value) → live ≡ live_at s key →
+    Step s (Retrieve key) (found_or (option_map Found live)) s
 retrieve_step s key live is = inl (inl (record { reply_is = ap (λ (o : Option Value). found_or (option_map Found o)) is; state_is = refl }))
 
 found_last : (s : State) (key : Key) (live : Option Value) → IsLast s (Retrieve key) (found_or (option_map Found live))
@@ -36,7 +38,8 @@ found_last s key None = tt
 found_last s key (Some value) = tt
 
 -- The turn of a Retrieve that finds what is live.
-pub retrieve_turn : (v : ContentRecord) (key : Key) (live : Option Value) → ((s : State) × ContentStands v s) → InEachState v (λ s. live ≡ live_at s key) → Turn v (Retrieve key) (found_or (option_map Found live)) v
+pub retrieve_turn : (v : ContentRecord) (key : Key) (live : Option Value) → ((s : State) × ContentStands v s) →
+    InEachState v (λ s. live ≡ live_at s key) → Turn v (Retrieve key) (found_or (option_map Found live)) v
 retrieve_turn v key live stood is = record {
   stood = stood;
   steps = λ s stands. (s, retrieve_step s key live (is s stands), stands);
@@ -44,7 +47,8 @@ retrieve_turn v key live stood is = record {
 }
 
 -- The turn of a Retrieve that runs out of memory to copy the value.
-pub copyless_turn : (v : ContentRecord) (key : Key) (value : Value) → ((s : State) × ContentStands v s) → InEachState v (λ s. Some value ≡ live_at s key) → kind_of value ≡ key.kind
+pub copyless_turn : (v : ContentRecord) (key : Key) (value : Value) → ((s : State) × ContentStands v s) →
+    InEachState v (λ s. Some value ≡ live_at s key) → kind_of value ≡ key.kind
     → ¬ IsInPlace value → Turn v (Retrieve key) (Refused NoRoom) v
 copyless_turn v key value stood is kind takes = record {
   stood = stood;
@@ -59,12 +63,18 @@ label_is true name o e = absurd (cc)
 label_is false name o e = e
 
 -- The turn of a NameOf that finds the name of a label.
-pub name_turn : (v : ContentRecord) (endpoint : EndpointRecord) (name : List ℕ) → ((s : State) × ContentStands v s) → InEachState v (λ s. Some name ≡ label_name s endpoint) → Turn v (NameOf endpoint) (Named name) v
+pub name_turn : (v : ContentRecord) (endpoint : EndpointRecord) (name : List ℕ) → ((s : State) × ContentStands v s) →
+    InEachState v (λ s. Some name ≡ label_name s endpoint) → Turn v (NameOf endpoint) (Named name) v
 name_turn v endpoint name stood is = record {
   stood = stood;
   steps = λ s stands. (
     s,
-    inl (inl (record { reply_is = ap (λ (o : Option (List ℕ)). found_or (option_map Named o)) (label_is (is_rs endpoint) name (name_of (held s) endpoint) (is s stands)); state_is = refl })),
+    inl (inl
+        (record {
+          reply_is = ap (λ (o : Option (List ℕ)). found_or (option_map Named o))
+              (label_is (is_rs endpoint) name (name_of (held s) endpoint) (is s stands));
+          state_is = refl;
+        })),
     stands,
   );
   last = λ s stands. tt;

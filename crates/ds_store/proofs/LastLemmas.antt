@@ -12,7 +12,8 @@ use Rattle.ds_machine.specs.State.{State, held, unseen, subscription_at, owed}
 use Rattle.ds_machine.specs.Subscription.{Subscription}
 use Rattle.ds_machine.specs.Order.{first_refusal}
 use Rattle.ds_machine.specs.Standing.{standing_of, floor_standing_of}
-use Rattle.ds_machine.specs.Asking.{AskedChange, published, deleted, name_of, asked_in, against_asked, cause_against, against_sweep, sweep_cause}
+use Rattle.ds_machine.specs.Asking.{AskedChange, published, deleted, name_of, asked_in, against_asked, cause_against, against_sweep}
+use Rattle.ds_machine.specs.Asking.{sweep_cause}
 use Rattle.ds_machine.specs.Calling.{against_subscribe, against_check, against_scope, against_since, against_page, against_merge}
 use Rattle.ds_machine.specs.Merging.{Course, course, merge_reply}
 use Rattle.ds_machine.specs.Watching.{subscribe_case, check_case, shows}
@@ -22,7 +23,8 @@ use Rattle.ds_machine.specs.declared.refusal.Cause.TheVariants as causes
 use Rattle.ds_machine.specs.declared.refusal.Refusal.{Refusal}
 use Rattle.ds_machine.specs.declared.refusal.Refusal.TheVariants as refusals
 use Rattle.ds_machine.specs.declared.command.Command.{Command}
-use Rattle.ds_machine.specs.declared.command.Command.TheVariants.{Publish, Delete, Sweep, Retrieve, NameOf, Subscribe, Check, Since, Snapshot, Page, Merge}
+use Rattle.ds_machine.specs.declared.command.Command.TheVariants.{Publish, Delete, Sweep, Retrieve, NameOf, Subscribe, Check, Since}
+use Rattle.ds_machine.specs.declared.command.Command.TheVariants.{Snapshot, Page, Merge}
 use Rattle.ds_machine.specs.declared.reply.Reply.{Reply}
 use Rattle.ds_machine.specs.declared.reply.Reply.TheVariants as replies
 use Rattle.ds_store.specs.Last.{IsLast, OutcomesAreLast}
@@ -60,15 +62,18 @@ some_cause : (r : Refusal) → Some (causes.Refused r) ≢ Some (causes.Refused 
 some_cause r n e = n (cc)
 
 -- the answer if a refusal may apply that isn't lack of memory, and the answer otherwise isn't either
-or_refused : (s : State) (command : Command) (o : Option Refusal) → o ≢ Some refusals.NoRoom → (other : Reply × State) → IsLast s command other.0 →
+or_refused : (s : State) (command : Command) (o : Option Refusal) → o ≢ Some refusals.NoRoom → (other : Reply × State) →
+    IsLast s command other.0 →
     IsLast s command (option_map_or {U = Reply × State} (λ (r : Refusal). (replies.Refused r, s)) o other).0
 or_refused s command None n other last = last
 or_refused s command (Some r) n other last = refused s command r (some_refusal r n)
 
 asked : (s : State) (command : Command) (a : AskedChange) (body : Body) → IsLast s command (asking s a body).0
-asked s command a body = by_cause (cause_against s a body) (no_cause (Some a.version) (against_asked (standing_of s (asked_in s a body)) (name_of (held s) a.caller) a body)) _ _
+asked s command a body = by_cause (cause_against s a body)
+    (no_cause (Some a.version) (against_asked (standing_of s (asked_in s a body)) (name_of (held s) a.caller) a body)) _ _
   where
-    by_cause : (o : Option Cause) → o ≢ Some (causes.Refused refusals.NoRoom) → (other : ℕ) (t : State) → IsLast s command (option_map_or {U = Reply × State} (λ (cause : Cause). (answer_for cause, s)) o (replies.Changed other, t)).0
+    by_cause : (o : Option Cause) → o ≢ Some (causes.Refused refusals.NoRoom) → (other : ℕ) (t : State) →
+        IsLast s command (option_map_or {U = Reply × State} (λ (cause : Cause). (answer_for cause, s)) o (replies.Changed other, t)).0
     by_cause None n other t = tt
     by_cause (Some causes.Known) n other t = tt
     by_cause (Some (causes.Refused r)) n other t = refused s command r (some_cause r n)
@@ -114,12 +119,14 @@ named_last : (s : State) (command : Command) (o : Option (List ℕ)) → IsLast 
 named_last s command None = tt
 named_last s command (Some name) = tt
 
-shown_last : (s : State) (command : Command) (sub : ℕ) (seer : Subscription) (items : List Item) → IsLast s command (shows s sub seer items).0
+shown_last : (s : State) (command : Command) (sub : ℕ) (seer : Subscription) (items : List Item) →
+    IsLast s command (shows s sub seer items).0
 shown_last s command sub seer [] = tt
 shown_last s command sub seer (i ∷ items) = tt
 
 checked_last : (s : State) (command : Command) (sub max : ℕ) (seer : Option Subscription) →
-    IsLast s command (option_map_or {U = Reply × State} (λ (f : Subscription). shows s sub f (take max (unseen s f))) seer (replies.Refused refusals.NotFound, s)).0
+    IsLast s command (option_map_or {U = Reply × State} (λ (f : Subscription). shows s sub f (take max (unseen s f))) seer
+    (replies.Refused refusals.NotFound, s)).0
 checked_last s command sub max None = tt
 checked_last s command sub max (Some f) = shown_last s command sub f (take max (unseen s f))
 
@@ -127,7 +134,8 @@ merged_last : (s : State) (items : List Item) (k : Course) → k.stop ≢ Some r
 merged_last s items k n = by_stop k.stop n k.done (length k.taken) k.stale (owed s k.taken)
   where
     by_stop : (o : Option Refusal) → o ≢ Some refusals.NoRoom → (done taken stale owed : ℕ) →
-        IsLast s (Merge items) (option_map_or {U = Reply} (λ (fault : Refusal). replies.MergeStopped done fault owed) o (replies.Merged done taken stale owed))
+        IsLast s (Merge items) (option_map_or {U = Reply} (λ (fault : Refusal). replies.MergeStopped done fault owed) o
+        (replies.Merged done taken stale owed))
     by_stop None m done taken stale owed = tt
     by_stop (Some refusals.NoRoom) m done taken stale owed = absurd (m refl)
     by_stop (Some (refusals.Clash v)) m done taken stale owed = tt
@@ -153,18 +161,24 @@ merged_last s items k n = by_stop k.stop n k.done (length k.taken) k.stale (owed
     by_stop (Some refusals.BadFirst) m done taken stale owed = tt
 
 pub last : OutcomesAreLast
-last s (Publish caller key version value overwrite) = asked s (Publish caller key version value overwrite) (published caller key version overwrite) (Put value)
+last s (Publish caller key version value overwrite) =
+    asked s (Publish caller key version value overwrite) (published caller key version overwrite) (Put value)
 last s (Delete caller key version) = asked s (Delete caller key version) (deleted caller key version) Gone
 last s (Sweep caller owner generation) = swept s (Sweep caller owner generation) caller (floor_of owner generation)
 last s (Retrieve key) = found_last s (Retrieve key) (live_at s key)
 last s (NameOf endpoint) = named_last s (NameOf endpoint) (name_of (held s) endpoint)
 last s (Subscribe sub query initial overwrite) =
-    or_refused s (Subscribe sub query initial overwrite) (first_refusal (against_subscribe (subscribe_case s sub query overwrite))) (no_refusal (against_subscribe (subscribe_case s sub query overwrite))) _ tt
+    or_refused s (Subscribe sub query initial overwrite) (first_refusal (against_subscribe (subscribe_case s sub query overwrite)))
+    (no_refusal (against_subscribe (subscribe_case s sub query overwrite))) _ tt
 last s (Check sub max) =
-    or_refused s (Check sub max) (first_refusal (against_check (check_case s sub max (subscription_at s sub)))) (no_refusal (against_check (check_case s sub max (subscription_at s sub)))) _
+    or_refused s (Check sub max) (first_refusal (against_check (check_case s sub max (subscription_at s sub))))
+    (no_refusal (against_check (check_case s sub max (subscription_at s sub)))) _
     (checked_last s (Check sub max) sub max (subscription_at s sub))
-last s (Since scope at max) = or_refused s (Since scope at max) (first_refusal (against_since s.feed scope at max)) (no_refusal (against_since s.feed scope at max)) _ tt
+last s (Since scope at max) = or_refused s (Since scope at max) (first_refusal (against_since s.feed scope at max))
+    (no_refusal (against_since s.feed scope at max)) _ tt
 last s (Snapshot scope) = or_refused s (Snapshot scope) (first_refusal (against_scope scope)) (no_refusal (against_scope scope)) _ tt
-last s (Page scope after max) = or_refused s (Page scope after max) (first_refusal (against_page scope max)) (no_refusal (against_page scope max)) _ tt
+last s (Page scope after max) = or_refused s (Page scope after max) (first_refusal (against_page scope max))
+    (no_refusal (against_page scope max)) _ tt
 last s (Merge items) =
-    or_refused s (Merge items) (first_refusal (against_merge (length items))) (no_refusal (against_merge (length items))) (merge_reply s (course s items), (course s items).state) (merged_last s items (course s items) (no_course s items))
+    or_refused s (Merge items) (first_refusal (against_merge (length items))) (no_refusal (against_merge (length items)))
+    (merge_reply s (course s items), (course s items).state) (merged_last s items (course s items) (no_course s items))

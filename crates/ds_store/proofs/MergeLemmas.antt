@@ -1,5 +1,6 @@
 -- How a merge continues.
-use Rattle.std.proofs.Common.{◌≡◌, ℕ, zero, suc, ◌+◌, ◌-◌, ◌<◌, ◌≤◌, Bool, false, List, [], ◌∷◌, ◌++◌, map, length, take, drop, get_or, fold, replicate, Option, Some, None, Ok, Err}
+use Rattle.std.proofs.Common.{◌≡◌, ℕ, zero, suc, ◌+◌, ◌-◌, ◌<◌, ◌≤◌, Bool, false, List, [], ◌∷◌, ◌++◌, map, length, take, drop, get_or}
+use Rattle.std.proofs.Common.{fold, replicate, Option, Some, None, Ok, Err}
 use Rattle.std.proofs.Common.{refl, ap, ap₂, sym, ◌∙◌, subst, inl, inr, arith, length-append, ◌⊎◌, ◌||◌}
 use Rattle.std.proofs.lemmas.List.Sums.{fold_more, fold-append}
 use Rattle.std.proofs.lemmas.List.{take-append-drop, take_all, length-map}
@@ -55,16 +56,20 @@ not_begun s = record { stop = refl; count = refl }
 pub judged : (k : Course) (c : Item) (o : Option Cause) → k.stop ≡ None → cause_of k.state c ≡ o → item_merged k c ≡ item_judged k c o
 judged k c o e f = ap₂ (λ stop x. option_map_or (λ (r : Refusal). k) stop (item_judged k c x)) e f
 
-pub item_done : (k : Course) (c : Item) (join : Merge) (t : State) (n : Count) → Reached k n → MergesItem k.state c (Ok join) t → Reached (item_merged k c) (counted n (Some join)) × ((item_merged k c).state ≡ t)
+pub item_done : (k : Course) (c : Item) (join : Merge) (t : State) (n : Count) → Reached k n → MergesItem k.state c (Ok join) t →
+    Reached (item_merged k c) (counted n (Some join)) × ((item_merged k c).state ≡ t)
 item_done k c Taken t n r is =
     let more : counted_in (item_judged k c None) ≡ counted n (Some Taken) =
-    ap (λ l. record { done = k.done + 1; taken = l; stale = k.stale }) (length-append k.taken (c ∷ [])) ∙ ap (λ m. counted m (Some Taken)) r.count in
-    subst (λ (x : Course). Reached x (counted n (Some Taken)) × (x.state ≡ t)) (sym (judged k c None r.stop is.0)) (record { stop = r.stop; count = more }, sym is.1)
+    ap (λ l. record { done = k.done + 1; taken = l; stale = k.stale }) (length-append k.taken (c ∷ [])) ∙
+    ap (λ m. counted m (Some Taken)) r.count in
+    subst (λ (x : Course). Reached x (counted n (Some Taken)) × (x.state ≡ t)) (sym (judged k c None r.stop is.0))
+    (record { stop = r.stop; count = more }, sym is.1)
 item_done k c Known t n r is =
     subst (λ (x : Course). Reached x (counted n (Some Known)) × (x.state ≡ t)) (sym (judged k c (Some causes.Known) r.stop is.0))
     (record { stop = r.stop; count = ap (λ m. counted m (Some Known)) r.count }, sym is.1)
 item_done k c Stale t n r is =
-    subst (λ (x : Course). Reached x (counted n (Some Stale)) × (x.state ≡ t)) (sym (judged k c (Some (causes.Refused refusals.Stale)) r.stop is.0))
+    subst (λ (x : Course). Reached x (counted n (Some Stale)) × (x.state ≡ t))
+    (sym (judged k c (Some (causes.Refused refusals.Stale)) r.stop is.0))
     (record { stop = r.stop; count = ap (λ m. counted m (Some Stale)) r.count }, sym is.1)
 
 -- an item that a cause applies to is passed over, or stops the merge, and no subscription is owed it
@@ -84,11 +89,13 @@ passed_owed (causes.Refused r) total more = by_refusal r
     by_refusal refusals.Stale = refl
     by_refusal _ = refl
 
-pub course_more : (s : State) (items : List Item) (i : ℕ) (d : Item) → i < length items → course s (take (i + 1) items) ≡ item_merged (course s (take i items)) (get_or items i d)
+pub course_more : (s : State) (items : List Item) (i : ℕ) (d : Item) → i < length items →
+    course s (take (i + 1) items) ≡ item_merged (course s (take i items)) (get_or items i d)
 course_more s items i d l = fold_more item_merged (begun s) items i d l
 
 -- ---- a merge that is stopped
-stopped_by : (k : Course) (c : Item) (fault : Refusal) → passed_as (causes.Refused fault) ≡ Err fault → item_judged k c (Some (causes.Refused fault)) ≡ record k { stop = Some fault }
+stopped_by : (k : Course) (c : Item) (fault : Refusal) → passed_as (causes.Refused fault) ≡ Err fault →
+    item_judged k c (Some (causes.Refused fault)) ≡ record k { stop = Some fault }
 stopped_by k c refusals.Stale e = absurd (cc)
 stopped_by k c _ e = refl
 
@@ -98,7 +105,8 @@ stays k r (c ∷ items) e =
     let same : item_merged k c ≡ k = ap (λ stop. option_map_or (λ (x : Refusal). k) stop (item_judged k c (cause_of k.state c))) e in
     ap (λ (x : Course). fold item_merged x items) same ∙ stays k r items e
 
-pub course_stopped : (s : State) (items : List Item) (i : ℕ) (d : Item) (fault : Refusal) → i < length items → (course s (take i items)).stop ≡ None → StopsMerge (course s (take i items)).state (get_or items i d) fault
+pub course_stopped : (s : State) (items : List Item) (i : ℕ) (d : Item) (fault : Refusal) → i < length items →
+    (course s (take i items)).stop ≡ None → StopsMerge (course s (take i items)).state (get_or items i d) fault
     → course s items ≡ record (course s (take i items)) { stop = Some fault }
 course_stopped s items i d fault l e is =
     let k = course s (take i items) in
@@ -106,15 +114,18 @@ course_stopped s items i d fault l e is =
     let there : item_merged k c ≡ record k { stop = Some fault } =
     judged k c (Some (causes.Refused fault)) e is.stands ∙ stopped_by k c fault is.refuses in
     ap (course s) (sym (take-append-drop (i + 1) items)) ∙ fold-append item_merged (begun s) (take (i + 1) items) (drop (i + 1) items)
-    ∙ ap (λ (x : Course). fold item_merged x (drop (i + 1) items)) (course_more s items i d l ∙ there) ∙ stays (record k { stop = Some fault }) fault (drop (i + 1) items) refl
+    ∙ ap (λ (x : Course). fold item_merged x (drop (i + 1) items)) (course_more s items i d l ∙ there) ∙
+    stays (record k { stop = Some fault }) fault (drop (i + 1) items) refl
 
 -- ---- the next item
 pub item_next : (items : List Item) (i n : ℕ) (x : Item) → i < length items → x ≡ get_or items i x → i ≡ n → slice_get items n ≡ Some x
 item_next items i n x l is e = subst (λ k. slice_get items k ≡ Some x) e (slice_get_read items (length items) i x refl l is)
 
-pub next_course : (s : State) (items : List Item) (i : ℕ) (c : Item) → slice_get items i ≡ Some c → course s (take (i + 1) items) ≡ item_merged (course s (take i items)) c
+pub next_course : (s : State) (items : List Item) (i : ℕ) (c : Item) → slice_get items i ≡ Some c →
+    course s (take (i + 1) items) ≡ item_merged (course s (take i items)) c
 next_course s items i c at =
-    course_more s items i c (slice_get_within items i c at) ∙ ap (item_merged (course s (take i items))) (get_or_from_slice_get items i c c at)
+    course_more s items i c (slice_get_within items i c at) ∙
+    ap (item_merged (course s (take i items))) (get_or_from_slice_get items i c c at)
 
 -- one more is done, and still one more can be counted
 pub one_more : (n m : Count) (join : Merge) → m ≡ counted n (Some join) → m.done ≡ n.done + 1
@@ -123,23 +134,31 @@ one_more n m Known e = ap (λ (x : Count). x.done) e
 one_more n m Stale e = ap (λ (x : Count). x.done) e
 
 pub can_go_on : (n m : Count) (join : Merge) → m ≡ counted n (Some join) → n.done < most_items → CanCountOne n → CanCountOne m
-can_go_on n m Taken e few can = rw e (record { taken = omega (arith, can.taken); stale = omega (arith, can.stale); done = omega (arith, few) })
-can_go_on n m Known e few can = rw e (record { taken = omega (arith, can.taken); stale = omega (arith, can.stale); done = omega (arith, few) })
-can_go_on n m Stale e few can = rw e (record { taken = omega (arith, can.taken); stale = omega (arith, can.stale); done = omega (arith, few) })
+can_go_on n m Taken e few can = rw e (record
+    { taken = omega (arith, can.taken); stale = omega (arith, can.stale); done = omega (arith, few) })
+can_go_on n m Known e few can = rw e (record
+    { taken = omega (arith, can.taken); stale = omega (arith, can.stale); done = omega (arith, few) })
+can_go_on n m Stale e few can = rw e (record
+    { taken = omega (arith, can.taken); stale = omega (arith, can.stale); done = omega (arith, few) })
 
-pub next_reached : (s : State) (items : List Item) (c : Item) (join : Merge) (t : State) (n m : Count) → slice_get items n.done ≡ Some c → Reached (course s (take n.done items)) n
-    → MergesItem (course s (take n.done items)).state c (Ok join) t → m ≡ counted n (Some join) → Reached (course s (take m.done items)) m × (t ≡ (course s (take m.done items)).state)
+pub next_reached : (s : State) (items : List Item) (c : Item) (join : Merge) (t : State) (n m : Count) → slice_get items n.done ≡ Some c →
+    Reached (course s (take n.done items)) n
+    → MergesItem (course s (take n.done items)).state c (Ok join) t → m ≡ counted n (Some join) →
+    Reached (course s (take m.done items)) m × (t ≡ (course s (take m.done items)).state)
 next_reached s items c join t n m at r is e =
     let same : course s (take m.done items) ≡ item_merged (course s (take n.done items)) c =
     ap (λ k. course s (take k items)) (one_more n m join e) ∙ next_course s items n.done c at in
     let done = item_done (course s (take n.done items)) c join t n r is in (
-      subst (λ (x : Count). Reached (course s (take m.done items)) x) (sym e) (subst (λ (k : Course). Reached k (counted n (Some join))) (sym same) done.0),
+      subst (λ (x : Count). Reached (course s (take m.done items)) x) (sym e)
+          (subst (λ (k : Course). Reached k (counted n (Some join))) (sym same) done.0),
       sym done.1 ∙ ap (λ (k : Course). k.state) (sym same),
     )
 
 -- ---- the answers
-pub merge_stopped : (s : State) (items : List Item) (c : Item) (fault : Refusal) (t : State) (n : Count) (o : ℕ) → o ≡ owed s (course s (take n.done items)).taken → length items ≤ most_items → slice_get items n.done ≡ Some c
-    → Reached (course s (take n.done items)) n → MergesItem (course s (take n.done items)).state c (Err fault) t → Step s (Merges items) (MergeStopped n.done fault o) t
+pub merge_stopped : (s : State) (items : List Item) (c : Item) (fault : Refusal) (t : State) (n : Count) (o : ℕ) →
+    o ≡ owed s (course s (take n.done items)).taken → length items ≤ most_items → slice_get items n.done ≡ Some c
+    → Reached (course s (take n.done items)) n → MergesItem (course s (take n.done items)).state c (Err fault) t →
+    Step s (Merges items) (MergeStopped n.done fault o) t
 merge_stopped s items c fault t n o owes few at r is = by_fault is.1
   where
     i : ℕ
@@ -165,22 +184,27 @@ merge_stopped s items c fault t n o owes few at r is = by_fault is.1
     by_fault (inr stop) =
         let this : get_or items i c ≡ c = get_or_from_slice_get items i c c at in
         let there : course s items ≡ record k { stop = Some fault } =
-        course_stopped s items i c fault (slice_get_within items i c at) r.stop (subst (λ (x : Item). StopsMerge k.state x fault) (sym this) stop) in
+        course_stopped s items i c fault (slice_get_within items i c at) r.stop
+        (subst (λ (x : Item). StopsMerge k.state x fault) (sym this) stop) in
         let reply : (merging s items (first_refusal (against_merge (length items)))).0 ≡ MergeStopped i fault o =
-        ap (λ x. (merging s items x).0) (none_stands (length items) few) ∙ ap (merge_reply s) there ∙ ap₂ (λ (m : Count) b. MergeStopped m.done fault b) r.count (sym nothing) in
+        ap (λ x. (merging s items x).0) (none_stands (length items) few) ∙ ap (merge_reply s) there ∙
+        ap₂ (λ (m : Count) b. MergeStopped m.done fault b) r.count (sym nothing) in
         let state : (merging s items (first_refusal (against_merge (length items)))).1 ≡ k.state =
         ap (λ x. (merging s items x).1) (none_stands (length items) few) ∙ ap (λ (x : Course). x.state) there in
         inl (inl (record { reply_is = sym reply; state_is = is.0 ∙ sym state }))
 
-pub merge_done : (s : State) (items : List Item) (n : Count) (o : ℕ) → o ≡ owed s (course s (take n.done items)).taken → length items ≤ most_items → slice_get items n.done ≡ None
-    → Reached (course s (take n.done items)) n → Step s (Merges items) (Merged n.done n.taken n.stale o) (course s (take n.done items)).state
+pub merge_done : (s : State) (items : List Item) (n : Count) (o : ℕ) → o ≡ owed s (course s (take n.done items)).taken →
+    length items ≤ most_items → slice_get items n.done ≡ None
+    → Reached (course s (take n.done items)) n →
+    Step s (Merges items) (Merged n.done n.taken n.stale o) (course s (take n.done items)).state
 merge_done s items n o owes few gone r =
     let k = course s (take n.done items) in
     let end : length items ≤ n.done = past items n.done gone in
     let whole : course s items ≡ k = ap (course s) (sym (take_all n.done items end)) in
     let nothing : owed s k.taken ≡ o = sym owes in
     let counts : merge_reply s k ≡ Merged n.done n.taken n.stale o =
-    ap (λ stop. option_map_or (λ (fault : Refusal). MergeStopped k.done fault (owed s k.taken)) stop (Merged k.done (length k.taken) k.stale (owed s k.taken))) r.stop
+    ap (λ stop. option_map_or (λ (fault : Refusal). MergeStopped k.done fault (owed s k.taken)) stop
+    (Merged k.done (length k.taken) k.stale (owed s k.taken))) r.stop
     ∙ ap₂ (λ (m : Count) b. Merged m.done m.taken m.stale b) r.count nothing in
     let reply : (merging s items (first_refusal (against_merge (length items)))).0 ≡ Merged n.done n.taken n.stale o =
     ap (λ x. (merging s items x).0) (none_stands (length items) few) ∙ ap (merge_reply s) whole ∙ counts in
@@ -192,7 +216,8 @@ merge_done s items n o owes few gone r =
     past xs j e = elim ((slice_get_cases xs j).1) [ inl h ↦ absurd (let no : None ≡ Some h.0 = sym e ∙ h.2 in cc) | inr h ↦ h.0 ]
 
 -- ---- the subscriptions that are owed the taken items
-either_owed : (xs ys : List Item) (subs : List (Option Subscription)) → map (is_owed (xs ++ ys)) subs ≡ either (map (is_owed xs) subs) (map (is_owed ys) subs)
+either_owed : (xs ys : List Item) (subs : List (Option Subscription)) →
+    map (is_owed (xs ++ ys)) subs ≡ either (map (is_owed xs) subs) (map (is_owed ys) subs)
 either_owed xs ys [] = refl
 either_owed xs ys (None ∷ subs) = ap (λ l. false ∷ l) (either_owed xs ys subs)
 either_owed xs ys (Some sub ∷ subs) = ap₂ ◌∷◌ (list_any-append (passes (is_under sub.query)) xs ys) (either_owed xs ys subs)
@@ -201,23 +226,29 @@ neither : (n : ℕ) → either (replicate n false) (replicate n false) ≡ repli
 neither zero = refl
 neither (suc n) = ap (λ l. false ∷ l) (neither n)
 
-either_after : (f g : Option Subscription → Bool) (subs : List (Option Subscription)) (n : ℕ) → either (map f subs ++ replicate n false) (map g subs ++ replicate n false) ≡ either (map f subs) (map g subs) ++ replicate n false
+either_after : (f g : Option Subscription → Bool) (subs : List (Option Subscription)) (n : ℕ) →
+    either (map f subs ++ replicate n false) (map g subs ++ replicate n false) ≡ either (map f subs) (map g subs) ++ replicate n false
 either_after f g [] n = neither n
 either_after f g (sub ∷ subs) n = ap (λ l. (f sub || g sub) ∷ l) (either_after f g subs n)
 
 -- the padded flags of both
-pub padded_either : (xs ys : List Item) (subs : List (Option Subscription)) → either (padded (map (is_owed xs) subs)) (padded (map (is_owed ys) subs)) ≡ padded (map (is_owed (xs ++ ys)) subs)
+pub padded_either : (xs ys : List Item) (subs : List (Option Subscription)) →
+    either (padded (map (is_owed xs) subs)) (padded (map (is_owed ys) subs)) ≡ padded (map (is_owed (xs ++ ys)) subs)
 padded_either xs ys subs =
     let n : 128 - length (map (is_owed xs) subs) ≡ 128 - length subs = ap (λ m. 128 - m) (length-map subs (is_owed xs)) in
     let m : 128 - length (map (is_owed ys) subs) ≡ 128 - length subs = ap (λ m. 128 - m) (length-map subs (is_owed ys)) in
-    let both : 128 - length (map (is_owed (xs ++ ys)) subs) ≡ 128 - length subs = ap (λ m. 128 - m) (length-map subs (is_owed (xs ++ ys))) in
-    ap₂ (λ a b. either (map (is_owed xs) subs ++ replicate a false) (map (is_owed ys) subs ++ replicate b false)) n m ∙ either_after (is_owed xs) (is_owed ys) subs (128 - length subs)
+    let both : 128 - length (map (is_owed (xs ++ ys)) subs) ≡ 128 - length subs =
+    ap (λ m. 128 - m) (length-map subs (is_owed (xs ++ ys))) in
+    ap₂ (λ a b. either (map (is_owed xs) subs ++ replicate a false) (map (is_owed ys) subs ++ replicate b false)) n m ∙
+    either_after (is_owed xs) (is_owed ys) subs (128 - length subs)
     ∙ ap₂ (λ l a. l ++ replicate a false) (sym (either_owed xs ys subs)) (sym both)
 
 none_of : (subs : List (Option Subscription)) (n : ℕ) → replicate (length subs + n) false ≡ map (is_owed []) subs ++ replicate n false
 none_of [] n = let e : 0 + n ≡ n = omega arith in ap (λ m. replicate m false) e
-none_of (None ∷ subs) n = let e : length (None ∷ subs) + n ≡ suc (length subs + n) = omega arith in ap (λ m. replicate m false) e ∙ ap (λ l. false ∷ l) (none_of subs n)
-none_of (Some sub ∷ subs) n = let e : length (Some sub ∷ subs) + n ≡ suc (length subs + n) = omega arith in ap (λ m. replicate m false) e ∙ ap (λ l. false ∷ l) (none_of subs n)
+none_of (None ∷ subs) n = let e : length (None ∷ subs) + n ≡ suc (length subs + n) = omega arith in
+    ap (λ m. replicate m false) e ∙ ap (λ l. false ∷ l) (none_of subs n)
+none_of (Some sub ∷ subs) n = let e : length (Some sub ∷ subs) + n ≡ suc (length subs + n) = omega arith in
+    ap (λ m. replicate m false) e ∙ ap (λ l. false ∷ l) (none_of subs n)
 
 -- nothing is owed to none
 pub nothing_owed : (v : ContentRecord) (s : State) → ContentStands v s → replicate 128 false ≡ padded (map (is_owed []) s.subscriptions)
@@ -241,7 +272,8 @@ judged_places k i (Some (causes.Refused r)) = by_refusal r
 merged_places : (k : Course) (i : Item) → (item_merged k i).state.subscriptions ≡ k.state.subscriptions
 merged_places k i = by_stop k.stop
   where
-    by_stop : (o : Option Refusal) → (option_map_or {U = Course} (λ stop. k) o (item_judged k i (cause_of k.state i))).state.subscriptions ≡ k.state.subscriptions
+    by_stop : (o : Option Refusal) → (option_map_or {U = Course} (λ stop. k) o (item_judged k i (cause_of k.state i))).state.subscriptions
+        ≡ k.state.subscriptions
     by_stop None = judged_places k i (cause_of k.state i)
     by_stop (Some r) = refl
 
@@ -253,14 +285,20 @@ pub course_places : (s : State) (items : List Item) → (course s items).state.s
 course_places s items = fold_places (begun s) items
 
 -- those to which an item is owed are added where it is taken
-pub item_owed : (k : Course) (i : Item) (join : Merge) (t : State) (subs : List (Option Subscription)) (flags more : List Bool) → k.stop ≡ None → MergesItem k.state i (Ok join) t
-    → flags ≡ padded (map (is_owed k.taken) subs) → more ≡ padded (map (is_owed (i ∷ [])) subs) → owed_after (Ok join) flags more ≡ padded (map (is_owed (item_merged k i).taken) subs)
+pub item_owed : (k : Course) (i : Item) (join : Merge) (t : State) (subs : List (Option Subscription)) (flags more : List Bool) →
+    k.stop ≡ None → MergesItem k.state i (Ok join) t
+    → flags ≡ padded (map (is_owed k.taken) subs) → more ≡ padded (map (is_owed (i ∷ [])) subs) →
+    owed_after (Ok join) flags more ≡ padded (map (is_owed (item_merged k i).taken) subs)
 item_owed k i Taken t subs flags more stop is e f =
-    ap₂ either e f ∙ padded_either k.taken (i ∷ []) subs ∙ ap (λ (x : Course). padded (map (is_owed x.taken) subs)) (sym (judged k i None stop is.0))
-item_owed k i Known t subs flags more stop is e f = e ∙ ap (λ (x : Course). padded (map (is_owed x.taken) subs)) (sym (judged k i (Some causes.Known) stop is.0))
-item_owed k i Stale t subs flags more stop is e f = e ∙ ap (λ (x : Course). padded (map (is_owed x.taken) subs)) (sym (judged k i (Some (causes.Refused refusals.Stale)) stop is.0))
+    ap₂ either e f ∙ padded_either k.taken (i ∷ []) subs ∙
+    ap (λ (x : Course). padded (map (is_owed x.taken) subs)) (sym (judged k i None stop is.0))
+item_owed k i Known t subs flags more stop is e f =
+    e ∙ ap (λ (x : Course). padded (map (is_owed x.taken) subs)) (sym (judged k i (Some causes.Known) stop is.0))
+item_owed k i Stale t subs flags more stop is e f =
+    e ∙ ap (λ (x : Course). padded (map (is_owed x.taken) subs)) (sym (judged k i (Some (causes.Refused refusals.Stale)) stop is.0))
 
-pub course_number : (s : State) (k : Course) (n : ℕ) (flags : List Bool) → n ≡ mask flags → flags ≡ padded (map (is_owed k.taken) s.subscriptions) → n ≡ owed s k.taken
+pub course_number : (s : State) (k : Course) (n : ℕ) (flags : List Bool) → n ≡ mask flags →
+    flags ≡ padded (map (is_owed k.taken) s.subscriptions) → n ≡ owed s k.taken
 course_number s k n flags e f = e ∙ ap mask f ∙ padded_number (map (is_owed k.taken) s.subscriptions)
 
 -- ---- where it stops for lack of memory
@@ -290,5 +328,7 @@ stopped_last s items i item refusals.BadRing o at lacks = tt
 stopped_last s items i item refusals.BadFirst o at lacks = tt
 
 -- memory may run out for a change that would take effect, if its key isn't held or its copy takes memory
-pub change_lacks : (v : ContentRecord) (s : State) (c : ChangeRecord) → ContentStands v s → cause_of s (Changed c) ≡ None → (held_at v.held c.key ≡ None) ⊎ (¬ IsBodyInPlace c.body) → MayLackItem s (Changed c)
-change_lacks v s c stands e takes = (e, elim takes [ inl none ↦ inl (sym (ap (λ (hs : List Item). held_at hs c.key) stands.held) ∙ none) | inr copies ↦ inr copies ])
+pub change_lacks : (v : ContentRecord) (s : State) (c : ChangeRecord) → ContentStands v s → cause_of s (Changed c) ≡ None →
+    (held_at v.held c.key ≡ None) ⊎ (¬ IsBodyInPlace c.body) → MayLackItem s (Changed c)
+change_lacks v s c stands e takes =
+    (e, elim takes [ inl none ↦ inl (sym (ap (λ (hs : List Item). held_at hs c.key) stands.held) ∙ none) | inr copies ↦ inr copies ])

@@ -1,5 +1,6 @@
 -- Lack of memory isn't in the order of causes.
-use Rattle.std.proofs.Common.{◌≡◌, ◌≢◌, Bool, true, false, cond, ◌||◌, List, [], ◌∷◌, ◌++◌, map, fold, Option, Some, None, refl, sym, ap, ◌∙◌}
+use Rattle.std.proofs.Common.{◌≡◌, ◌≢◌, Bool, true, false, cond, ◌||◌, List, [], ◌∷◌, ◌++◌, map, fold, Option, Some, None, refl, sym, ap}
+use Rattle.std.proofs.Common.{◌∙◌}
 use Rattle.std.proofs.lemmas.Option.{same_Some}
 use Rattle.std.specs.List.{find, list_any}
 use Rattle.std.specs.Option.{option_map_or}
@@ -21,7 +22,8 @@ none_found : {X : Type 0} (p q : X → Bool) (xs : List X) (x : X) → list_any 
 none_found p q [] x n h = absurd (cc)
 none_found p q (y ∷ ys) x n h = by_tests (p y) (q y) refl n h (none_found p q ys x)
   where
-    by_tests : (b d : Bool) → q y ≡ d → d || list_any q ys ≡ false → cond b (Some y) (find p ys) ≡ Some x → (list_any q ys ≡ false → find p ys ≡ Some x → q x ≡ false) → q x ≡ false
+    by_tests : (b d : Bool) → q y ≡ d → d || list_any q ys ≡ false → cond b (Some y) (find p ys) ≡ Some x →
+        (list_any q ys ≡ false → find p ys ≡ Some x → q x ≡ false) → q x ≡ false
     by_tests b true e m f rest = absurd (cc)
     by_tests true false e m f rest = ap q (sym (same_Some y x f)) ∙ e
     by_tests false false e m f rest = rest m f
@@ -36,10 +38,12 @@ wants_room (causes.Refused refusal) = is_no_room refusal
 
 pub no_cause : NoRoomIsNoCause
 no_cause None stands e =
-    let n : true ≡ false = none_found stands wants_room (map causes.Refused by_command ++ by_version None ++ map causes.Refused by_room) (causes.Refused refusals.NoRoom) refl e in
+    let n : true ≡ false = none_found stands wants_room (map causes.Refused by_command ++ by_version None ++ map causes.Refused by_room)
+    (causes.Refused refusals.NoRoom) refl e in
     cc
 no_cause (Some v) stands e =
-    let n : true ≡ false = none_found stands wants_room (map causes.Refused by_command ++ by_version (Some v) ++ map causes.Refused by_room) (causes.Refused refusals.NoRoom) refl e in
+    let n : true ≡ false = none_found stands wants_room
+    (map causes.Refused by_command ++ by_version (Some v) ++ map causes.Refused by_room) (causes.Refused refusals.NoRoom) refl e in
     cc
 
 pub no_refusal : NoRoomIsNoRefusal
@@ -52,12 +56,14 @@ no_item : (s : State) (i : Item) → cause_of s i ≢ Some (causes.Refused refus
 no_item s (Changed c) e = no_cause (Some c.version) (against_change (standing_of s c) c) e
 no_item s (Floored f) e = no_cause None (against_floor (floor_standing_of s f) f) e
 
-judged_on : (k : Course) (i : Item) (o : Option Cause) → o ≢ Some (causes.Refused refusals.NoRoom) → k.stop ≡ None → (item_judged k i o).stop ≢ Some refusals.NoRoom
+judged_on : (k : Course) (i : Item) (o : Option Cause) → o ≢ Some (causes.Refused refusals.NoRoom) → k.stop ≡ None →
+    (item_judged k i o).stop ≢ Some refusals.NoRoom
 judged_on k i None n e f = absurd (cc)
 judged_on k i (Some causes.Known) n e f = absurd (cc)
 judged_on k i (Some (causes.Refused refusal)) n e f = by_refusal refusal n f
   where
-    by_refusal : (r : Refusal) → Some (causes.Refused r) ≢ Some (causes.Refused refusals.NoRoom) → (item_judged k i (Some (causes.Refused r))).stop ≡ Some refusals.NoRoom → ⊥
+    by_refusal : (r : Refusal) → Some (causes.Refused r) ≢ Some (causes.Refused refusals.NoRoom) →
+        (item_judged k i (Some (causes.Refused r))).stop ≡ Some refusals.NoRoom → ⊥
     by_refusal refusals.NoRoom n f = n refl
     by_refusal refusals.Stale n f = cc
     by_refusal r n f = cc
@@ -65,7 +71,8 @@ judged_on k i (Some (causes.Refused refusal)) n e f = by_refusal refusal n f
 merged_on : (k : Course) (i : Item) → k.stop ≢ Some refusals.NoRoom → (item_merged k i).stop ≢ Some refusals.NoRoom
 merged_on k i n = by_stop k.stop refl n
   where
-    by_stop : (o : Option Refusal) → k.stop ≡ o → o ≢ Some refusals.NoRoom → (option_map_or (λ stop. k) o (item_judged k i (cause_of k.state i))).stop ≢ Some refusals.NoRoom
+    by_stop : (o : Option Refusal) → k.stop ≡ o → o ≢ Some refusals.NoRoom →
+        (option_map_or (λ stop. k) o (item_judged k i (cause_of k.state i))).stop ≢ Some refusals.NoRoom
     by_stop None e n = judged_on k i (cause_of k.state i) (no_item k.state i) e
     by_stop (Some r) e n = λ f. n (sym e ∙ f)
 
@@ -82,7 +89,8 @@ pattern_may All stands given e = absurd e
 pattern_may (Under query) stands given e = e
 
 front : (a b c : Bool) (rest : Option Refusal)
-    → cond a (Some refusals.BadSub) (cond b (Some refusals.TooMany) (cond c (Some refusals.TooLong) rest)) ≡ None → cond a (Some refusals.BadSub) (cond b (Some refusals.TooMany) (cond c (Some refusals.TooLong) None)) ≡ None
+    → cond a (Some refusals.BadSub) (cond b (Some refusals.TooMany) (cond c (Some refusals.TooLong) rest)) ≡ None →
+    cond a (Some refusals.BadSub) (cond b (Some refusals.TooMany) (cond c (Some refusals.TooLong) None)) ≡ None
 front true b c rest e = absurd (cc)
 front false true c rest e = absurd (cc)
 front false false true rest e = absurd (cc)

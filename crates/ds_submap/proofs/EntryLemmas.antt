@@ -1,5 +1,6 @@
 -- The puts of what is held, in order.
-use Rattle.std.proofs.Common.{◌≡◌, ◌≢◌, ℕ, ◌+◌, true, false, cond, List, [], ◌∷◌, ◌++◌, map, take, drop, Some, Result, Ok, Err, OnErr, refl, sym, ap, ◌∙◌, append-nil}
+use Rattle.std.proofs.Common.{◌≡◌, ◌≢◌, ℕ, ◌+◌, true, false, cond, List, [], ◌∷◌, ◌++◌, map, take, drop, Some, Result, Ok, Err, OnErr, refl}
+use Rattle.std.proofs.Common.{sym, ap, ◌∙◌, append-nil}
 use Rattle.std.proofs.lemmas.List.{take_more, take-append-drop, map-append}
 use Rattle.std.proofs.lemmas.List.Elements.{filter-append}
 use Rattle.std.proofs.lemmas.Option.{get_or_from_slice_get, slice_get_within}
@@ -22,12 +23,14 @@ no_puts [] = refl
 no_puts (f ∷ fs) = no_puts fs
 
 pub held_puts : (h : Holding) → entries_of (held_items h) ≡ puts_of (held_changes h)
-held_puts h = filter-append is_put (map floor_item (entries h.floors)) (map change_item (held_changes h)) ∙ ap (λ l. l ++ puts_of (held_changes h)) (no_puts (entries h.floors))
+held_puts h = filter-append is_put (map floor_item (entries h.floors)) (map change_item (held_changes h)) ∙
+    ap (λ l. l ++ puts_of (held_changes h)) (no_puts (entries h.floors))
 
 puts_push : (cs : List ChangeRecord) (c : ChangeRecord) → puts_of (cs ++ c ∷ []) ≡ puts_of cs ++ cond (leaves_value c) (Changed c ∷ []) []
 puts_push [] c = refl
 puts_push (d ∷ cs) c =
-    elim (leaves_value d) as (λ b. cond b (Changed d ∷ puts_of (cs ++ c ∷ [])) (puts_of (cs ++ c ∷ [])) ≡ cond b (Changed d ∷ puts_of cs) (puts_of cs) ++ cond (leaves_value c) (Changed c ∷ []) []) [
+    elim (leaves_value d) as (λ b. cond b (Changed d ∷ puts_of (cs ++ c ∷ [])) (puts_of (cs ++ c ∷ [])) ≡ cond b (Changed d ∷ puts_of cs)
+    (puts_of cs) ++ cond (leaves_value c) (Changed c ∷ []) []) [
       | true ↦ ap (λ l. Changed d ∷ l) (puts_push cs c)
       | false ↦ puts_push cs c
     ]
@@ -41,7 +44,8 @@ puts_append cs ds = ap entries_of (map-append change_item cs ds) ∙ filter-appe
 
 module _ (cs : List ChangeRecord) (i : ℕ) (c : ChangeRecord) (at : slice_get cs i ≡ Some c) where
   one_more : puts_of (take (i + 1) cs) ≡ puts_of (take i cs) ++ cond (leaves_value c) (Changed c ∷ []) []
-  one_more = ap puts_of (take_more cs i c (slice_get_within cs i c at) ∙ ap (λ (y : ChangeRecord). take i cs ++ y ∷ []) (get_or_from_slice_get cs i c c at)) ∙ puts_push (take i cs) c
+  one_more = ap puts_of (take_more cs i c (slice_get_within cs i c at) ∙
+      ap (λ (y : ChangeRecord). take i cs ++ y ∷ []) (get_or_from_slice_get cs i c c at)) ∙ puts_push (take i cs) c
 
   pub put_added : leaves_value c ≡ true → puts_of (take i cs) ++ Changed c ∷ [] ≡ puts_of (take (i + 1) cs)
   put_added p = sym (one_more ∙ ap (λ b. puts_of (take i cs) ++ cond b (Changed c ∷ []) []) p)
@@ -53,9 +57,11 @@ module _ (cs : List ChangeRecord) (i : ℕ) (c : ChangeRecord) (at : slice_get c
   pub some_put : leaves_value c ≡ true → puts_of cs ≢ []
   some_put p none =
       has_one (puts_of (take i cs)) (puts_of (drop (i + 1) cs)) (Changed c)
-      (ap (λ l. l ++ puts_of (drop (i + 1) cs)) (put_added p) ∙ sym (puts_append (take (i + 1) cs) (drop (i + 1) cs)) ∙ ap puts_of (take-append-drop (i + 1) cs) ∙ none)
+      (ap (λ l. l ++ puts_of (drop (i + 1) cs)) (put_added p) ∙ sym (puts_append (take (i + 1) cs) (drop (i + 1) cs)) ∙
+      ap puts_of (take-append-drop (i + 1) cs) ∙ none)
 
 -- An error where a put is held leaves entries to return.
-pub put_on_err : {T E : Type 0} (h : Holding) (i : ℕ) (c : ChangeRecord) → slice_get (held_changes h) i ≡ Some c → leaves_value c ≡ true → (r : Result T E) → OnErr r (entries_of (held_items h) ≢ [])
+pub put_on_err : {T E : Type 0} (h : Holding) (i : ℕ) (c : ChangeRecord) → slice_get (held_changes h) i ≡ Some c → leaves_value c ≡ true →
+    (r : Result T E) → OnErr r (entries_of (held_items h) ≢ [])
 put_on_err h i c at put (Ok x) = tt
 put_on_err h i c at put (Err e) = λ none. some_put (held_changes h) i c at put (sym (held_puts h) ∙ none)

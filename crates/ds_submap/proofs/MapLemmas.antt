@@ -1,6 +1,7 @@
 -- The result of a take: the top of what was held and of the items under the query, in a map that keeps its floors.
 use Rattle.std.proofs.Common.{◌≡◌, ◌++◌, List, [], ◌∷◌, All, Contains, IsTrue, take, Result, Ok, Err, refl, sym, ap, ◌∙◌, inl, inr}
-use Rattle.std.proofs.lemmas.List.Elements.{All-contains, All-contains_itself, All-weaker, Contains-append_cases, Contains-append_left, Contains-append_right}
+use Rattle.std.proofs.lemmas.List.Elements.{All-contains, All-contains_itself, All-weaker, Contains-append_cases, Contains-append_left}
+use Rattle.std.proofs.lemmas.List.Elements.{Contains-append_right}
 use Rattle.std.proofs.lemmas.Option.{none-some}
 use Rattle.std.specs.FinMap.{get-empty}
 use Rattle.std.specs.Result.{IfErr, IfOk}
@@ -57,7 +58,8 @@ pub empty_is_map : (q : Query) → IsMap (empty_map q)
 empty_is_map q = record {
   limits = refl;
   sound = sound;
-  under = All-weaker (Contains (held_items (nothing_held larger))) (λ i. IsTrue (passes (is_under q) i)) (λ i k. none i (is_held (nothing_held larger) sound i k)) (held_items (nothing_held larger))
+  under = All-weaker (Contains (held_items (nothing_held larger))) (λ i. IsTrue (passes (is_under q) i))
+      (λ i k. none i (is_held (nothing_held larger) sound i k)) (held_items (nothing_held larger))
       (All-contains_itself (held_items (nothing_held larger)));
 }
   where
@@ -70,7 +72,8 @@ empty_is_map q = record {
 
 -- A held floor voids no put.
 pub entries_swept : (h : Holding) → IsSound h → AreSwept (held_items h) (entries_of (held_items h))
-entries_swept h sound f k c m = void_isnt_held (held_items h) (held_items h) f c top k (Contains-from_filter is_put (held_items h) (Changed c) m).0
+entries_swept h sound f k c m = void_isnt_held (held_items h) (held_items h) f c top k
+    (Contains-from_filter is_put (held_items h) (Changed c) m).0
   where
     top : IsTop (held_items h) (held_items h)
     top = held_is_top h sound (held_items h) (λ i k. k) (λ i k. (i, k, covers-refl i))
@@ -81,18 +84,21 @@ module _ (q : Query) (old : Holding) (items : List Item) (new : Holding) where
     pub joined : IsTop (held_items new) (held_items old ++ under (is_under q) (done_items result items))
     pub limits : new.limits ≡ old.limits
 
-  took : IsSound old → (result : Result Count Stop) → IfOk result (AreCounted q old items new) → IfErr result (IsTakeStopped q old items new) → TookAll result
+  took : IsSound old → (result : Result Count Stop) → IfOk result (AreCounted q old items new) →
+      IfErr result (IsTakeStopped q old items new) → TookAll result
   took sound (Ok n) t s = record {
     joined = all_join old (under (is_under q) items) new sound (merged_so old (under (is_under q) items) t.all.answers new t.all.answered);
     limits = limits_stay old (under (is_under q) items) t.all.answers new t.all.answered;
   }
   took sound (Err stop) t s = record {
-    joined = all_join old (under (is_under q) (take stop.done items)) new sound (merged_so old (under (is_under q) (take stop.done items)) s.front.answers new s.front.answered);
+    joined = all_join old (under (is_under q) (take stop.done items)) new sound
+        (merged_so old (under (is_under q) (take stop.done items)) s.front.answers new s.front.answered);
     limits = limits_stay old (under (is_under q) (take stop.done items)) s.front.answers new s.front.answered;
   }
 
   -- Floors are kept, whether they were held or arrived.
-  floors_stand : (came : List Item) → IsTop (held_items new) (held_items old ++ under (is_under q) came) → EachFloorStands (held_items old ++ came) (held_items new)
+  floors_stand : (came : List Item) → IsTop (held_items new) (held_items old ++ under (is_under q) came) →
+      EachFloorStands (held_items old ++ came) (held_items new)
   floors_stand came top f k =
       record {
         kept = greatest_floor (held_items old ++ under (is_under q) came) (held_items new) f top among;
@@ -102,12 +108,15 @@ module _ (q : Query) (old : Holding) (items : List Item) (new : Holding) where
       among : Contains (held_items old ++ under (is_under q) came) (Floored f)
       among = elim (Contains-append_cases (held_items old) came (Floored f) k) [
         | inl h ↦ Contains-append_left (held_items old) (under (is_under q) came) (Floored f) h
-        | inr h ↦ Contains-append_right (held_items old) (under (is_under q) came) (Floored f) (Contains-filter (passes (is_under q)) came (Floored f) h refl)
+        | inr h ↦ Contains-append_right (held_items old) (under (is_under q) came) (Floored f)
+            (Contains-filter (passes (is_under q)) came (Floored f) h refl)
       ]
 
   -- what is held after a take is under the query
-  still_under : (came : List Item) → All (λ i. IsTrue (passes (is_under q) i)) (held_items old) → IsTop (held_items new) (held_items old ++ under (is_under q) came) → All (λ i. IsTrue (passes (is_under q) i)) (held_items new)
-  still_under came before top = All-weaker (Contains (held_items new)) (λ i. IsTrue (passes (is_under q) i)) each (held_items new) (All-contains_itself (held_items new))
+  still_under : (came : List Item) → All (λ i. IsTrue (passes (is_under q) i)) (held_items old) →
+      IsTop (held_items new) (held_items old ++ under (is_under q) came) → All (λ i. IsTrue (passes (is_under q) i)) (held_items new)
+  still_under came before top = All-weaker (Contains (held_items new)) (λ i. IsTrue (passes (is_under q) i)) each (held_items new)
+      (All-contains_itself (held_items new))
     where
       each : (i : Item) → Contains (held_items new) i → IsTrue (passes (is_under q) i)
       each i k = elim (Contains-append_cases (held_items old) (under (is_under q) came) i (top.among i k)) [
@@ -121,11 +130,13 @@ module _ (q : Query) (old : Holding) (items : List Item) (new : Holding) where
     pub floors : EachFloorStands (held_items old ++ done_items result items) (held_items new)
     pub map : IsMap (map_of q new)
 
-  pub take_leaves : (result : Result Count Stop) → IsMap (map_of q old) → IsSound new → IfOk result (AreCounted q old items new) → IfErr result (IsTakeStopped q old items new) → Took result
+  pub take_leaves : (result : Result Count Stop) → IsMap (map_of q old) → IsSound new → IfOk result (AreCounted q old items new) →
+      IfErr result (IsTakeStopped q old items new) → Took result
   take_leaves result map sound t s =
       let all = took map.sound result t s in
       record {
         joined = all.joined;
         floors = floors_stand (done_items result items) all.joined;
-        map = record { limits = all.limits ∙ map.limits; sound = sound; under = still_under (done_items result items) map.under all.joined };
+        map =
+            record { limits = all.limits ∙ map.limits; sound = sound; under = still_under (done_items result items) map.under all.joined };
       }

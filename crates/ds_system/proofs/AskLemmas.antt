@@ -24,10 +24,12 @@ use Rattle.ds_system.specs.Stands.{SystemRecord, SystemEventLeads}
 
 -- ---- parts in their ranges
 pub proper_one : (event : worlds.Event) (outcome : outcomes.Outcome) → IsProperEvent event → AreProper ((event, outcome) ∷ [])
-proper_one event outcome h e k = subst (λ (z : worlds.Event × outcomes.Outcome). IsProperEvent z.0) (sym (Contains-single (event, outcome) e k)) h
+proper_one event outcome h e k = subst (λ (z : worlds.Event × outcomes.Outcome). IsProperEvent z.0)
+    (sym (Contains-single (event, outcome) e k)) h
 
 -- what the world says of an event includes its proper parts
-pub told_proper : (event : worlds.Event) (outcome : outcomes.Outcome) (old new : WorldRecord) → IsTold event outcome old new → IsProperEvent event
+pub told_proper : (event : worlds.Event) (outcome : outcomes.Outcome) (old new : WorldRecord) → IsTold event outcome old new →
+    IsProperEvent event
 told_proper (Ask side command) outcome old new told = told.0
 told_proper (NewMap query) outcome old new told = tt
 told_proper (Deliver k holder count) outcome old new told = tt
@@ -42,14 +44,44 @@ past (x ∷ xs) (suc k) e = let l : length xs ≤ k = past xs k e in omega arith
 
 module _ (value : SystemRecord) where
   -- ---- a repeated change
-  pub no_change : (k : ℕ) (side : Side) → slice_get value.made k ≡ None → SystemEventLeads (events.Again k side) (Refused refusals.NoMessage) value value
-  no_change k side e s st = (s, no_steps, record { refused = subst (λ (l : List ChangeRecord). length l ≤ k) (sym st.made) (past value.made k e); steps_are = refl; system_is = refl }, st, refl)
+  pub no_change : (k : ℕ) (side : Side) → slice_get value.made k ≡ None →
+      SystemEventLeads (events.Again k side) (Refused refusals.NoMessage) value value
+  no_change k side e s st = (
+    s,
+    no_steps,
+    record {
+      refused = subst (λ (l : List ChangeRecord). length l ≤ k) (sym st.made) (past value.made k e);
+      steps_are =
+          refl;
+      system_is = refl;
+    },
+    st,
+    refl,
+  )
 
-  pub no_room_again : (k : ℕ) (side : Side) (c : ChangeRecord) → slice_get value.made k ≡ Some c → ¬ IsBodyInPlace c.body → SystemEventLeads (events.Again k side) (Refused refusals.NoRoom) value value
-  no_room_again k side c e takes s st = (s, no_steps, record { refused = record { change = c; there = ap (λ (l : List ChangeRecord). slice_get l k) st.made ∙ e; takes = takes }; steps_are = refl; system_is = refl }, st, refl)
+  pub no_room_again : (k : ℕ) (side : Side) (c : ChangeRecord) → slice_get value.made k ≡ Some c → ¬ IsBodyInPlace c.body →
+      SystemEventLeads (events.Again k side) (Refused refusals.NoRoom) value value
+  no_room_again k side c e takes s st = (
+    s,
+    no_steps,
+    record {
+      refused = record {
+        change = c;
+        there = ap (λ (l : List ChangeRecord). slice_get l k) st.made ∙ e;
+        takes =
+            takes;
+      };
+      steps_are = refl;
+      system_is = refl;
+    },
+    st,
+    refl,
+  )
 
-  pub repeated : (k : ℕ) (side : Side) (c : ChangeRecord) (reply : Reply) (next : WorldRecord) → slice_get value.made k ≡ Some c → IsChange c → EventLeads (Ask side (Merge (Changed c ∷ []))) (results.Replied reply) value.world next
-      → IsTold (Ask side (Merge (Changed c ∷ []))) (results.Replied reply) value.world next → SystemEventLeads (events.Again k side) (Replied reply) value (record value { world = next })
+  pub repeated : (k : ℕ) (side : Side) (c : ChangeRecord) (reply : Reply) (next : WorldRecord) → slice_get value.made k ≡ Some c →
+      IsChange c → EventLeads (Ask side (Merge (Changed c ∷ []))) (results.Replied reply) value.world next
+      → IsTold (Ask side (Merge (Changed c ∷ []))) (results.Replied reply) value.world next →
+      SystemEventLeads (events.Again k side) (Replied reply) value (record value { world = next })
   repeated k side c reply next e change leads told s st =
       let led = leads s.world st.world in (
         record s { world = led.0 },
@@ -57,7 +89,13 @@ module _ (value : SystemRecord) where
         record {
           change = c;
           there = ap (λ (l : List ChangeRecord). slice_get l k) st.made ∙ e;
-          asked = record { steps_are = refl; proper = proper_one (Ask side (Merge (Changed c ∷ []))) (results.Replied reply) (λ i h. subst IsItem (sym (Contains-single (Changed c) i h)) change); happen = (led.0, led.1, refl) };
+          asked =
+              record {
+                steps_are = refl;
+                proper = proper_one (Ask side (Merge (Changed c ∷ []))) (results.Replied reply)
+                    (λ i h. subst IsItem (sym (Contains-single (Changed c) i h)) change);
+                happen = (led.0, led.1, refl);
+              };
           system_is = refl;
         },
         record { rs = st.rs; numberers = st.numberers; world = led.2; file = st.file; net = st.net; made = st.made },
@@ -65,16 +103,27 @@ module _ (value : SystemRecord) where
       )
 
   -- ---- an event of the world
-  pub barred : (event : worlds.Event) → is_barred event ≡ true → SystemEventLeads (events.World event) (Refused refusals.NotAllowed) value value
+  pub barred : (event : worlds.Event) → is_barred event ≡ true →
+      SystemEventLeads (events.World event) (Refused refusals.NotAllowed) value value
   barred event e s st = (s, no_steps, record { refused = e; steps_are = refl; system_is = refl }, st, refl)
 
-  pub passed : (event : worlds.Event) (outcome : outcomes.Outcome) (next : WorldRecord) → is_barred event ≡ false → EventLeads event outcome value.world next → IsTold event outcome value.world next
+  pub passed : (event : worlds.Event) (outcome : outcomes.Outcome) (next : WorldRecord) → is_barred event ≡ false →
+      EventLeads event outcome value.world next → IsTold event outcome value.world next
       → SystemEventLeads (events.World event) (Happened outcome) value (record value { world = next })
   passed event outcome next e leads told s st =
       let led = leads s.world st.world in (
         record s { world = led.0 },
         events_alone ((event, outcome) ∷ []),
-        record { allowed = e; asked = record { steps_are = refl; proper = proper_one event outcome (told_proper event outcome value.world next told); happen = (led.0, led.1, refl) }; system_is = refl },
+        record {
+          allowed = e;
+          asked = record {
+            steps_are = refl;
+            proper =
+                proper_one event outcome (told_proper event outcome value.world next told);
+            happen = (led.0, led.1, refl);
+          };
+          system_is = refl;
+        },
         record { rs = st.rs; numberers = st.numberers; world = led.2; file = st.file; net = st.net; made = st.made },
         (next, leads, told, refl),
       )

@@ -60,7 +60,8 @@ pub record IsKept (rs : RsRecord) (numberers : List NumbererRecord) (made : List
   pub some : 1 ≤ rs.next
   pub each : (c : ChangeRecord) → Contains made c → IsMade rs.settings rs.next numberers c
   -- no two labels were put in one generation
-  pub puts : (l m : List ℕ) (e f : EndpointRecord) → Contains made (label_put l e) → Contains made (label_put m f) → e.generation ≡ f.generation → label_put l e ≡ label_put m f
+  pub puts : (l m : List ℕ) (e f : EndpointRecord) → Contains made (label_put l e) → Contains made (label_put m f) →
+      e.generation ≡ f.generation → label_put l e ≡ label_put m f
   pub drawn : NumbersAreDrawnOnce made
   -- the label of every running instance was put
   pub runs : (i : ℕ) (r : Running) → state_at rs i ≡ Up r → Contains made (label_put (label_of_service rs.settings i) r.endpoint)

@@ -1,5 +1,6 @@
 -- The laws over every list of events of a new system.
-use Rattle.std.proofs.Common.{◌≡◌, ℕ, zero, suc, ◌≤◌, List, [], ◌∷◌, ◌++◌, length, get_or, replicate, refl, ap, sym, subst, inl, inr, arith, Contains}
+use Rattle.std.proofs.Common.{◌≡◌, ℕ, zero, suc, ◌≤◌, List, [], ◌∷◌, ◌++◌, length, get_or, replicate, refl, ap, sym, subst, inl, inr, arith}
+use Rattle.std.proofs.Common.{Contains}
 use Rattle.std.specs.List.{filter_map}
 use Rattle.std.proofs.lemmas.List.{length-replicate}
 use Rattle.std.proofs.lemmas.List.Elements.{Contains-append_cases}
@@ -60,7 +61,8 @@ run_leads s (e ∷ es) t run =
 
 -- ---- a new system
 new_kept : (settings : SettingsRecord) (next : ℕ) → IsSettings settings → 1 ≤ next
-    → IsKept (rs_of settings (replicate (length settings.services) Down) 0 next (new_slots 16)) (replicate (length settings.services) (numberer 0 0)) []
+    → IsKept (rs_of settings (replicate (length settings.services) Down) 0 next (new_slots 16))
+    (replicate (length settings.services) (numberer 0 0)) []
 new_kept settings next checked some = record {
   settings = checked;
   count = length-replicate (length settings.services) (numberer 0 0);
@@ -70,7 +72,8 @@ new_kept settings next checked some = record {
   drawn = tt;
   runs = λ i r up. none_up (length settings.services) i r up;
   ahead = λ i r up. none_up (length settings.services) i r up;
-  low = λ i. (let e : (get_or (replicate (length settings.services) (numberer 0 0)) i (numberer 0 0)).generation ≡ 0 = ap (λ (z : NumbererRecord). z.generation) (no_numbers (length settings.services) i) in omega arith);
+  low = λ i. (let e : (get_or (replicate (length settings.services) (numberer 0 0)) i (numberer 0 0)).generation ≡ 0 =
+      ap (λ (z : NumbererRecord). z.generation) (no_numbers (length settings.services) i) in omega arith);
 }
   where
     none_up : {A : Type 0} (n i : ℕ) (r : Running) → get_or (replicate n Down) i Down ≡ Up r → A
@@ -83,11 +86,14 @@ new_kept settings next checked some = record {
     no_numbers (suc n) zero = refl
     no_numbers (suc n) (suc i) = no_numbers n i
 
-pub new_sound : (settings : SettingsRecord) (a b : Seed) (next : ℕ) (s : System) → IsNew settings a b next s → IsSound (extended_all (new_account a b larger) two_maps) s
+pub new_sound : (settings : SettingsRecord) (a b : Seed) (next : ℕ) (s : System) → IsNew settings a b next s →
+    IsSound (extended_all (new_account a b larger) two_maps) s
 new_sound settings a b next s new = record {
-  fits = events_fit (new_account a b larger) (new_world a b larger) s.world two_maps (account_fits_at_start a b larger (inr refl)) new.world;
+  fits = events_fit (new_account a b larger) (new_world a b larger) s.world two_maps (account_fits_at_start a b larger (inr refl))
+      new.world;
   kept = subst (λ (z : RsRecord). IsKept z s.numberers s.made) (sym new.rs)
-      (subst (λ (z : List NumbererRecord). IsKept new_rs z s.made) (sym new.numberers) (subst (IsKept new_rs no_numbers) (sym new.made) (new_kept settings next new.checked new.some)));
+      (subst (λ (z : List NumbererRecord). IsKept new_rs z s.made) (sym new.numberers)
+      (subst (IsKept new_rs no_numbers) (sym new.made) (new_kept settings next new.checked new.some)));
   made = λ c h. absurd (Contains-nil (Changed c) h);
 }
   where
@@ -97,7 +103,8 @@ new_sound settings a b next s new = record {
     no_numbers : List NumbererRecord
     no_numbers = replicate (length settings.services) (numberer 0 0)
 
-pub new_called : (settings : SettingsRecord) (a b : Seed) (next : ℕ) (s : System) → IsNew settings a b next s → (table : Table) → IsCalled (table_at s table)
+pub new_called : (settings : SettingsRecord) (a b : Seed) (next : ℕ) (s : System) → IsNew settings a b next s → (table : Table) →
+    IsCalled (table_at s table)
 new_called settings a b next s new File = subst IsCalled (sym new.file) (assigned_called (filter_map file_unit settings.services))
 new_called settings a b next s new Net = subst IsCalled (sym new.net) (assigned_called (filter_map net_unit settings.services))
 
@@ -105,18 +112,27 @@ new_called settings a b next s new Net = subst IsCalled (sym new.net) (assigned_
 brought_single : (account : Account) (s : System) → IsSound account s → AreSingleNumbered account.brought
 brought_single account s k =
     let single = made_single s.rs s.numberers s.made k.kept in
-    record { one_change = λ c d i j. single.one_change c d (k.made c i) (k.made d j); one_owner = λ c d i j. single.one_owner c d (k.made c i) (k.made d j) }
+    record {
+      one_change = λ c d i j. single.one_change c d (k.made c i) (k.made d j);
+      one_owner = λ c d i j.
+          single.one_owner c d (k.made c i) (k.made d j);
+    }
 
 -- no delivery is stopped by a contradiction
-none_contradicted : (account : Account) (w n : World) (events : WorldEvents) → Fits account w → HappenAll w events n → AreSingleNumbered (extended_all account events).brought → NoneIsContradicted events
+none_contradicted : (account : Account) (w n : World) (events : WorldEvents) → Fits account w → HappenAll w events n →
+    AreSingleNumbered (extended_all account events).brought → NoneIsContradicted events
 none_contradicted account w n events f h single front back k holder count done fault owed is =
-    let all : HappenAll w (front ++ (Deliver k holder count, Stopped done fault owed) ∷ back) n = subst (λ (z : WorldEvents). HappenAll w z n) (sym is) h in
+    let all : HappenAll w (front ++ (Deliver k holder count, Stopped done fault owed) ∷ back) n =
+    subst (λ (z : WorldEvents). HappenAll w z n) (sym is) h in
     let cut = happen_split front ((Deliver k holder count, Stopped done fault owed) ∷ back) w n all in
     nothing_stops (extended_all account front) cut.0 cut.2.0 k holder count done fault owed (events_fit account w cut.0 front f cut.1)
-    (single_part (extended_all account front).brought (extended_all account events).brought (later front ((Deliver k holder count, Stopped done fault owed) ∷ back) is) single) cut.2.1
+    (single_part (extended_all account front).brought (extended_all account events).brought
+    (later front ((Deliver k holder count, Stopped done fault owed) ∷ back) is) single) cut.2.1
   where
-    later : (xs ys : WorldEvents) → xs ++ ys ≡ events → (i : Item) → Contains (extended_all account xs).brought i → Contains (extended_all account events).brought i
-    later xs ys e i c = subst (λ (z : WorldEvents). Contains (extended_all account z).brought i) e (subst (λ (z : Account). Contains z.brought i) (sym (extended_twice account xs ys)) (all_brought (extended_all account xs) ys i c))
+    later : (xs ys : WorldEvents) → xs ++ ys ≡ events → (i : Item) → Contains (extended_all account xs).brought i →
+        Contains (extended_all account events).brought i
+    later xs ys e i c = subst (λ (z : WorldEvents). Contains (extended_all account z).brought i) e
+        (subst (λ (z : Account). Contains z.brought i) (sym (extended_twice account xs ys)) (all_brought (extended_all account xs) ys i c))
 
 pub systems_keep_laws : SystemsKeepLaws
 systems_keep_laws settings a b next s t entries new run = record {
@@ -131,8 +147,10 @@ systems_keep_laws settings a b next s t entries new run = record {
   clashes = λ c d i j key. nothing_clashes (account_since a b entries) t.world c d now.fits single i j key;
   stops = none_contradicted start s.world t.world (all_events entries) first.fits led.happen single;
   catch_up = λ j m side has none. holds_the_stores (account_since a b entries) t.world j m side now.fits exact has none;
-  newest = labels_are_newest (account_since a b entries) t.world now.fits (events_bring_items start s.world t.world (all_events entries) first.fits led.happen led.proper (λ i h. absurd (Contains-nil i h)));
-  tables = λ table. calls_twice empty_table (table_at s table) (table_at t table) (new_called settings a b next s new table) (run_tables s entries t run table);
+  newest = labels_are_newest (account_since a b entries) t.world now.fits
+      (events_bring_items start s.world t.world (all_events entries) first.fits led.happen led.proper (λ i h. absurd (Contains-nil i h)));
+  tables = λ table. calls_twice empty_table (table_at s table) (table_at t table) (new_called settings a b next s new table)
+      (run_tables s entries t run table);
 }
   where
     start : Account

@@ -16,6 +16,12 @@ pub mod EventLemmas
 pub mod LawLemmas
 pub mod OlderLemmas
 pub mod ApartLemmas
+pub mod AheadLemmas
+pub mod ToldLemmas
+pub mod TrackLemmas
+pub mod QueryLemmas
+pub mod RecoveryLemmas
+pub mod RecoveryPremiseLemmas
 pub mod StartLemmas
 mod AskLemmas
 mod ServeLemmas

@@ -1,5 +1,6 @@
 -- What a table does with the news of one label.
-use Rattle.std.proofs.Common.{◌≡◌, ◌||◌, ℕ, Bool, true, false, cond, List, [], Option, Some, None, Result, Ok, refl, ap, sym, ◌∙◌, subst, inl, inr, ◌⊎◌, append-nil}
+use Rattle.std.proofs.Common.{◌≡◌, ◌||◌, ℕ, Bool, true, false, cond, List, [], Option, Some, None, Result, Ok, refl, ap, sym, ◌∙◌, subst}
+use Rattle.std.proofs.Common.{inl, inr, ◌⊎◌, append-nil}
 use Rattle.std.proofs.lemmas.Bool.{or_left, or_right}
 use Rattle.ds_names.specs.Endpoint.{EndpointRecord}
 use Rattle.ds_names.specs.Key.{label_key}
@@ -52,7 +53,8 @@ pub record Notes (held : List Item) (x : DriverTable) (l : List ℕ) : Type 0 wh
   pub there : held_at held (label_key l) ≡ Some change
   pub fresh : is_passed x l change ≡ false
   pub now : Bool
-  pub answer : changing x l (endpoint_in change.body) ≡ (Ok (moves_for now x l (endpoint_in change.body)), table_with now x l (endpoint_in change.body))
+  pub answer : changing x l (endpoint_in change.body) ≡
+      (Ok (moves_for now x l (endpoint_in change.body)), table_with now x l (endpoint_in change.body))
   pub past : table_past held x l ≡ table_with now x l (endpoint_in change.body)
   pub moves : moves_of_rounds (round_at held x l) ≡ moves_for now x l (endpoint_in change.body)
 
@@ -88,15 +90,18 @@ module _ (held : List Item) (x : DriverTable) (l : List ℕ) where
     state = endpoint_in t.change.body
 
     -- the answer to it, by the judgement of the state
-    answer_is : (has old now : Bool) → has_label x.units l ≡ has → is_old_for x.states l state ≡ old → is_now_at x l state ≡ now → changing x l state ≡ changed_so x l state has old now
+    answer_is : (has old now : Bool) → has_label x.units l ≡ has → is_old_for x.states l state ≡ old → is_now_at x l state ≡ now →
+        changing x l state ≡ changed_so x l state has old now
     answer_is has old now a b c =
         ap (λ (z : Bool). changed_so x l state z (is_old_for x.states l state) (is_now_at x l state)) a
         ∙ (ap (λ (z : Bool). changed_so x l state has z (is_now_at x l state)) b ∙ ap (changed_so x l state has old) c)
 
-    taking_is : (out : Result (List Move) TableFault × DriverTable) → changing x l state ≡ out → taking x l (news_of held x l) ≡ as_round x out
+    taking_is : (out : Result (List Move) TableFault × DriverTable) → changing x l state ≡ out →
+        taking x l (news_of held x l) ≡ as_round x out
     taking_is out e = ap (taking x l) t.news ∙ ap (as_round x) e
 
-    skipped : (out : Result (List Move) TableFault × DriverTable) → changing x l state ≡ out → moves_of_rounds (as_round x out).0 ≡ [] → (as_round x out).1 ≡ x
+    skipped : (out : Result (List Move) TableFault × DriverTable) → changing x l state ≡ out → moves_of_rounds (as_round x out).0 ≡ [] →
+        (as_round x out).1 ≡ x
         → (has_label x.units l ≡ true → is_passed x l t.change ≡ true) → Skips held x l
     skipped out e none past why = record {
       past = ap (λ (p : List (List Move) × DriverTable). p.1) (taking_is out e) ∙ past;
@@ -104,7 +109,8 @@ module _ (held : List Item) (x : DriverTable) (l : List ℕ) where
       why = λ c there has. subst (λ (z : ChangeRecord). is_passed x l z ≡ true) (same_some t.change c (sym t.there ∙ there)) (why has);
     }
 
-    noted : (now : Bool) → is_old_for x.states l state ≡ false → changing x l state ≡ (Ok (moves_for now x l state), table_with now x l state) → Notes held x l
+    noted : (now : Bool) → is_old_for x.states l state ≡ false →
+        changing x l state ≡ (Ok (moves_for now x l state), table_with now x l state) → Notes held x l
     noted now b e = record {
       change = t.change;
       there = t.there;
@@ -112,14 +118,17 @@ module _ (held : List Item) (x : DriverTable) (l : List ℕ) where
       now = now;
       answer = e;
       past = ap (λ (p : List (List Move) × DriverTable). p.1) (taking_is (Ok (moves_for now x l state), table_with now x l state) e);
-      moves = ap (λ (p : List (List Move) × DriverTable). moves_of_rounds p.0) (taking_is (Ok (moves_for now x l state), table_with now x l state) e) ∙ append-nil (moves_for now x l state);
+      moves = ap (λ (p : List (List Move) × DriverTable). moves_of_rounds p.0)
+          (taking_is (Ok (moves_for now x l state), table_with now x l state) e) ∙ append-nil (moves_for now x l state);
     }
 
     by_tests : (has : Bool) → has_label x.units l ≡ has → (old : Bool) → is_old_for x.states l state ≡ old → Skips held x l ⊎ Notes held x l
     by_tests false a old b =
-        inl (skipped (changed_so x l state false old (is_now_at x l state)) (answer_is false old (is_now_at x l state) a b refl) refl refl (λ has. opposed (has_label x.units l) has a))
+        inl (skipped (changed_so x l state false old (is_now_at x l state)) (answer_is false old (is_now_at x l state) a b refl) refl refl
+        (λ has. opposed (has_label x.units l) has a))
     by_tests true a true b =
-        inl (skipped (changed_so x l state true true (is_now_at x l state)) (answer_is true true (is_now_at x l state) a b refl) refl refl (λ has. or_right (is_late x l t.change) (is_old_for x.states l state) b))
+        inl (skipped (changed_so x l state true true (is_now_at x l state)) (answer_is true true (is_now_at x l state) a b refl) refl refl
+        (λ has. or_right (is_late x l t.change) (is_old_for x.states l state) b))
     by_tests true a false b = inr (noted (is_now_at x l state) b (answer_is true false (is_now_at x l state) a b refl))
 
   of_told : IsTold held x l → Skips held x l ⊎ Notes held x l

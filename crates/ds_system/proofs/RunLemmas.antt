@@ -18,6 +18,7 @@ use Rattle.ds_system.specs.Happening.{SystemDoes, SystemEntry, SystemRun, all_ev
 use Rattle.ds_system.proofs.LawLemmas.{systems_keep_laws}
 use Rattle.ds_system.proofs.OlderLemmas.{no_send_to_older}
 use Rattle.ds_system.proofs.ApartLemmas.{labels_are_apart}
+use Rattle.ds_system.proofs.RecoveryLemmas.{instances_serve}
 use Rattle.ds_system.specs.Stands.{SystemRecord, SystemEventLeads}
 use Rattle.ds_system.specs.Since.{SystemRunLeads, WorldRan, SystemPast, account_begun, IsRightAmong, HoldsOfPast, SystemLawsHold}
 
@@ -28,7 +29,8 @@ Entered s e t = SystemDoes s e.event e.outcome e.steps t
 pub run_none : (value : SystemRecord) → SystemRunLeads [] [] value value
 run_none value s st = (s, [], record { events_are = refl; outcomes_are = refl }, refl, st, refl)
 
-mapped : {X : Type 0} (f : SystemEntry → X) (entries : List SystemEntry) (xs : List X) (e : SystemEntry) → map f entries ≡ xs → map f (entries ++ e ∷ []) ≡ xs ++ f e ∷ []
+mapped : {X : Type 0} (f : SystemEntry → X) (entries : List SystemEntry) (xs : List X) (e : SystemEntry) → map f entries ≡ xs →
+    map f (entries ++ e ∷ []) ≡ xs ++ f e ∷ []
 mapped {X} f entries xs e q = over entries ∙ ap (λ (l : List X). l ++ f e ∷ []) q
   where
     over : (l : List SystemEntry) → map f (l ++ e ∷ []) ≡ map f l ++ f e ∷ []
@@ -50,17 +52,24 @@ run_more a b c es os event outcome led one s st =
     let e : SystemEntry = record { event = event; outcome = outcome; steps = next.1 } in (
       next.0,
       first.1 ++ e ∷ [],
-      record { events_are = mapped (λ (e : SystemEntry). e.event) first.1 es e first.2.events_are; outcomes_are = mapped (λ (e : SystemEntry). e.outcome) first.1 os e first.2.outcomes_are },
+      record {
+        events_are = mapped (λ (e : SystemEntry). e.event) first.1 es e first.2.events_are;
+        outcomes_are =
+            mapped (λ (e : SystemEntry). e.outcome) first.1 os e first.2.outcomes_are;
+      },
       path_push Entered s first.0 next.0 first.1 e first.3 next.2,
       next.3,
-      subst (λ (l : WorldEvents). AreTold a.world l c.world) (sym (all_more first.1 e)) (told_on (all_events first.1) next.1.events a.world b.world c.world first.5 next.4),
+      subst (λ (l : WorldEvents). AreTold a.world l c.world) (sym (all_more first.1 e))
+          (told_on (all_events first.1) next.1.events a.world b.world c.world first.5 next.4),
     )
 
 -- ---- since a system was new
 -- each entry, among all that happened
-right_among : (past : SystemPast) (front back : List SystemEntry) (entry : SystemEntry) → past.entries ≡ front ++ entry ∷ back → IsRightAmong past front entry back
+right_among : (past : SystemPast) (front back : List SystemEntry) (entry : SystemEntry) → past.entries ≡ front ++ entry ∷ back →
+    IsRightAmong past front entry back
 right_among past front back entry e =
-    let cut = path_cut Entered past.start past.now front (entry ∷ back) (subst (λ (l : List SystemEntry). SystemRun past.start l past.now) e past.run) in
+    let cut = path_cut Entered past.start past.now front (entry ∷ back)
+    (subst (λ (l : List SystemEntry). SystemRun past.start l past.now) e past.run) in
     record {
       before = cut.0;
       after = cut.2.0;
@@ -68,6 +77,7 @@ right_among past front back entry e =
       does = cut.2.1;
       leads = cut.2.2;
       right = no_send_to_older past.settings past.a past.b past.next past.start cut.0 cut.2.0 front entry past.is_new cut.1 cut.2.1;
+      served = instances_serve past.settings past.a past.b past.next past.start cut.0 cut.2.0 front entry past.is_new cut.1 cut.2.1;
     }
 
 holds_of : (past : SystemPast) → HoldsOfPast past
@@ -88,12 +98,14 @@ module _ (snapped : SnappedSays) (paged : PagedSays) (journaled : JournaledSays)
     turns = turns old new events told;
   }
 
-  pub laws_hold : (old new : SystemRecord) (es : List SystemEvent) (os : List SystemOutcome) → SystemRunLeads es os old new → All IsMap new.world.maps → SystemLawsHold es os old new
+  pub laws_hold : (old new : SystemRecord) (es : List SystemEvent) (os : List SystemOutcome) → SystemRunLeads es os old new →
+      All IsMap new.world.maps → SystemLawsHold es os old new
   laws_hold old new es os led maps past is =
       let went = led past.now is.stands in
       let ran = ran_so old.world new.world (all_events went.1) went.5 maps in
       let world : Laws (account_begun past.a past.b) (all_events (past.entries ++ went.1)) new.world =
-      subst (λ (l : WorldEvents). Laws (account_begun past.a past.b) l new.world) (sym (all_of past.entries went.1)) (ran.laws (account_begun past.a past.b) (all_events past.entries) is.came) in
+      subst (λ (l : WorldEvents). Laws (account_begun past.a past.b) l new.world) (sym (all_of past.entries went.1))
+      (ran.laws (account_begun past.a past.b) (all_events past.entries) is.came) in
       let later : SystemPast = record {
         settings = past.settings;
         a = past.a;

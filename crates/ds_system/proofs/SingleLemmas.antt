@@ -1,5 +1,6 @@
 -- What was made is single-numbered, and a store knows an instance by its service's name only.
-use Rattle.std.proofs.Common.{◌≡◌, ◌==◌, ℕ, ◌<◌, Bool, true, false, not, cond, List, length, Option, Some, None, refl, ap, sym, ◌∙◌, subst, inl, inr, arith, Contains}
+use Rattle.std.proofs.Common.{◌≡◌, ◌==◌, ℕ, ◌<◌, Bool, true, false, not, cond, List, length, Option, Some, None, refl, ap, sym, ◌∙◌, subst}
+use Rattle.std.proofs.Common.{inl, inr, arith, Contains}
 use Rattle.std.specs.List.{find}
 use Rattle.std.specs.Option.{option_map}
 use Rattle.std.proofs.lemmas.Bool.{not-true, and_parts}
@@ -47,7 +48,8 @@ use Rattle.ds_system.proofs.NumberLemmas.{by_order, one_number}
 
 -- ---- services share nothing
 -- two services of one label are the same
-pub one_service : (settings : SettingsRecord) → IsSettings settings → (i j : ℕ) → i < length settings.services → j < length settings.services → label_of_service settings i ≡ label_of_service settings j → i ≡ j
+pub one_service : (settings : SettingsRecord) → IsSettings settings → (i j : ℕ) → i < length settings.services →
+    j < length settings.services → label_of_service settings i ≡ label_of_service settings j → i ≡ j
 one_service settings checked i j l m same = elim (by_order i j) [
   | inl k ↦ absurd (apart i j k m same)
   | inr h ↦ elim h [ inl e ↦ e | inr k ↦ absurd (apart j i k l (sym same)) ]
@@ -55,15 +57,22 @@ one_service settings checked i j l m same = elim (by_order i j) [
   where
     apart : (i j : ℕ) → i < j → j < length settings.services → label_of_service settings i ≡ label_of_service settings j → ⊥
     apart i j k m same =
-        opposed (is_same (label_of_service settings j) (label_of_service settings i)) (subst (λ (x : List ℕ). is_same (label_of_service settings j) x ≡ true) (sym same) (name_itself (label_of_service settings j)))
+        opposed (is_same (label_of_service settings j) (label_of_service settings i))
+        (subst (λ (x : List ℕ). is_same (label_of_service settings j) x ≡ true) (sym same) (name_itself (label_of_service settings j)))
         ((services_apart settings checked).labels i j no_service k m)
 
 -- two services that publish one name are the same
-one_publisher : (settings : SettingsRecord) → IsSettings settings → (i j : ℕ) (name : List ℕ) → i < length settings.services → j < length settings.services
+one_publisher : (settings : SettingsRecord) → IsSettings settings → (i j : ℕ) (name : List ℕ) → i < length settings.services →
+    j < length settings.services
     → has_name (service_in settings i).publishes name ≡ true → has_name (service_in settings j).publishes name ≡ true → i ≡ j
 one_publisher settings checked i j name l m here there = elim (by_order i j) [
-  | inl k ↦ opposed (has_name (service_in settings j).publishes name) there ((services_apart settings checked).publishers i j no_service name k m here)
-  | inr h ↦ elim h [ inl e ↦ e | inr k ↦ opposed (has_name (service_in settings i).publishes name) here ((services_apart settings checked).publishers j i no_service name k l there) ]
+  | inl k ↦ opposed (has_name (service_in settings j).publishes name) there
+      ((services_apart settings checked).publishers i j no_service name k m here)
+  | inr h ↦ elim h [
+    | inl e ↦ e
+    | inr k ↦ opposed (has_name (service_in settings i).publishes name) here
+        ((services_apart settings checked).publishers j i no_service name k l there)
+  ]
 ]
 
 -- ---- the three sorts of changes
@@ -76,14 +85,16 @@ gone_is_label settings c p = ap (λ (z : ChangeRecord). is_label z.key.kind) p.i
 pub declared_no_label : (service : Service) (key : Key) → is_declared service key ≡ true → is_label key.kind ≡ false
 declared_no_label service key e = not-true (is_label key.kind) (left_of (not (is_label key.kind)) (has_name service.publishes key.name) e)
 
-pub entry_no_label : (settings : SettingsRecord) (numberers : List NumbererRecord) (c : ChangeRecord) → IsEntry settings numberers c → is_label c.key.kind ≡ false
+pub entry_no_label : (settings : SettingsRecord) (numberers : List NumbererRecord) (c : ChangeRecord) → IsEntry settings numberers c →
+    is_label c.key.kind ≡ false
 entry_no_label settings numberers c h = declared_no_label (service_in settings h.place) c.key h.declared
 
 pub not_both_numbers : (n : ℕ) → n ≡ 0 → n ≡ 1 → ⊥
 not_both_numbers n e f = omega arith
 
 -- an entry, among the changes that were made
-pub entry_made : (settings : SettingsRecord) (next : ℕ) (numberers : List NumbererRecord) (c : ChangeRecord) → is_label c.key.kind ≡ false → IsMade settings next numberers c → IsEntry settings numberers c
+pub entry_made : (settings : SettingsRecord) (next : ℕ) (numberers : List NumbererRecord) (c : ChangeRecord) →
+    is_label c.key.kind ≡ false → IsMade settings next numberers c → IsEntry settings numberers c
 entry_made settings next numberers c k (inl p) = opposed (is_label c.key.kind) (put_is_label settings next c p) k
 entry_made settings next numberers c k (inr (inl p)) = opposed (is_label c.key.kind) (gone_is_label settings c p) k
 entry_made settings next numberers c k (inr (inr h)) = h
@@ -100,27 +111,34 @@ module _ (rs : RsRecord) (numberers : List NumbererRecord) (made : List ChangeRe
   EntryIn c = IsEntry rs.settings numberers c
 
   epochs : (c d x y : ChangeRecord) → c ≡ x → d ≡ y → c.version ≡ d.version → x.version.epoch ≡ y.version.epoch
-  epochs c d x y p q v = sym (ap (λ (z : ChangeRecord). z.version.epoch) p) ∙ ap (λ (z : Version). z.epoch) v ∙ ap (λ (z : ChangeRecord). z.version.epoch) q
+  epochs c d x y p q v = sym (ap (λ (z : ChangeRecord). z.version.epoch) p) ∙ ap (λ (z : Version). z.epoch) v ∙
+      ap (λ (z : ChangeRecord). z.version.epoch) q
 
   two_puts : (c d : ChangeRecord) → Contains made c → Contains made d → c.version ≡ d.version → PutIn c → PutIn d → c ≡ d
   two_puts c d i j v p q =
-      p.is ∙ k.puts (label_of_service rs.settings p.place) (label_of_service rs.settings q.place) p.endpoint q.endpoint (subst (Contains made) p.is i) (subst (Contains made) q.is j) (epochs c d _ _ p.is q.is v) ∙ sym q.is
+      p.is ∙ k.puts (label_of_service rs.settings p.place) (label_of_service rs.settings q.place) p.endpoint q.endpoint
+      (subst (Contains made) p.is i) (subst (Contains made) q.is j) (epochs c d _ _ p.is q.is v) ∙ sym q.is
 
   two_gone : (c d : ChangeRecord) → c.key ≡ d.key → c.version ≡ d.version → GoneIn c → GoneIn d → c ≡ d
   two_gone c d key v p q =
-      let name : label_of_service rs.settings p.place ≡ label_of_service rs.settings q.place = sym (ap (λ (z : ChangeRecord). z.key.name) p.is) ∙ ap (λ (z : Key). z.name) key ∙ ap (λ (z : ChangeRecord). z.key.name) q.is in
-      p.is ∙ ap (λ (n : List ℕ). label_gone n p.generation) name ∙ ap (label_gone (label_of_service rs.settings q.place)) (epochs c d _ _ p.is q.is v) ∙ sym q.is
+      let name : label_of_service rs.settings p.place ≡ label_of_service rs.settings q.place =
+      sym (ap (λ (z : ChangeRecord). z.key.name) p.is) ∙ ap (λ (z : Key). z.name) key ∙ ap (λ (z : ChangeRecord). z.key.name) q.is in
+      p.is ∙ ap (λ (n : List ℕ). label_gone n p.generation) name ∙
+      ap (label_gone (label_of_service rs.settings q.place)) (epochs c d _ _ p.is q.is v) ∙ sym q.is
 
   put_and_gone : {A : Type 0} (c d : ChangeRecord) → c.version ≡ d.version → PutIn c → GoneIn d → A
-  put_and_gone c d v p q = absurd (not_both_numbers c.version.seq (ap (λ (z : ChangeRecord). z.version.seq) p.is) (ap (λ (z : Version). z.seq) v ∙ ap (λ (z : ChangeRecord). z.version.seq) q.is))
+  put_and_gone c d v p q = absurd (not_both_numbers c.version.seq (ap (λ (z : ChangeRecord). z.version.seq) p.is)
+      (ap (λ (z : Version). z.seq) v ∙ ap (λ (z : ChangeRecord). z.version.seq) q.is))
 
   label_and_entry : {A : Type 0} (c d : ChangeRecord) → c.key ≡ d.key → is_label c.key.kind ≡ true → EntryIn d → A
-  label_and_entry c d key e h = opposed (is_label d.key.kind) (ap (λ (z : Key). is_label z.kind) (sym key) ∙ e) (entry_no_label rs.settings numberers d h)
+  label_and_entry c d key e h = opposed (is_label d.key.kind) (ap (λ (z : Key). is_label z.kind) (sym key) ∙ e)
+      (entry_no_label rs.settings numberers d h)
 
   two_owners : (c d : ChangeRecord) → c.key ≡ d.key → EntryIn c → EntryIn d → c.owner ≡ d.owner
   two_owners c d key h g =
       let place : h.place ≡ g.place = one_publisher rs.settings k.settings h.place g.place d.key.name h.there g.there
-      (subst (λ (z : Key). has_name (service_in rs.settings h.place).publishes z.name ≡ true) key (and_parts (not (is_label c.key.kind)) (has_name (service_in rs.settings h.place).publishes c.key.name) h.declared).1)
+      (subst (λ (z : Key). has_name (service_in rs.settings h.place).publishes z.name ≡ true) key
+      (and_parts (not (is_label c.key.kind)) (has_name (service_in rs.settings h.place).publishes c.key.name) h.declared).1)
       (and_parts (not (is_label d.key.kind)) (has_name (service_in rs.settings g.place).publishes d.key.name) g.declared).1 in
       h.owner ∙ ap (label_of_service rs.settings) place ∙ sym g.owner
 
@@ -136,7 +154,8 @@ module _ (rs : RsRecord) (numberers : List NumbererRecord) (made : List ChangeRe
       by (inr (inl p)) (inr (inr q)) = label_and_entry c d key (gone_is_label rs.settings c p) q
       by (inr (inr p)) (inl q) = label_and_entry d c (sym key) (put_is_label rs.settings rs.next d q) p
       by (inr (inr p)) (inr (inl q)) = label_and_entry d c (sym key) (gone_is_label rs.settings d q) p
-      by (inr (inr p)) (inr (inr q)) = one_number made c d k.drawn i j (entry_no_label rs.settings numberers c p) (entry_no_label rs.settings numberers d q) (two_owners c d key p q) v
+      by (inr (inr p)) (inr (inr q)) = one_number made c d k.drawn i j (entry_no_label rs.settings numberers c p)
+          (entry_no_label rs.settings numberers d q) (two_owners c d key p q) v
 
   label_owner : (c : ChangeRecord) → Contains made c → is_label c.key.kind ≡ true → c.owner ≡ rs_name
   label_owner c i e = by (k.each c i)
@@ -151,7 +170,8 @@ module _ (rs : RsRecord) (numberers : List NumbererRecord) (made : List ChangeRe
     where
       by : (b : Bool) → is_label c.key.kind ≡ b → c.owner ≡ d.owner
       by true e = label_owner c i e ∙ sym (label_owner d j (ap (λ (z : Key). is_label z.kind) (sym key) ∙ e))
-      by false e = two_owners c d key (entry_made rs.settings rs.next numberers c e (k.each c i)) (entry_made rs.settings rs.next numberers d (ap (λ (z : Key). is_label z.kind) (sym key) ∙ e) (k.each d j))
+      by false e = two_owners c d key (entry_made rs.settings rs.next numberers c e (k.each c i))
+          (entry_made rs.settings rs.next numberers d (ap (λ (z : Key). is_label z.kind) (sym key) ∙ e) (k.each d j))
 
   pub made_single : IsSingleNumbered made
   made_single = record { one_change = one_change; one_owner = one_owner }
@@ -179,10 +199,13 @@ module _ (rs : RsRecord) (numberers : List NumbererRecord) (made : List ChangeRe
     pub given : (0 < r.endpoint.generation) × (r.endpoint.generation < rs.next)
     given = by (k.each (label_put (label_of_service rs.settings i) r.endpoint) (k.runs i r up))
       where
-        by : IsMade rs.settings rs.next numberers (label_put (label_of_service rs.settings i) r.endpoint) → (0 < r.endpoint.generation) × (r.endpoint.generation < rs.next)
-        by (inl p) = let same : r.endpoint.generation ≡ p.endpoint.generation = ap (λ (z : ChangeRecord). z.version.epoch) p.is in let a = p.some in let b = p.below in (omega arith, omega arith)
+        by : IsMade rs.settings rs.next numberers (label_put (label_of_service rs.settings i) r.endpoint) →
+            (0 < r.endpoint.generation) × (r.endpoint.generation < rs.next)
+        by (inl p) = let same : r.endpoint.generation ≡ p.endpoint.generation = ap (λ (z : ChangeRecord). z.version.epoch) p.is in let a =
+            p.some in let b = p.below in (omega arith, omega arith)
         by (inr (inl p)) = absurd (not_both_numbers 0 refl (ap (λ (z : ChangeRecord). z.version.seq) p.is))
-        by (inr (inr h)) = opposed true refl (entry_no_label rs.settings numberers (label_put (label_of_service rs.settings i) r.endpoint) h)
+        by (inr (inr h)) = opposed true refl (entry_no_label rs.settings numberers (label_put (label_of_service rs.settings i) r.endpoint)
+            h)
 
     -- a change that was made and names its endpoint is of its service's label
     named_by : (c : ChangeRecord) → Contains made c → names_endpoint r.endpoint c ≡ true → c.key.name ≡ label_of_service rs.settings i
@@ -191,14 +214,19 @@ module _ (rs : RsRecord) (numberers : List NumbererRecord) (made : List ChangeRe
         by : IsMade rs.settings rs.next numberers c → c.key.name ≡ label_of_service rs.settings i
         by (inl p) =
             let test : is_same_endpoint p.endpoint r.endpoint ≡ true = sym (ap (names_endpoint r.endpoint) p.is) ∙ t in
-            let epoch : p.endpoint.generation ≡ r.endpoint.generation = equal_number p.endpoint.generation r.endpoint.generation (left_of (p.endpoint.generation == r.endpoint.generation) (p.endpoint.slot == r.endpoint.slot) test) in
+            let epoch : p.endpoint.generation ≡ r.endpoint.generation =
+            equal_number p.endpoint.generation r.endpoint.generation
+            (left_of (p.endpoint.generation == r.endpoint.generation) (p.endpoint.slot == r.endpoint.slot) test) in
             ap (λ (z : ChangeRecord). z.key.name) p.is
-            ∙ ap (λ (z : ChangeRecord). z.key.name) (k.puts (label_of_service rs.settings p.place) (label_of_service rs.settings i) p.endpoint r.endpoint (subst (Contains made) p.is h) (k.runs i r up) epoch)
+            ∙ ap (λ (z : ChangeRecord). z.key.name)
+            (k.puts (label_of_service rs.settings p.place) (label_of_service rs.settings i) p.endpoint r.endpoint
+            (subst (Contains made) p.is h) (k.runs i r up) epoch)
         by (inr (inl p)) = let n : false ≡ true = sym (ap (names_endpoint r.endpoint) p.is) ∙ t in cc
         by (inr (inr en)) = absurd (names_none r.endpoint c en t)
 
     -- so a store that knows only what was made knows the instance by that label, if at all
-    pub instance_named : (account : Account) (w : World) → Fits account w → AreAllMade made account → (side : Side) (n : List ℕ) → name_of (held (store_of account side).state) r.endpoint ≡ Some n → n ≡ label_of_service rs.settings i
+    pub instance_named : (account : Account) (w : World) → Fits account w → AreAllMade made account → (side : Side) (n : List ℕ) →
+        name_of (held (store_of account side).state) r.endpoint ≡ Some n → n ≡ label_of_service rs.settings i
     instance_named account w f all side n e = by_rs (is_rs r.endpoint) refl e
       where
         items : List Item
@@ -210,17 +238,23 @@ module _ (rs : RsRecord) (numberers : List NumbererRecord) (made : List ChangeRe
         held_made : (c : ChangeRecord) → Contains items (Changed c) → Contains made c
         held_made c h = let own = own_fits account w side f in all c (own.within (Changed c) (own.top.among (Changed c) h))
 
-        by_found : (o : Option ChangeRecord) → find (names_endpoint r.endpoint) (changes_in items) ≡ o → option_map (λ (c : ChangeRecord). c.key.name) o ≡ Some n → n ≡ label_of_service rs.settings i
+        by_found : (o : Option ChangeRecord) → find (names_endpoint r.endpoint) (changes_in items) ≡ o →
+            option_map (λ (c : ChangeRecord). c.key.name) o ≡ Some n → n ≡ label_of_service rs.settings i
         by_found None p h = cc
         by_found (Some c) p h =
             let at = found (names_endpoint r.endpoint) (changes_in items) c p in
             same_name_of c.key.name n h ∙ named_by c (held_made c (changes_in-from items c at.0)) at.1
 
         not_rs : is_rs r.endpoint ≡ true → ⊥
-        not_rs q = let zero_is : r.endpoint.generation ≡ 0 = equal_number r.endpoint.generation 0 (left_of (r.endpoint.generation == 0) (r.endpoint.slot == 2) q) in let some = given.0 in omega arith
+        not_rs q = let zero_is : r.endpoint.generation ≡ 0 =
+            equal_number r.endpoint.generation 0 (left_of (r.endpoint.generation == 0) (r.endpoint.slot == 2) q) in let some = given.0 in
+            omega arith
 
-        by_rs : (b : Bool) → is_rs r.endpoint ≡ b → cond (is_rs r.endpoint) (Some rs_name) (option_map (λ (c : ChangeRecord). c.key.name) (find (names_endpoint r.endpoint) (changes_in items))) ≡ Some n → n ≡ label_of_service rs.settings i
+        by_rs : (b : Bool) → is_rs r.endpoint ≡ b →
+            cond (is_rs r.endpoint) (Some rs_name) (option_map (λ (c : ChangeRecord). c.key.name)
+            (find (names_endpoint r.endpoint) (changes_in items))) ≡ Some n → n ≡ label_of_service rs.settings i
         by_rs true q h = absurd (not_rs q)
         by_rs false q h =
             by_found (find (names_endpoint r.endpoint) (changes_in items)) refl
-            (sym (ap (λ (b : Bool). cond b (Some rs_name) (option_map (λ (c : ChangeRecord). c.key.name) (find (names_endpoint r.endpoint) (changes_in items)))) q) ∙ h)
+            (sym (ap (λ (b : Bool). cond b (Some rs_name)
+            (option_map (λ (c : ChangeRecord). c.key.name) (find (names_endpoint r.endpoint) (changes_in items)))) q) ∙ h)

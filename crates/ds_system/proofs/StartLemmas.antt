@@ -14,8 +14,10 @@ use Rattle.ds_replica.specs.World.{MapState, World, new_world}
 use Rattle.ds_system.specs.Start.{labels_query, file_unit, net_unit, assigned_all, NewSystemsExist}
 
 -- nothing is against a map of labels while maps are few
-no_fault : (w : World) (maps : List MapState) → nat_le most_maps (length maps) ≡ false → event_fault (record w { maps = maps }) (NewMap labels_query) ≡ None
-no_fault w maps few = ap (λ (b : Bool). cond b (Some MapsFull) (pattern_fault labels_query)) few ∙ ap (λ (b : Bool). cond (not b) (Some BadPattern) None) dot_star_accepted
+pub no_fault : (w : World) (maps : List MapState) → nat_le most_maps (length maps) ≡ false →
+    event_fault (record w { maps = maps }) (NewMap labels_query) ≡ None
+no_fault w maps few = ap (λ (b : Bool). cond b (Some MapsFull) (pattern_fault labels_query)) few ∙
+    ap (λ (b : Bool). cond (not b) (Some BadPattern) None) dot_star_accepted
 
 pub new_systems_exist : NewSystemsExist
 new_systems_exist settings a b next checked some =

@@ -1,5 +1,6 @@
 -- Runs of calls on a driver table, from one table to another.
-use Rattle.std.proofs.Common.{◌≡◌, ℕ, ◌≤◌, Bool, true, false, List, [], ◌∷◌, ◌++◌, Option, Some, None, is_some, Result, Ok, refl, ap, sym, ◌∙◌, subst}
+use Rattle.std.proofs.Common.{◌≡◌, ℕ, ◌≤◌, Bool, true, false, List, [], ◌∷◌, ◌++◌, Option, Some, None, is_some, Result, Ok, refl, ap, sym}
+use Rattle.std.proofs.Common.{◌∙◌, subst}
 use Rattle.std.specs.List.{fold, find}
 use Rattle.std.specs.Option.{option_or, option_and_then}
 use Rattle.std.proofs.lemmas.List.Folds.{find-append}
@@ -34,12 +35,17 @@ pub no_calls : (t u : DriverTable) → u ≡ t → LeadsOn t u
 no_calls t u e = ([], sym e)
 
 pub calls_twice : (t x u : DriverTable) → LeadsOn t x → LeadsOn x u → LeadsOn t u
-calls_twice t x u one two = (one.0 ++ two.0, path_join (λ (t : DriverTable) (entry : Entry) (u : DriverTable). TableStep t entry.call entry.answer u) t x u one.0 two.0 one.1 two.1)
+calls_twice t x u one two = (
+  one.0 ++ two.0,
+  path_join (λ (t : DriverTable) (entry : Entry) (u : DriverTable). TableStep t entry.call entry.answer u) t x u one.0
+      two.0 one.1 two.1,
+)
 
 pub one_call : (t u : DriverTable) (call : Call) (answer : Result (List Move) TableFault) → TableStep t call answer u → LeadsOn t u
 one_call t u call answer step = (record { call = call; answer = answer } ∷ [], (u, step, refl))
 
-pub follow_calls : (held : List Item) (labels : List (List ℕ)) (t : DriverTable) (rounds : List (List Move)) (fault : Option TableFault) (u : DriverTable) → Follows held labels t rounds fault u → LeadsOn t u
+pub follow_calls : (held : List Item) (labels : List (List ℕ)) (t : DriverTable) (rounds : List (List Move)) (fault : Option TableFault)
+    (u : DriverTable) → Follows held labels t rounds fault u → LeadsOn t u
 follow_calls held labels t rounds fault u f = let r = follows_are_runs held labels t u rounds fault f in (r.entries, r.run)
 
 -- the newest generation of a label never falls
@@ -50,14 +56,16 @@ pub calls_rise : (t u : DriverTable) (label : List ℕ) → LeadsOn t u → Rise
 calls_rise t u label run g e = newest_rises t u run.0 label g run.1 e
 
 -- ---- a request
-pub submit_step : (t u : DriverTable) (id unit : ℕ) (own : Move) → submitting t id unit ≡ (Ok own, u) → TableStep t (Submit id unit) (Ok (own ∷ [])) u
+pub submit_step : (t u : DriverTable) (id unit : ℕ) (own : Move) → submitting t id unit ≡ (Ok own, u) →
+    TableStep t (Submit id unit) (Ok (own ∷ [])) u
 submit_step t u id unit own e = record {
   answer_is = sym (ap (λ (p : Result Move TableFault × DriverTable). one_move p.0) e);
   after = sym (ap (λ (p : Result Move TableFault × DriverTable). p.1) e);
   unchanged = tt;
 }
 
-pub reply_step : (t u : DriverTable) (endpoint : EndpointRecord) (id : ℕ) (own : Move) → replying t endpoint id ≡ (Ok own, u) → TableStep t (Reply endpoint id) (Ok (own ∷ [])) u
+pub reply_step : (t u : DriverTable) (endpoint : EndpointRecord) (id : ℕ) (own : Move) → replying t endpoint id ≡ (Ok own, u) →
+    TableStep t (Reply endpoint id) (Ok (own ∷ [])) u
 reply_step t u endpoint id own e = record {
   answer_is = sym (ap (λ (p : Result Move TableFault × DriverTable). one_move p.0) e);
   after = sym (ap (λ (p : Result Move TableFault × DriverTable). p.1) e);
@@ -70,12 +78,16 @@ pub record LeavesLabels (t u : DriverTable) : Type 0 where
   pub states : u.states ≡ t.states
   pub labels : (m : Move) (label : List ℕ) → label_of t m ≡ Some label → label_of u m ≡ Some label
 
-more_requests : (units : List (ℕ × Driver)) (requests more : List Request) (id : ℕ) (label : List ℕ) → label_of_request units requests id ≡ Some label → label_of_request units (requests ++ more) id ≡ Some label
+more_requests : (units : List (ℕ × Driver)) (requests more : List Request) (id : ℕ) (label : List ℕ) →
+    label_of_request units requests id ≡ Some label → label_of_request units (requests ++ more) id ≡ Some label
 more_requests units requests more id label e = by (find (is_for id) requests) refl e
   where
-    by : (o : Option Request) → find (is_for id) requests ≡ o → option_and_then (λ (r : Request). label_of_unit units r.unit) o ≡ Some label → label_of_request units (requests ++ more) id ≡ Some label
+    by : (o : Option Request) → find (is_for id) requests ≡ o →
+        option_and_then (λ (r : Request). label_of_unit units r.unit) o ≡ Some label →
+        label_of_request units (requests ++ more) id ≡ Some label
     by None q k = no_some label k
-    by (Some r) q k = ap (option_and_then (λ (z : Request). label_of_unit units z.unit)) (find-append (is_for id) requests more ∙ ap (λ (o : Option Request). option_or o (find (is_for id) more)) q) ∙ k
+    by (Some r) q k = ap (option_and_then (λ (z : Request). label_of_unit units z.unit))
+        (find-append (is_for id) requests more ∙ ap (λ (o : Option Request). option_or o (find (is_for id) more)) q) ∙ k
 
 pub submit_leaves : (t u : DriverTable) (id unit : ℕ) (own : Move) → submitting t id unit ≡ (Ok own, u) → LeavesLabels t u
 submit_leaves t u id unit own e = by (is_above t.requests id) (driver_of t.units unit) e
@@ -83,7 +95,8 @@ submit_leaves t u id unit own e = by (is_above t.requests id) (driver_of t.units
     r : Request
     r = record { id = id; unit = unit }
 
-    labels_after : (d : Driver) (m : Move) (label : List ℕ) → label_of t m ≡ Some label → label_of (does (with_request t r) (move_of t r d ∷ [])) m ≡ Some label
+    labels_after : (d : Driver) (m : Move) (label : List ℕ) → label_of t m ≡ Some label →
+        label_of (does (with_request t r) (move_of t r d ∷ [])) m ≡ Some label
     labels_after d (Start n f) label k = k
     labels_after d (Send n f) label k = more_requests t.units t.requests (r ∷ []) n label k
     labels_after d (Answer n ending) label k = more_requests t.units t.requests (r ∷ []) n label k
@@ -92,7 +105,8 @@ submit_leaves t u id unit own e = by (is_above t.requests id) (driver_of t.units
     by : (above : Bool) (d : Option Driver) → submitted_so t r above d ≡ (Ok own, u) → LeavesLabels t u
     by false d k = let n = ap (λ (p : Result Move TableFault × DriverTable). p.0) k in cc
     by true None k = let n = ap (λ (p : Result Move TableFault × DriverTable). p.0) k in cc
-    by true (Some d) k = subst (LeavesLabels t) (ap (λ (p : Result Move TableFault × DriverTable). p.1) k) (record { units = refl; states = refl; labels = labels_after d })
+    by true (Some d) k = subst (LeavesLabels t) (ap (λ (p : Result Move TableFault × DriverTable). p.1) k)
+        (record { units = refl; states = refl; labels = labels_after d })
 
 -- ---- units that are assigned
 assign_leads : (t : DriverTable) (unit : ℕ) (driver : Driver) → LeadsOn t (assigning t unit driver).1
@@ -115,7 +129,8 @@ assigned_to t units = fold (λ (t : DriverTable) (u : ℕ × Driver). (assigning
 
 assigned_leads : (units : List (ℕ × Driver)) (t : DriverTable) → LeadsOn t (assigned_to t units)
 assigned_leads [] t = no_calls t t refl
-assigned_leads (u ∷ units) t = calls_twice t (assigning t u.0 u.1).1 (assigned_to (assigning t u.0 u.1).1 units) (assign_leads t u.0 u.1) (assigned_leads units (assigning t u.0 u.1).1)
+assigned_leads (u ∷ units) t = calls_twice t (assigning t u.0 u.1).1 (assigned_to (assigning t u.0 u.1).1 units) (assign_leads t u.0 u.1)
+    (assigned_leads units (assigning t u.0 u.1).1)
 
 pub assigned_called : (units : List (ℕ × Driver)) → IsCalled (assigned_all units)
 assigned_called units = assigned_leads units empty_table

@@ -1,5 +1,6 @@
 -- The effects of both servers' tables.
-use Rattle.std.proofs.Common.{◌≡◌, ℕ, List, [], ◌∷◌, ◌++◌, Option, Some, None, Result, Ok, Err, IsOk, OnErr, refl, ap, sym, ◌∙◌, subst, inl, append-nil}
+use Rattle.std.proofs.Common.{◌≡◌, ℕ, List, [], ◌∷◌, ◌++◌, Option, Some, None, Result, Ok, Err, IsOk, OnErr, refl, ap, sym, ◌∙◌, subst, inl}
+use Rattle.std.proofs.Common.{append-nil}
 use Rattle.std.specs.List.{slice_get}
 use Rattle.std.proofs.lemmas.Option.{slice_get-map}
 use Rattle.ds_names.specs.Endpoint.{EndpointRecord}
@@ -54,11 +55,19 @@ pub submit_ended : (held : List Item) (id unit : ℕ) (old new : TableRecord) (b
 submit_ended held id unit old new before rounds fault none h t st =
     let g = h t st in (
       record { before = t; rounds = g.1; stop = Some fault; followed = g.0; own = None; after = g.0 },
-      record { before = refl; follows = g.3; own = refl; submits = (refl, refl, refl); rounds_are = g.2 ∙ ap (λ (l : List (List Move)). l ++ g.1) none },
+      record {
+        before = refl;
+        follows = g.3;
+        own = refl;
+        submits = (refl, refl, refl);
+        rounds_are =
+            g.2 ∙ ap (λ (l : List (List Move)). l ++ g.1) none;
+      },
       g.4,
     )
 
-refused_turn : (mid : DriverTable) (id unit : ℕ) (fault : TableFault) → IsAnswer (submitting mid id unit).0 (Err fault) → Submits mid id unit None None (Some fault) mid
+refused_turn : (mid : DriverTable) (id unit : ℕ) (fault : TableFault) → IsAnswer (submitting mid id unit).0 (Err fault) →
+    Submits mid id unit None None (Some fault) mid
 refused_turn mid id unit stops.NoRoom h = (subst IsOk (sym h.1) refl, refl)
 refused_turn mid id unit stops.Assigned h = (sym h, refl)
 refused_turn mid id unit stops.OldEndpoint h = (sym h, refl)
@@ -67,8 +76,11 @@ refused_turn mid id unit stops.NoDevice h = (sym h, refl)
 refused_turn mid id unit stops.NotPending h = (sym h, refl)
 
 -- after a complete follow the request is answered
-pub submit_answered : (held : List Item) (id unit : ℕ) (old mid new : TableRecord) (before rounds : List (List Move)) (answer : Result Move TableFault) → before ≡ [] → HasFollowed held old mid before rounds None
-    → AnswersAs mid (λ (t : DriverTable). submitting t id unit) answer → LeavesAs mid (λ (t : DriverTable). submitting t id unit) answer new → OnErr answer (new ≡ mid) → HasSubmitted held id unit old new rounds answer
+pub submit_answered : (held : List Item) (id unit : ℕ) (old mid new : TableRecord) (before rounds : List (List Move))
+    (answer : Result Move TableFault) → before ≡ [] → HasFollowed held old mid before rounds None
+    → AnswersAs mid (λ (t : DriverTable). submitting t id unit) answer →
+    LeavesAs mid (λ (t : DriverTable). submitting t id unit) answer new → OnErr answer (new ≡ mid) →
+    HasSubmitted held id unit old new rounds answer
 submit_answered held id unit old mid new before rounds (Ok own) none h answers leaves same t st =
     let g = h t st in
     let u = (submitting g.0 id unit).1 in (
@@ -96,34 +108,43 @@ submit_answered held id unit old mid new before rounds (Err fault) none h answer
     )
 
 -- ---- a reply
-pub reply_answered : (endpoint : EndpointRecord) (id : ℕ) (old new : TableRecord) (answer : Result Move TableFault) → ((t : DriverTable) → TableStands old t → answer ≡ (replying t endpoint id).0)
-    → LeavesAs old (λ (t : DriverTable). replying t endpoint id) answer new → OnErr answer (new ≡ old) → HasReplied endpoint id old new answer
+pub reply_answered : (endpoint : EndpointRecord) (id : ℕ) (old new : TableRecord) (answer : Result Move TableFault) →
+    ((t : DriverTable) → TableStands old t → answer ≡ (replying t endpoint id).0)
+    → LeavesAs old (λ (t : DriverTable). replying t endpoint id) answer new → OnErr answer (new ≡ old) →
+    HasReplied endpoint id old new answer
 reply_answered endpoint id old new (Ok own) answers leaves same t st =
     let u = (replying t endpoint id).1 in
     (u, ap (λ (r : Result Move TableFault). (r, u)) (sym (answers t st)), leaves t st)
-reply_answered endpoint id old new (Err fault) answers leaves same t st = (t, (sym (answers t st), refl), subst (λ (v : TableRecord). TableStands v t) (sym same) st)
+reply_answered endpoint id old new (Err fault) answers leaves same t st =
+    (t, (sym (answers t st), refl), subst (λ (v : TableRecord). TableStands v t) (sym same) st)
 
 -- ---- the system
-table_stands : (value : SystemRecord) (s : System) (table : Table) → SystemStands value s → TableStands (kept_table value table) (table_at s table)
+table_stands : (value : SystemRecord) (s : System) (table : Table) → SystemStands value s →
+    TableStands (kept_table value table) (table_at s table)
 table_stands value s File st = st.file
 table_stands value s Net st = st.net
 
-stands_with : (value : SystemRecord) (s : System) (table : Table) (kept : TableRecord) (t : DriverTable) → SystemStands value s → TableStands kept t → SystemStands (keeping_table value table kept) (system_with_table s table t)
-stands_with value s File kept t st k = record { rs = st.rs; numberers = st.numberers; world = st.world; file = k; net = st.net; made = st.made }
-stands_with value s Net kept t st k = record { rs = st.rs; numberers = st.numberers; world = st.world; file = st.file; net = k; made = st.made }
+stands_with : (value : SystemRecord) (s : System) (table : Table) (kept : TableRecord) (t : DriverTable) → SystemStands value s →
+    TableStands kept t → SystemStands (keeping_table value table kept) (system_with_table s table t)
+stands_with value s File kept t st k = record
+    { rs = st.rs; numberers = st.numberers; world = st.world; file = k; net = st.net; made = st.made }
+stands_with value s Net kept t st k = record
+    { rs = st.rs; numberers = st.numberers; world = st.world; file = st.file; net = k; made = st.made }
 
 -- a turn of a table is no event of the world
 same_world : (value : SystemRecord) (table : Table) (next : TableRecord) → (keeping_table value table next).world ≡ value.world
 same_world value File next = refl
 same_world value Net next = refl
 
-none_told : (value : SystemRecord) (table : Table) (turn : TableTurn) (next : TableRecord) → AreTold value.world (turn_alone table turn).events (keeping_table value table next).world
+none_told : (value : SystemRecord) (table : Table) (turn : TableTurn) (next : TableRecord) →
+    AreTold value.world (turn_alone table turn).events (keeping_table value table next).world
 none_told value File turn next = refl
 none_told value Net turn next = refl
 
 module _ (value : SystemRecord) where
   -- the map of the value's world is the system's
-  own_map : (s : System) → SystemStands value s → (table : Table) (turn : TableTurn) → FollowsItems (held_in value.world (Map (map_number table))) turn → FollowsItems (held_by s.world (Map (map_number table))) turn
+  own_map : (s : System) → SystemStands value s → (table : Table) (turn : TableTurn) →
+      FollowsItems (held_in value.world (Map (map_number table))) turn → FollowsItems (held_by s.world (Map (map_number table))) turn
   own_map s st table turn f = subst (λ (l : List Item). FollowsItems l turn) (held_is value.world s.world (map_number table) st.world) f
 
   pub submit_leads : (table : Table) (id unit : ℕ) (next : TableRecord) (rounds : List (List Move)) (answer : Result Move TableFault)
@@ -146,7 +167,8 @@ module _ (value : SystemRecord) where
         none_told value table g.0 next,
       )
 
-  pub reply_leads : (table : Table) (endpoint : EndpointRecord) (id : ℕ) (next : TableRecord) (answer : Result Move TableFault) → HasReplied endpoint id (kept_table value table) next answer
+  pub reply_leads : (table : Table) (endpoint : EndpointRecord) (id : ℕ) (next : TableRecord) (answer : Result Move TableFault) →
+      HasReplied endpoint id (kept_table value table) next answer
       → SystemEventLeads (events.Answered table endpoint id) (moved_so [] answer) value (keeping_table value table next)
   reply_leads table endpoint id next answer h s st =
       let g = h (table_at s table) (table_stands value s table st) in (
@@ -157,7 +179,8 @@ module _ (value : SystemRecord) where
         same_world value table next,
       )
 
-  pub both_lead : (file_next net_next : TableRecord) (rounds : List (List Move)) (fault : Option TableFault) → ServersFollow value.world value.file file_next value.net net_next rounds fault
+  pub both_lead : (file_next net_next : TableRecord) (rounds : List (List Move)) (fault : Option TableFault) →
+      ServersFollow value.world value.file file_next value.net net_next rounds fault
       → SystemEventLeads events.Follow (Moved rounds None fault) value (record value { file = file_next; net = net_next })
   both_lead file_next net_next rounds fault (first, None, f, n) s st =
       let g = f s.file st.file in
@@ -172,7 +195,15 @@ module _ (value : SystemRecord) where
           plain = record { none = refl; after = refl };
           net = Some two;
           more = h.1;
-          too = (two, refl, record { before = refl; follows = own_map s st Net two h.3 }, record { none = refl; after = refl }, refl, refl, refl);
+          too = (
+            two,
+            refl,
+            record { before = refl; follows = own_map s st Net two h.3 },
+            record { none = refl; after = refl },
+            refl,
+            refl,
+            refl,
+          );
           rounds_are = h.2 ∙ ap (λ (l : List (List Move)). l ++ h.1) g.2;
           none = refl;
           steps_are = refl;
@@ -198,6 +229,14 @@ module _ (value : SystemRecord) where
           steps_are = refl;
           system_is = refl;
         },
-        record { rs = st.rs; numberers = st.numberers; world = st.world; file = g.4; net = subst (λ (v : TableRecord). TableStands v s.net) (sym n.2) st.net; made = st.made },
+        record {
+          rs = st.rs;
+          numberers = st.numberers;
+          world = st.world;
+          file = g.4;
+          net =
+              subst (λ (v : TableRecord). TableStands v s.net) (sym n.2) st.net;
+          made = st.made;
+        },
         refl,
       )

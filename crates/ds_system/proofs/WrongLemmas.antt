@@ -9,16 +9,19 @@ use Rattle.driver_tables.specs.declared.moves.Move.{Move}
 use Rattle.driver_tables.specs.declared.moves.Move.TheVariants.{Send}
 use Rattle.ds_system.specs.Turn.{TableTurn}
 use Rattle.ds_system.specs.Sending.{Sending, GoesToNoOlder}
-use Rattle.ds_system.specs.Wrong.{disk, old, young, lives_at, gone_since, DoesNothing, SendsToOld, SubmitsUnseen, SendsToGone, FollowsAnotherMap, EndsByOldTombstone, GoesBack, WrongTurns}
+use Rattle.ds_system.specs.Wrong.{disk, old, young, lives_at, gone_since, DoesNothing, SendsToOld, SubmitsUnseen, SendsToGone}
+use Rattle.ds_system.specs.Wrong.{FollowsAnotherMap, EndsByOldTombstone, GoesBack, WrongTurns}
 use Rattle.ds_system.proofs.NewsLemmas.{same_some}
 
 differ : old ≡ young → ⊥
 differ e = let k : old.generation ≡ young.generation = ap (λ (z : EndpointRecord). z.generation) e in omega (arith, k)
 
 -- a move about the disk goes to no older generation than its map has
-not_to_old : (turn : TableTurn) (earlier : List Sending) (m : Move) (g : GoesToNoOlder (lives_at young) turn earlier m old) → disk ≡ g.label → ⊥
+not_to_old : (turn : TableTurn) (earlier : List Sending) (m : Move) (g : GoesToNoOlder (lives_at young) turn earlier m old) →
+    disk ≡ g.label → ⊥
 not_to_old turn earlier m g same =
-    let l : 2 ≤ 1 = g.of_map (label_put disk young) (subst (λ (z : List ℕ). held_at (lives_at young) (label_key z) ≡ Some (label_put disk young)) same refl) in
+    let l : 2 ≤ 1 = g.of_map (label_put disk young)
+    (subst (λ (z : List ℕ). held_at (lives_at young) (label_key z) ≡ Some (label_put disk young)) same refl) in
     omega arith
 
 nothing_fails : ¬ DoesNothing
@@ -53,7 +56,8 @@ tombstone_fails f = let t = f.tombstones disk (label_gone disk 1) refl refl in l
 back_fails : ¬ GoesBack
 back_fails f =
     let g = f.sends [] [] (Send 7 old) old refl refl in
-    let l : 2 ≤ 1 = g.of_earlier (record { label = disk; endpoint = young }) (Contains-head (record { label = disk; endpoint = young }) []) (same_some disk g.label g.under) in
+    let l : 2 ≤ 1 = g.of_earlier (record { label = disk; endpoint = young }) (Contains-head (record { label = disk; endpoint = young }) [])
+    (same_some disk g.label g.under) in
     omega arith
 
 pub wrong_turns : WrongTurns

@@ -9,6 +9,8 @@ pub mod Start
 pub mod Numbers
 pub mod Laws
 pub mod Sending
+pub mod Recovery
+pub mod RecoveryPremises
 pub mod Wrong
 pub mod Copying
 pub mod Stands

@@ -20,6 +20,7 @@ use Rattle.ds_system.specs.Happening.{SystemDoes, SystemEntry, SystemRun, all_ev
 use Rattle.ds_system.specs.Start.{IsNew, two_maps, account_since}
 use Rattle.ds_system.specs.Laws.{SystemLaws}
 use Rattle.ds_system.specs.Sending.{sent_over, TurnsAreRight}
+use Rattle.ds_system.specs.Recovery.{ServesInstances}
 use Rattle.ds_system.specs.Stands.{SystemRecord, SystemStands}
 
 -- ---- a list of events
@@ -93,7 +94,8 @@ pub record PastGrowsBy (past : SystemPast) (entries : List SystemEntry) (later :
   pub entries_are : later.entries ≡ past.entries ++ entries
 
 -- The entry is a step from a system that the earlier entries led to, to one from which the later entries lead on; its
--- turns are right, after all that each table sent earlier.
+-- turns are right, after all that each table sent earlier; and the servers that followed their maps to the end are served
+-- by RS's running instances.
 pub record IsRightAmong (past : SystemPast) (front : List SystemEntry) (entry : SystemEntry) (back : List SystemEntry) : Type 0 where
   pub before : System
   pub after : System
@@ -101,9 +103,10 @@ pub record IsRightAmong (past : SystemPast) (front : List SystemEntry) (entry : 
   pub does : SystemDoes before entry.event entry.outcome entry.steps after
   pub leads : SystemRun after back past.now
   pub right : TurnsAreRight before entry (sent_over front) after
+  pub served : ServesInstances (account_since past.a past.b front) before entry after
 
 -- The laws of systems hold of all that happened: those of what is held, no send to an older generation at any turn of
--- either table, and no label has units at both servers.
+-- either table, the driver that each turn leaves, and no label has units at both servers.
 pub record HoldsOfPast (past : SystemPast) : Type 0 where
   pub laws : SystemLaws (account_since past.a past.b past.entries) past.entries past.now
   pub turns : (front back : List SystemEntry) (entry : SystemEntry) →

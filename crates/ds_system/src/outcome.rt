@@ -37,7 +37,7 @@ pub enum SystemOutcome {
 }
 
 impl SystemOutcome {
-    /// Returns a copy. A copy of a refusal, or of empty lists, takes no memory.
+    /// Returns a copy. Only an action, a round, a list of replies, a text, a blob or an item takes memory.
     pub fn copy(&self, alloc: Global) -> Result<SystemOutcome, NoRoom>
         ensures same { IfOk result (λ copy. copy ≡ self.now) }
         ensures room { OnErr result (CopyTakesMemory self.now) }

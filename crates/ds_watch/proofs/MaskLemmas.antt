@@ -1,5 +1,6 @@
 -- Masks and their flags.
-use Rattle.std.proofs.Common.{◌≡◌, ◌≢◌, ℕ, zero, suc, ◌*◌, ◌/◌, ◌%◌, ◌^◌, ◌<◌, ◌≤◌, ◌==◌, Bool, true, false, ◌||◌, max, min, List, [], ◌∷◌, length, get_or, set, replicate, refl, ap, ap₂, sym, ◌∙◌, arith, inl, inr, ◌⊎◌}
+use Rattle.std.proofs.Common.{◌≡◌, ◌≢◌, ℕ, zero, suc, ◌*◌, ◌/◌, ◌%◌, ◌^◌, ◌<◌, ◌≤◌, ◌==◌, Bool, true, false, ◌||◌, max, min, List, [], ◌∷◌}
+use Rattle.std.proofs.Common.{length, get_or, set, replicate, refl, ap, ap₂, sym, ◌∙◌, arith, inl, inr, ◌⊎◌}
 use Rattle.std.proofs.lemmas.Bool.Decides.{nat_tests}
 use Rattle.std.proofs.Math.Nat.{pow-suc}
 use Rattle.std.specs.Int.{bit_at, bit_not}
@@ -8,7 +9,8 @@ use Rattle.std.proofs.Common.{bit_and, not}
 use mir.Val.{bits}
 use Rattle.std.specs.Int.{w128}
 use Rattle.std.proofs.lemmas.List.{get_or-set_same, get_or-set_other, length-set, length-replicate, get_or-replicate}
-use Rattle.std.proofs.lemmas.Nat.Bits.{bit_at_set_same, bit_at_set_other, bit_at_clear_same, bit_at_clear_other, bit_at_and, and_pow, bit_at-suc, bit_at-zero, bit_at-lt, bit_at_or, bit_at_above, same_from_bits}
+use Rattle.std.proofs.lemmas.Nat.Bits.{bit_at_set_same, bit_at_set_other, bit_at_clear_same, bit_at_clear_other, bit_at_and, and_pow}
+use Rattle.std.proofs.lemmas.Nat.Bits.{bit_at-suc, bit_at-zero, bit_at-lt, bit_at_or, bit_at_above, same_from_bits}
 use Rattle.std.proofs.lemmas.Nat.{one_shl}
 use Rattle.std.proofs.Math.Pow.{pow_pos}
 use Rattle.ds_watch.specs.Mask.{has_bit, flags, either}
@@ -51,7 +53,8 @@ flags_or a b =
     let n = flags_long b in
     let r = flags_long (bit_or a b) in
     either_by_place (flags a) (flags b) (flags (bit_or a b)) (m ∙ sym n) (r ∙ sym m)
-    (λ i l. let k : i < 128 = omega arith in flag_at (bit_or a b) i k ∙ has_or a b i ∙ sym (ap₂ (λ x y. x || y) (flag_at a i k) (flag_at b i k)))
+    (λ i l. let k : i < 128 = omega arith in flag_at (bit_or a b) i k ∙ has_or a b i ∙
+    sym (ap₂ (λ x y. x || y) (flag_at a i k) (flag_at b i k)))
 
 pub or_small : (a b : ℕ) → a < 2 ^ 128 → b < 2 ^ 128 → bit_or a b < 2 ^ 128
 or_small a b l m =
@@ -72,7 +75,8 @@ eq_or_not (suc i) zero = inr (λ e. omega (arith, e))
 eq_or_not (suc i) (suc k) = elim (eq_or_not i k) [ inl e ↦ inl (ap suc e) | inr other ↦ inr (λ e. other (omega (arith, e))) ]
 
 -- A number that differs from another in one bit.
-pub flags_set : (m n k : ℕ) (b : Bool) → k < 128 → has_bit m k ≡ b → ((i : ℕ) → i < 128 → i ≢ k → bit_at m i ≡ bit_at n i) → flags m ≡ set (flags n) k b
+pub flags_set : (m n k : ℕ) (b : Bool) → k < 128 → has_bit m k ≡ b → ((i : ℕ) → i < 128 → i ≢ k → bit_at m i ≡ bit_at n i) →
+    flags m ≡ set (flags n) k b
 flags_set m n k b l here rest =
     let longm = flags_long m in
     let longn = flags_long n in
@@ -100,13 +104,15 @@ set_small n k l small =
 -- `bits & !(1 << k)`
 pub bit_cleared : (n k : ℕ) → k < 128 → flags (bit_and n (bit_not w128 (1 * 2 ^ k % 2 ^ bits w128))) ≡ set (flags n) k false
 bit_cleared n k l =
-    flags_set (bit_and n (bit_not w128 (1 * 2 ^ k % 2 ^ bits w128))) n k false l (ap (λ x. x == 1) (bit_at_clear_same w128 n k (omega arith)))
+    flags_set (bit_and n (bit_not w128 (1 * 2 ^ k % 2 ^ bits w128))) n k false l
+    (ap (λ x. x == 1) (bit_at_clear_same w128 n k (omega arith)))
     (λ i j other. bit_at_clear_other w128 n k (omega arith) i (omega arith) other)
 
 pub clear_small : (n k : ℕ) → k < 128 → n < 2 ^ 128 → bit_and n (bit_not w128 (1 * 2 ^ k % 2 ^ bits w128)) < 2 ^ 128
 clear_small n k l small =
     small_from_bits 128 (bit_and n (bit_not w128 (1 * 2 ^ k % 2 ^ bits w128)))
-    (λ i j. bit_at_and n (bit_not w128 (1 * 2 ^ k % 2 ^ bits w128)) i ∙ none (bit_at n i) (bit_at (bit_not w128 (1 * 2 ^ k % 2 ^ bits w128)) i) (bit_at_above n 128 i small j))
+    (λ i j. bit_at_and n (bit_not w128 (1 * 2 ^ k % 2 ^ bits w128)) i ∙
+    none (bit_at n i) (bit_at (bit_not w128 (1 * 2 ^ k % 2 ^ bits w128)) i) (bit_at_above n 128 i small j))
   where
     none : (x y : ℕ) → x ≡ 0 → min x y ≡ 0
     none x y e = omega (arith, e)

@@ -1,5 +1,6 @@
 -- Masks of fewer places.
-use Rattle.std.proofs.Common.{◌≡◌, ℕ, zero, suc, ◌+◌, ◌-◌, ◌*◌, ◌<◌, ◌≤◌, Bool, false, cond, List, [], ◌∷◌, ◌++◌, map, take, length, get_or, replicate, refl, ap, ap₂, sym, ◌∙◌, arith, append-nil, inl, inr, ◌⊎◌}
+use Rattle.std.proofs.Common.{◌≡◌, ℕ, zero, suc, ◌+◌, ◌-◌, ◌*◌, ◌<◌, ◌≤◌, Bool, false, cond, List, [], ◌∷◌, ◌++◌, map, take, length, get_or}
+use Rattle.std.proofs.Common.{replicate, refl, ap, ap₂, sym, ◌∙◌, arith, append-nil, inl, inr, ◌⊎◌}
 use Rattle.std.proofs.lemmas.List.{length-map, length-take-le}
 use Rattle.ds_watch.specs.Mask.{mask, padded, PaddingKeepsNumber}
 
@@ -34,17 +35,21 @@ no_flag_by_place (suc m) [] l none = absurd (omega (arith, l))
 no_flag_by_place (suc m) (f ∷ fs) l none = ap₂ ◌∷◌ (none 0) (no_flag_by_place m fs (omega (arith, l)) (λ k. none (suc k)))
 
 more_by_place : {X : Type 0} (f : X → Bool) (d : X) (n m : ℕ) (xs : List X) (fs : List Bool) → length fs ≡ n + m → n ≤ length xs
-    → ((k : ℕ) → k < n → get_or fs k false ≡ f (get_or xs k d)) → ((k : ℕ) → n ≤ k → get_or fs k false ≡ false) → fs ≡ map f (take n xs) ++ replicate m false
+    → ((k : ℕ) → k < n → get_or fs k false ≡ f (get_or xs k d)) → ((k : ℕ) → n ≤ k → get_or fs k false ≡ false) →
+    fs ≡ map f (take n xs) ++ replicate m false
 more_by_place f d zero m xs fs l within here none = no_flag_by_place m fs (omega (arith, l)) (λ k. none k (omega arith))
 more_by_place f d (suc n) m [] fs l within here none = absurd (omega (arith, within))
 more_by_place f d (suc n) m (x ∷ xs) [] l within here none = absurd (omega (arith, l))
 more_by_place f d (suc n) m (x ∷ xs) (b ∷ fs) l within here none =
     ap₂ ◌∷◌ (here 0 (omega arith))
-    (more_by_place f d n m xs fs (omega (arith, l)) (omega (arith, within)) (λ k j. here (suc k) (omega (arith, j))) (λ k j. none (suc k) (omega (arith, j))))
+    (more_by_place f d n m xs fs (omega (arith, l)) (omega (arith, within)) (λ k j. here (suc k) (omega (arith, j)))
+    (λ k j. none (suc k) (omega (arith, j))))
 
 -- The flags of the first places, padded with false.
-pub padded_by_place : {X : Type 0} (f : X → Bool) (d : X) (n : ℕ) (xs : List X) (fs : List Bool) → length fs ≡ 128 → length xs ≡ 128 → n ≤ 128
-    → ((k : ℕ) → k < n → get_or fs k false ≡ f (get_or xs k d)) → ((k : ℕ) → n ≤ k → get_or fs k false ≡ false) → fs ≡ padded (map f (take n xs))
+pub padded_by_place : {X : Type 0} (f : X → Bool) (d : X) (n : ℕ) (xs : List X) (fs : List Bool) → length fs ≡ 128 → length xs ≡ 128 →
+    n ≤ 128
+    → ((k : ℕ) → k < n → get_or fs k false ≡ f (get_or xs k d)) → ((k : ℕ) → n ≤ k → get_or fs k false ≡ false) →
+    fs ≡ padded (map f (take n xs))
 padded_by_place f d n xs fs l long few here none =
     let within : n ≤ length xs = omega (arith, few, long) in
     let count : length (map f (take n xs)) ≡ n = length-map (take n xs) f ∙ length-take-le n xs within in
@@ -57,7 +62,10 @@ split (suc m) zero = inl (omega arith)
 split (suc m) (suc k) = elim (split m k) [ inl l ↦ inl (omega (arith, l)) | inr l ↦ inr (omega (arith, l)) ]
 
 -- The same when only the first m places were looked at, and the others are empty.
-pub padded_by_used : {X : Type 0} (f : X → Bool) (d : X) (n m : ℕ) (xs : List X) (fs : List Bool) → length fs ≡ 128 → length xs ≡ 128 → n ≤ 128 → m ≤ n
-    → f d ≡ false → ((k : ℕ) → m ≤ k → get_or xs k d ≡ d) → ((k : ℕ) → k < m → get_or fs k false ≡ f (get_or xs k d)) → ((k : ℕ) → m ≤ k → get_or fs k false ≡ false) → fs ≡ padded (map f (take n xs))
+pub padded_by_used : {X : Type 0} (f : X → Bool) (d : X) (n m : ℕ) (xs : List X) (fs : List Bool) → length fs ≡ 128 → length xs ≡ 128 →
+    n ≤ 128 → m ≤ n
+    → f d ≡ false → ((k : ℕ) → m ≤ k → get_or xs k d ≡ d) → ((k : ℕ) → k < m → get_or fs k false ≡ f (get_or xs k d)) →
+    ((k : ℕ) → m ≤ k → get_or fs k false ≡ false) → fs ≡ padded (map f (take n xs))
 padded_by_used f d n m xs fs l long few low off empty here none =
-    padded_by_place f d n xs fs l long few (λ k w. elim (split m k) [ inl u ↦ here k u | inr u ↦ none k u ∙ sym (ap f (empty k u) ∙ off) ]) (λ k w. none k (omega (arith, w, low)))
+    padded_by_place f d n xs fs l long few (λ k w. elim (split m k) [ inl u ↦ here k u | inr u ↦ none k u ∙ sym (ap f (empty k u) ∙ off) ])
+    (λ k w. none k (omega (arith, w, low)))

@@ -64,7 +64,8 @@ module _ (m : SubMapRecord) (is : IsMap m) where
   map_fits : (brought : List Item) → IsPartOf held brought → FitsMap brought (map_account m) (map_state m)
   map_fits brought part = record {
     query_is = refl;
-    map = record { sent = sent; top = top_of_same held held (learnt (is_under m.query) (given held held)) learns_all learns_no_more itself };
+    map =
+        record { sent = sent; top = top_of_same held held (learnt (is_under m.query) (given held held)) learns_all learns_no_more itself };
     within = given_within held held brought part;
   }
 
@@ -104,7 +105,8 @@ store_fits : (s : State) (brought : List Item) → IsReached s → IsPartOf s.fe
 store_fits s brought r part = record { state_is = refl; reached = r; top = held_is_top s r; accepted = λ i h. h; within = part }
 
 -- ---- a world
-module _ (value : WorldRecord) (s t : State) (a : ContentStands value.a s) (b : ContentStands value.b t) (maps : All IsMap value.maps) (messages : All HasItems value.messages) where
+module _ (value : WorldRecord) (s t : State) (a : ContentStands value.a s) (b : ContentStands value.b t) (maps : All IsMap value.maps)
+    (messages : All HasItems value.messages) where
   abbrev sent_items : List (List Item)
   sent_items = (all_items value.messages messages).0
 
@@ -147,7 +149,9 @@ module _ (value : WorldRecord) (s t : State) (a : ContentStands value.a s) (b : 
       record { a = a; b = b; maps = refl; messages = (all_items value.messages messages).1 },
       record {
         a = store_fits s brought a.reached (λ i h. Contains-append_left s.feed.accepted (t.feed.accepted ++ (of_maps ++ of_messages)) i h);
-        b = store_fits t brought b.reached (λ i h. Contains-append_right s.feed.accepted (t.feed.accepted ++ (of_maps ++ of_messages)) i (Contains-append_left t.feed.accepted (of_maps ++ of_messages) i h));
+        b = store_fits t brought b.reached (λ i h.
+            Contains-append_right s.feed.accepted (t.feed.accepted ++ (of_maps ++ of_messages)) i
+            (Contains-append_left t.feed.accepted (of_maps ++ of_messages) i h));
         maps = maps_fit value.maps brought maps in_maps;
         messages = messages_fit sent_items brought in_messages;
       },

@@ -1,13 +1,16 @@
 -- What asking a store does to a world.
-use Rattle.std.proofs.Common.{◌≡◌, ℕ, ◌<◌, ◌≤◌, nat_le, Bool, true, false, cond, ◌&&◌, List, [], ◌∷◌, ◌++◌, length, map, Option, Some, None, is_some, refl, ap, sym, ◌∙◌, inl}
+use Rattle.std.proofs.Common.{◌≡◌, ℕ, ◌<◌, ◌≤◌, nat_le, Bool, true, false, cond, ◌&&◌, List, [], ◌∷◌, ◌++◌, length, map, Option, Some, None}
+use Rattle.std.proofs.Common.{is_some, refl, ap, sym, ◌∙◌, inl}
 use Rattle.std.proofs.lemmas.List.{map-append}
 use Rattle.ds_entry.specs.declared.item.Item.{Item}
 use Rattle.ds_machine.specs.State.{State}
 use Rattle.ds_machine.specs.Says.{IsAskedReply, IsSweepReply, IsRetrieveReply, IsNameReply, IsSubscribeReply, IsMergeReply, IsReplyTo}
 use Rattle.ds_machine.specs.declared.command.Command.{Command}
-use Rattle.ds_machine.specs.declared.command.Command.TheVariants.{Publish, Delete, Sweep, Retrieve, NameOf, Subscribe, Check, Since, Snapshot, Page, Merge}
+use Rattle.ds_machine.specs.declared.command.Command.TheVariants.{Publish, Delete, Sweep, Retrieve, NameOf, Subscribe, Check, Since}
+use Rattle.ds_machine.specs.declared.command.Command.TheVariants.{Snapshot, Page, Merge}
 use Rattle.ds_machine.specs.declared.reply.Reply.{Reply}
-use Rattle.ds_machine.specs.declared.reply.Reply.TheVariants.{Changed, Known, Swept, Found, Named, Subscribed, Merged, MergeStopped, Refused}
+use Rattle.ds_machine.specs.declared.reply.Reply.TheVariants.{Changed, Known, Swept, Found, Named, Subscribed, Merged, MergeStopped}
+use Rattle.ds_machine.specs.declared.reply.Reply.TheVariants.{Refused}
 use Rattle.ds_content.specs.Content.{ContentRecord}
 use Rattle.ds_submap.specs.Map.{SubMapRecord}
 use Rattle.ds_replica.specs.declared.event.Side.{Side}
@@ -97,17 +100,26 @@ same_messages w B s = refl
 abbrev full_fault : Command → ℕ → Option EventFault
 full_fault command many = cond (gives_items command && nat_le most_messages many) (Some MessagesFull) None
 
-module _ (a b newa newb : ContentRecord) (maps : List SubMapRecord) (messages : List Reply) (side : Side) (command : Command) (reply : Reply) (steps : StoreSteps a b newa newb side command reply) where
+module _ (a b newa newb : ContentRecord) (maps : List SubMapRecord) (messages : List Reply) (side : Side) (command : Command)
+    (reply : Reply) (steps : StoreSteps a b newa newb side command reply) where
   abbrev old : WorldRecord
   old = world_of a b maps messages
 
   -- the world afterwards, with the messages that there were
   asked : (w : World) (s : WorldStands old w) → WorldStands (world_of newa newb maps messages) (with_state w side (steps w s.a s.b).0)
   asked w s =
-      let t = steps w s.a s.b in record { a = t.2; b = t.3; maps = same_maps w side t.0 ∙ s.maps; messages = s.messages ∙ ap (λ (l : List (List Item)). map Some l) (sym (same_messages w side t.0)) }
+      let t = steps w s.a s.b in
+      record {
+        a = t.2;
+        b = t.3;
+        maps = same_maps w side t.0 ∙ s.maps;
+        messages =
+            s.messages ∙ ap (λ (l : List (List Item)). map Some l) (sym (same_messages w side t.0));
+      }
 
   -- and with one more
-  kept : (items : List Item) → items_given reply ≡ Some items → (w : World) (s : WorldStands old w) → WorldStands (world_of newa newb maps (messages ++ reply ∷ [])) (with_items (with_state w side (steps w s.a s.b).0) (Some items))
+  kept : (items : List Item) → items_given reply ≡ Some items → (w : World) (s : WorldStands old w) →
+      WorldStands (world_of newa newb maps (messages ++ reply ∷ [])) (with_items (with_state w side (steps w s.a s.b).0) (Some items))
   kept items some w s =
       let t = steps w s.a s.b in
       let all = asked w s in
@@ -116,12 +128,14 @@ module _ (a b newa newb : ContentRecord) (maps : List SubMapRecord) (messages : 
         b = t.3;
         maps = same_maps w side t.0 ∙ s.maps;
         messages =
-            map-append items_given messages (reply ∷ []) ∙ ap (λ (o : Option (List Item)). map items_given messages ++ o ∷ []) some ∙ ap (λ (l : List (Option (List Item))). l ++ Some items ∷ []) all.messages
+            map-append items_given messages (reply ∷ []) ∙ ap (λ (o : Option (List Item)). map items_given messages ++ o ∷ []) some ∙
+            ap (λ (l : List (Option (List Item))). l ++ Some items ∷ []) all.messages
             ∙ sym (map-append Some (with_state w side t.0).messages (items ∷ []));
       }
 
   -- nothing is kept of the reply
-  pub replied : gives_items command && nat_le most_messages (length messages) ≡ false → items_given reply ≡ None → EventLeads (Ask side command) (Replied reply) old (world_of newa newb maps messages)
+  pub replied : gives_items command && nat_le most_messages (length messages) ≡ false → items_given reply ≡ None →
+      EventLeads (Ask side command) (Replied reply) old (world_of newa newb maps messages)
   replied free none w s =
       let t = steps w s.a s.b in (
         with_state w side t.0,
@@ -138,16 +152,20 @@ module _ (a b newa newb : ContentRecord) (maps : List SubMapRecord) (messages : 
         asked w s,
       )
 
-  pub replied_so : gives_items command && nat_le most_messages (length messages) ≡ false → items_given reply ≡ None → LastOf a b side command reply → IsAnswered side command (Replied reply) reply old (world_of newa newb maps messages)
+  pub replied_so : gives_items command && nat_le most_messages (length messages) ≡ false → items_given reply ≡ None →
+      LastOf a b side command reply → IsAnswered side command (Replied reply) reply old (world_of newa newb maps messages)
   unfolding replied
-  replied_so free none last = record { asks = λ w s. (let r = replied free none w s in (r.1.0, r.0, r.1.1, refl, r.2)); last = λ w s. last w s.a s.b }
+  replied_so free none last =
+      record { asks = λ w s. (let r = replied free none w s in (r.1.0, r.0, r.1.1, refl, r.2)); last = λ w s. last w s.a s.b }
 
   -- the reply is kept
   module _ (items : List Item) (some : items_given reply ≡ Some items) where
-    pub made : gives_items command ≡ true → length messages < most_messages → EventLeads (Ask side command) (Made (length messages)) old (world_of newa newb maps (messages ++ reply ∷ []))
+    pub made : gives_items command ≡ true → length messages < most_messages →
+        EventLeads (Ask side command) (Made (length messages)) old (world_of newa newb maps (messages ++ reply ∷ []))
     made gives few w s =
         let t = steps w s.a s.b in
-        let free : gives_items command && nat_le most_messages (length messages) ≡ false = ap (λ x. gives_items command && x) (lt-leb most_messages (length messages) few) ∙ and_false (gives_items command) in (
+        let free : gives_items command && nat_le most_messages (length messages) ≡ false =
+        ap (λ x. gives_items command && x) (lt-leb most_messages (length messages) few) ∙ and_false (gives_items command) in (
           with_items (with_state w side t.0) (Some items),
           (
             ap (full_fault command) (as_many_messages old w s) ∙ ap (λ x. cond x (Some MessagesFull) None) free,
@@ -166,7 +184,8 @@ module _ (a b newa newb : ContentRecord) (maps : List SubMapRecord) (messages : 
         and_false true = refl
         and_false false = refl
 
-    pub made_so : gives_items command ≡ true → length messages < most_messages → LastOf a b side command reply → IsMessageKept side command (length messages) old (world_of newa newb maps (messages ++ reply ∷ []))
+    pub made_so : gives_items command ≡ true → length messages < most_messages → LastOf a b side command reply →
+        IsMessageKept side command (length messages) old (world_of newa newb maps (messages ++ reply ∷ []))
     unfolding made
     made_so gives few last =
         record {
@@ -177,22 +196,28 @@ module _ (a b newa newb : ContentRecord) (maps : List SubMapRecord) (messages : 
         }
 
 -- there is a place for one more message
-pub few_free : (command : Command) (messages : List Reply) → length messages < most_messages → gives_items command && nat_le most_messages (length messages) ≡ false
-few_free command messages few = ap (λ x. gives_items command && x) (lt-leb most_messages (length messages) few) ∙ and_false (gives_items command)
+pub few_free : (command : Command) (messages : List Reply) → length messages < most_messages →
+    gives_items command && nat_le most_messages (length messages) ≡ false
+few_free command messages few = ap (λ x. gives_items command && x) (lt-leb most_messages (length messages) few) ∙
+    and_false (gives_items command)
   where
     and_false : (x : Bool) → x && false ≡ false
     and_false true = refl
     and_false false = refl
 
 -- ---- an Ask that is refused before the store gets it
-pub messages_full : (value : WorldRecord) (side : Side) (command : Command) → gives_items command ≡ true → most_messages ≤ length value.messages → EventLeads (Ask side command) (Rejected MessagesFull) value value
+pub messages_full : (value : WorldRecord) (side : Side) (command : Command) → gives_items command ≡ true →
+    most_messages ≤ length value.messages → EventLeads (Ask side command) (Rejected MessagesFull) value value
 messages_full value side command gives full w s =
     let e : gives_items command && nat_le most_messages (length w.messages) ≡ true =
-    ap (λ x. x && nat_le most_messages (length w.messages)) gives ∙ ap (λ n. nat_le most_messages n) (as_many_messages value w s) ∙ le-leb most_messages (length value.messages) full in
+    ap (λ x. x && nat_le most_messages (length w.messages)) gives ∙ ap (λ n. nat_le most_messages n) (as_many_messages value w s) ∙
+    le-leb most_messages (length value.messages) full in
     (w, (ap (λ x. cond x (Some MessagesFull) None) e, refl), s)
 
-pub no_room_for_message : (value : WorldRecord) (side : Side) (command : Command) → gives_items command ≡ true → length value.messages < most_messages → EventLeads (Ask side command) (Rejected NoRoom) value value
+pub no_room_for_message : (value : WorldRecord) (side : Side) (command : Command) → gives_items command ≡ true →
+    length value.messages < most_messages → EventLeads (Ask side command) (Rejected NoRoom) value value
 no_room_for_message value side command gives few w s =
     let e : gives_items command && nat_le most_messages (length w.messages) ≡ false =
-    ap (λ x. x && nat_le most_messages (length w.messages)) gives ∙ ap (λ n. nat_le most_messages n) (as_many_messages value w s) ∙ lt-leb most_messages (length value.messages) few in
+    ap (λ x. x && nat_le most_messages (length w.messages)) gives ∙ ap (λ n. nat_le most_messages n) (as_many_messages value w s) ∙
+    lt-leb most_messages (length value.messages) few in
     (w, ((gives, inl (ap (λ x. cond x (Some MessagesFull) None) e)), refl), s)

@@ -26,14 +26,17 @@ use Rattle.ds_replica.proofs.ClashLemmas.{nothing_stops}
 use Rattle.ds_world.specs.Account.{NothingStops}
 use Rattle.ds_world.specs.Messages.{WasGiven, ChecksAreTurns, AllChecksAreWhole}
 
-extended_append : (xs ys : List (Event × Outcome)) (account : Account) → extended_all account (xs ++ ys) ≡ extended_all (extended_all account xs) ys
+extended_append : (xs ys : List (Event × Outcome)) (account : Account) →
+    extended_all account (xs ++ ys) ≡ extended_all (extended_all account xs) ys
 extended_append [] ys account = refl
 extended_append (x ∷ xs) ys account = extended_append xs ys (extended account x.0 x.1)
 
 -- the account now is the one after the command
-pub now_after : (account : Account) (events : List (Event × Outcome)) (side : Side) (command : Command) (k : ℕ) (g : WasGiven events side command k)
+pub now_after : (account : Account) (events : List (Event × Outcome)) (side : Side) (command : Command) (k : ℕ)
+    (g : WasGiven events side command k)
     → account_after (extended_all account g.before) side command k g.since ≡ extended_all account events
-now_after account events side command k g = sym (extended_append g.before ((Ask side command, Made k) ∷ g.since) account) ∙ ap (extended_all account) g.all
+now_after account events side command k g =
+    sym (extended_append g.before ((Ask side command, Made k) ∷ g.since) account) ∙ ap (extended_all account) g.all
 
 module _ (account : Account) (w late : World) (all : List (Event × Outcome)) (fits : Fits account w) (happen : HappenAll w all late) where
   module _ (side : Side) (command : Command) (k : ℕ) (g : WasGiven all side command k) where
@@ -51,10 +54,12 @@ module _ (account : Account) (w late : World) (all : List (Event × Outcome)) (f
   pub checks : ChecksAreTurns account all
   checks side sub max k early g front =
       subst
-      (λ (now : Account). (seer : Subscription) × (subscription_at (store_of (extended_all account g.before) side).state sub ≡ Some seer) × (t : CheckTurn) × (t.max ≡ max)
+      (λ (now : Account). (seer : Subscription) × (subscription_at (store_of (extended_all account g.before) side).state sub ≡ Some seer) ×
+      (t : CheckTurn) × (t.max ≡ max)
       × IsCheckTurn early (feed_of now side) (is_under seer.query) seer.shown t × IsMessage now k (given t.known t.items))
       (now_is side (Check sub max) k g)
-      (check_is_turn (extended_all account g.before) (parts side (Check sub max) k g).0 late side sub max k g.since early (asked side (Check sub max) k g) front)
+      (check_is_turn (extended_all account g.before) (parts side (Check sub max) k g).0 late side sub max k g.since early
+      (asked side (Check sub max) k g) front)
 
   pub stops : NothingStops account all
   stops before since k holder count done fault owed e single contradicts =

@@ -8,7 +8,8 @@ use Rattle.ds_replica.specs.Known.{Account}
 use Rattle.ds_world.specs.World.{WorldRecord}
 use Rattle.ds_world.specs.Laws.{CameSince, Laws, LawsHold}
 use Rattle.ds_world.specs.Told.{AreTold}
-use Rattle.ds_world.proofs.HeadlineLemmas.{account_fits, agree_after, catch_up_after, keep_up_after, newest_after, clashes_after, floors_after, floors_stand_after, items_stay, stays_whole}
+use Rattle.ds_world.proofs.HeadlineLemmas.{account_fits, agree_after, catch_up_after, keep_up_after, newest_after, clashes_after}
+use Rattle.ds_world.proofs.HeadlineLemmas.{floors_after, floors_stand_after, items_stay, stays_whole}
 use Rattle.ds_world.proofs.GivenLemmas as given
 use Rattle.ds_world.proofs.PageLemmas as pages
 use Rattle.ds_world.proofs.ReplyLemmas.{happened, told_on}

@@ -1,5 +1,6 @@
 -- Messages stay, and are the stores' replies.
-use Rattle.std.proofs.Common.{◌≡◌, ℕ, List, [], ◌∷◌, ◌++◌, length, append-nil, append_assoc, None, Some, refl, ap, sym, ◌∙◌, subst, inl, inr, Contains}
+use Rattle.std.proofs.Common.{◌≡◌, ℕ, List, [], ◌∷◌, ◌++◌, length, append-nil, append_assoc, None, Some, refl, ap, sym, ◌∙◌, subst, inl}
+use Rattle.std.proofs.Common.{inr, Contains}
 use Rattle.std.specs.List.{slice_get}
 use Rattle.ds_entry.proofs.Members.{Contains-nil, Contains-cons}
 use Rattle.ds_machine.specs.declared.command.Command.{Command}
@@ -41,7 +42,8 @@ over_one (RestartStore side incarnation) outcome old new told = same old new tol
 
 pub messages_stay : (old new : WorldRecord) (events : List (Event × Outcome)) → AreTold old events new → MessagesStay old new
 messages_stay old new [] told = same old new (ap (λ (v : WorldRecord). v.messages) told)
-messages_stay old new (e ∷ events) told = over_two old told.0 new (over_one e.0 e.1 old told.0 told.2) (messages_stay told.0 new events told.3)
+messages_stay old new (e ∷ events) told = over_two old told.0 new (over_one e.0 e.1 old told.0 told.2)
+    (messages_stay told.0 new events told.3)
 
 -- ---- what events name is in its ranges
 proper : (event : Event) (outcome : Outcome) (old new : WorldRecord) → IsTold event outcome old new → IsProperEvent event
@@ -60,11 +62,13 @@ all_proper old new (x ∷ events) told e h = elim (Contains-cons x events e h) [
 ]
 
 -- what one event reports, a list of that one event reports
-pub told_alone : (event : Event) (outcome : Outcome) (old new : WorldRecord) → EventLeads event outcome old new → IsTold event outcome old new → AreTold old ((event, outcome) ∷ []) new
+pub told_alone : (event : Event) (outcome : Outcome) (old new : WorldRecord) → EventLeads event outcome old new →
+    IsTold event outcome old new → AreTold old ((event, outcome) ∷ []) new
 told_alone event outcome old new leads told = (new, leads, told, refl)
 
 -- ---- what two parts of a list report
-in_two : (xs ys : List (Event × Outcome)) (old new : WorldRecord) → AreTold old (xs ++ ys) new → (mid : WorldRecord) × AreTold old xs mid × AreTold mid ys new
+in_two : (xs ys : List (Event × Outcome)) (old new : WorldRecord) → AreTold old (xs ++ ys) new →
+    (mid : WorldRecord) × AreTold old xs mid × AreTold mid ys new
 in_two [] ys old new told = (old, refl, told)
 in_two (x ∷ xs) ys old new told = let rest = in_two xs ys told.0 new told.3 in (rest.0, (told.0, told.1, told.2, rest.1), rest.2)
 
@@ -89,7 +93,8 @@ past [] reply rest = refl
 past (x ∷ front) reply rest = past front reply rest
 
 -- the Ask whose message is there now
-pub record WasAsked (before since : List (Event × Outcome)) (side : Side) (command : Command) (k : ℕ) (w : World) (new : WorldRecord) : Type 0 where
+pub record WasAsked (before since : List (Event × Outcome)) (side : Side) (command : Command) (k : ℕ) (w : World) (new : WorldRecord) :
+    Type 0 where
   pub mid : World
   pub before_happens : HappenAll w before mid
   pub after : World
@@ -100,11 +105,13 @@ pub record WasAsked (before since : List (Event × Outcome)) (side : Side) (comm
   pub since_happens : HappenAll after since late
   pub stands : WorldStands new late
 
-pub asked_for : (old new : WorldRecord) (events : List (Event × Outcome)) → AreTold old events new → (before since : List (Event × Outcome)) (side : Side) (command : Command) (k : ℕ) (w : World)
+pub asked_for : (old new : WorldRecord) (events : List (Event × Outcome)) → AreTold old events new →
+    (before since : List (Event × Outcome)) (side : Side) (command : Command) (k : ℕ) (w : World)
     → before ++ (Ask side command, Made k) ∷ since ≡ events → WorldStands old w
     → WasAsked before since side command k w new
 asked_for old new events told before since side command k w all s =
-    let parts = in_two before ((Ask side command, Made k) ∷ since) old new (subst (λ (l : List (Event × Outcome)). AreTold old l new) (sym all) told) in
+    let parts = in_two before ((Ask side command, Made k) ∷ since) old new
+    (subst (λ (l : List (Event × Outcome)). AreTold old l new) (sym all) told) in
     let went = happened before old parts.0 w parts.1 s in
     let mid = parts.2.0 in
     let kept = parts.2.2.1 in
@@ -117,7 +124,8 @@ asked_for old new events told before since side command k w all s =
       after = asked.1;
       stands_not = asked.0;
       asks = asked.2;
-      there = ap (λ (l : List Reply). slice_get l k) (stay.1 ∙ ap (λ (l : List Reply). l ++ stay.0) kept.kept) ∙ ap (λ (n : ℕ). slice_get ((parts.0.messages ++ kept.reply ∷ []) ++ stay.0) n) kept.next
+      there = ap (λ (l : List Reply). slice_get l k) (stay.1 ∙ ap (λ (l : List Reply). l ++ stay.0) kept.kept) ∙
+          ap (λ (n : ℕ). slice_get ((parts.0.messages ++ kept.reply ∷ []) ++ stay.0) n) kept.next
           ∙ past parts.0.messages kept.reply stay.0 ∙ ap Some (sym asked.3);
       late = rest.0;
       since_happens = rest.1;
@@ -125,4 +133,6 @@ asked_for old new events told before since side command k w all s =
     }
 
 pub replies_are_kept : (old new : WorldRecord) (events : List (Event × Outcome)) → AreTold old events new → RepliesAreKept old events new
-replies_are_kept old new events told before since side command k w all s = let a = asked_for old new events told before since side command k w all s in (a.mid, a.before_happens, a.after, a.asks, a.there, a.late, a.since_happens, a.stands)
+replies_are_kept old new events told before since side command k w all s = let a =
+    asked_for old new events told before since side command k w all s in
+    (a.mid, a.before_happens, a.after, a.asks, a.there, a.late, a.since_happens, a.stands)

@@ -1,5 +1,6 @@
 -- That what a map takes is what the definitions of deliveries say.
-use Rattle.std.proofs.Common.{◌≡◌, ◌⊎◌, ℕ, ◌+◌, ◌≤◌, Bool, true, false, List, [], ◌∷◌, ◌++◌, length, filter, take, Option, Some, None, Ok, Err, IsTrue, refl, ap, sym, ◌∙◌, subst, inl, inr, arith}
+use Rattle.std.proofs.Common.{◌≡◌, ◌⊎◌, ℕ, ◌+◌, ◌≤◌, Bool, true, false, List, [], ◌∷◌, ◌++◌, length, filter, take, Option, Some, None, Ok}
+use Rattle.std.proofs.Common.{Err, IsTrue, refl, ap, sym, ◌∙◌, subst, inl, inr, arith}
 use Rattle.std.specs.List.{list_any, slice_get}
 use Rattle.std.proofs.lemmas.List.{take_all}
 use Rattle.ds_names.specs.declared.version.Version.{Version}
@@ -35,12 +36,15 @@ module _ (held : Holding) (sound : IsSound held) (c : ChangeRecord) where
   not_void true P fault u = let e : Err fault ≡ Ok Stale = u in absurd (cc)
   not_void false P fault u = u
 
-  of_owner : (o : Option ChangeRecord) → held_for held c.key ≡ o → (void : Bool) → AnswersFor o void (held_count held) held.limits.keys c (Err NotOwner) → StandsAgainst (held_items held) (Changed c) refusals.NotOwner
+  of_owner : (o : Option ChangeRecord) → held_for held c.key ≡ o → (void : Bool) →
+      AnswersFor o void (held_count held) held.limits.keys c (Err NotOwner) → StandsAgainst (held_items held) (Changed c) refusals.NotOwner
   of_owner None e void a = absurd (not_void void (AnswersNew (held_count held) held.limits.keys (Err NotOwner)) NotOwner a)
   of_owner (Some h) e void (inl other) = (h, change_in held c.key h e, sound.own c.key h e, other.0)
   of_owner (Some h) e void (inr own) = absurd (not_void void (AnswersOwn h c (Err NotOwner)) NotOwner own.1)
 
-  of_clash : (v : Version) (o : Option ChangeRecord) → held_for held c.key ≡ o → (void : Bool) → AnswersFor o void (held_count held) held.limits.keys c (Err (Clash v)) → StandsAgainst (held_items held) (Changed c) (refusals.Clash v)
+  of_clash : (v : Version) (o : Option ChangeRecord) → held_for held c.key ≡ o → (void : Bool) →
+      AnswersFor o void (held_count held) held.limits.keys c (Err (Clash v)) →
+      StandsAgainst (held_items held) (Changed c) (refusals.Clash v)
   of_clash v None e void a = absurd (not_void void (AnswersNew (held_count held) held.limits.keys (Err (Clash v))) (Clash v) a)
   of_clash v (Some h) e void (inl other) = let n : Err (Clash v) ≡ Err NotOwner = other.1 in absurd (cc)
   of_clash v (Some h) e void (inr own) =
@@ -56,7 +60,8 @@ floor_not_clash v None count generation a = a
 floor_not_clash v (Some held) count generation a = a
 
 -- a map's fault against an item applies to it
-pub stands : (held : Holding) → IsSound held → (i : Item) (fault : JoinFault) → IsItemRefused held i fault → StandsAgainst (held_items held) i (refusal_of_join fault)
+pub stands : (held : Holding) → IsSound held → (i : Item) (fault : JoinFault) → IsItemRefused held i fault →
+    StandsAgainst (held_items held) i (refusal_of_join fault)
 stands held sound (Changed c) NotOwner r = of_owner held sound c (held_for held c.key) refl (is_void_at held c) r
 stands held sound (Changed c) (Clash v) r = of_clash held sound c v (held_for held c.key) refl (is_void_at held c) r
 stands held sound (Changed c) Full r = tt
@@ -78,7 +83,8 @@ answers_few (Taken ∷ answers) = let l = answers_few answers in omega (arith, l
 answers_few (Known ∷ answers) = let l = answers_few answers in omega (arith, l)
 answers_few (Stale ∷ answers) = let l = answers_few answers in omega (arith, l)
 
-answered_each : (old : Holding) (items : List Item) (answers : List Merge) (new : Holding) → AreAnswered old items answers new → length answers ≡ length items
+answered_each : (old : Holding) (items : List Item) (answers : List Merge) (new : Holding) → AreAnswered old items answers new →
+    length answers ≡ length items
 answered_each old [] [] new a = refl
 answered_each old [] (r ∷ rs) new a = absurd a
 answered_each old (i ∷ items) [] new a = absurd a
@@ -88,19 +94,22 @@ under_few : (q : Query) (items : List Item) → length (under (is_under q) items
 under_few q [] = omega arith
 under_few q (i ∷ items) = by_test (passes (is_under q) i) refl (under_few q items)
   where
-    by_test : (b : Bool) → passes (is_under q) i ≡ b → length (under (is_under q) items) ≤ length items → length (under (is_under q) (i ∷ items)) ≤ length (i ∷ items)
+    by_test : (b : Bool) → passes (is_under q) i ≡ b → length (under (is_under q) items) ≤ length items →
+        length (under (is_under q) (i ∷ items)) ≤ length (i ∷ items)
     by_test true e rest = rw e (omega (arith, rest))
     by_test false e rest = rw e (omega (arith, rest))
 
 -- ---- a take
 module _ (old new : SubMapRecord) (items : List Item) (query : new.query ≡ old.query) where
   -- all items were done
-  pub took : (count : Count) → IsTop (held_items new.held) (held_items old.held ++ under (is_under old.query) items) → AreCounted old.query old.held items new.held count
+  pub took : (count : Count) → IsTop (held_items new.held) (held_items old.held ++ under (is_under old.query) items) →
+      AreCounted old.query old.held items new.held count
       → MapTakes (map_state old) items (record { count = count; owed = 0; stop = None }) (map_state new)
   took count top n =
       record {
         query = query;
-        top = subst (λ (l : List Item). IsTop (held_items new.held) (held_items old.held ++ under (is_under old.query) l)) (sym (take_all count.done items (omega (arith, n.done)))) top;
+        top = subst (λ (l : List Item). IsTop (held_items new.held) (held_items old.held ++ under (is_under old.query) l))
+            (sym (take_all count.done items (omega (arith, n.done)))) top;
         counted =
             (let few = answers_few n.all.answers in
             let each = answered_each old.held (under (is_under old.query) items) n.all.answers new.held n.all.answered in
@@ -111,7 +120,9 @@ module _ (old new : SubMapRecord) (items : List Item) (query : new.query ≡ old
       }
 
   -- the take was stopped
-  pub stopped : IsSound new.held → (stop : Stop) → IsTop (held_items new.held) (held_items old.held ++ under (is_under old.query) (take stop.done items)) → IsTakeStopped old.query old.held items new.held stop
+  pub stopped : IsSound new.held → (stop : Stop) →
+      IsTop (held_items new.held) (held_items old.held ++ under (is_under old.query) (take stop.done items)) →
+      IsTakeStopped old.query old.held items new.held stop
       → MapTakes (map_state old) items (ended stop.done 0 (Some (refusal_of_join stop.fault))) (map_state new)
   stopped sound stop top n =
       record {
@@ -128,12 +139,21 @@ module _ (old new : SubMapRecord) (items : List Item) (query : new.query ≡ old
       first_asked q (i ∷ xs) e = (i, refl)
 
       by : IsNextRefused old.query items new.held stop ⊎ IsUnasked old.query items stop →
-          (i : Item) × (slice_get items stop.done ≡ Some i) × ((passes (is_under new.query) i ≡ true) ⊎ (refusal_of_join stop.fault ≡ refusals.NoRoom)) × StandsAgainst (held_items new.held) i (refusal_of_join stop.fault)
-      by (inl r) = (r.0, r.1, inl (subst (λ (q : Query). passes (is_under q) r.0 ≡ true) (sym query) r.2.0), stands new.held sound r.0 stop.fault r.2.1)
+          (i : Item) × (slice_get items stop.done ≡ Some i) ×
+          ((passes (is_under new.query) i ≡ true) ⊎ (refusal_of_join stop.fault ≡ refusals.NoRoom)) ×
+          StandsAgainst (held_items new.held) i (refusal_of_join stop.fault)
+      by (inl r) = (
+        r.0,
+        r.1,
+        inl (subst (λ (q : Query). passes (is_under q) r.0 ≡ true) (sym query) r.2.0),
+        stands new.held sound r.0 stop.fault
+            r.2.1,
+      )
       by (inr u) =
           let i = first_asked old.query items u.asked in (
             i.0,
             ap (slice_get items) u.none_done ∙ i.1,
             inr (ap refusal_of_join u.noroom),
-            subst (λ (f : JoinFault). StandsAgainst (held_items new.held) i.0 (refusal_of_join f)) (sym u.noroom) (wants_room (held_items new.held) i.0),
+            subst (λ (f : JoinFault). StandsAgainst (held_items new.held) i.0 (refusal_of_join f)) (sym u.noroom)
+                (wants_room (held_items new.held) i.0),
           )

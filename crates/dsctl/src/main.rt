@@ -2,7 +2,7 @@
 //!
 //! The program is thin: `dsctl_cli` parses the command line and has the prompt; `ds_script`, `rs_settings`,
 //! `trace_check`, `trace_record` and `ds_live` do the work; `ds_explain` explains bad lines. This crate prints
-//! settings, verdicts and reports and chooses the exit status. 0: done. 1: refused input. 2: usage. 3: memory, reading,
+//! settings, verdicts and reports and chooses the exit status. 0: done, or a prompt ended. 1: refused input. 2: usage. 3: memory, reading,
 //! writing or a run of threads failed, and standard error says which.
 #![tactic(auto)]
 

@@ -109,6 +109,7 @@ pub(crate) fn replay_input<R: Runtime + AllocGlobal>(
     );
     let status = outcome(
         replayed,
+        terminals,
         explainer.unwritten.or(reader.inner.unwritten),
         reader.fault,
         writer.fault,
@@ -147,15 +148,18 @@ fn kind_of<R: Runtime, I: Read>(
     }
 }
 
-// Returns the exit status of a replay, or why printing a bad line's place, reading or answering failed.
+// Returns the exit status of a replay, or why printing a bad line's place, reading or answering failed. Bad lines that were skipped at the
+// prompt don't count.
 fn outcome(
     replayed: Result<Replayed, ReplayFault>,
+    terminals: Terminals,
     unwritten: Option<io::Error>,
     unread: Option<io::Error>,
     unanswered: Option<io::Error>,
 ) -> Result<ExitCode, Failure> {
     match replayed {
         Ok(Replayed { bad: 0, .. }) => Ok(ExitCode::SUCCESS),
+        Ok(_) if terminals.are_both() => Ok(ExitCode::SUCCESS),
         Err(ReplayFault::BadLine { .. } | ReplayFault::ReadFault) if unwritten.is_some() => {
             Err(Failure::WriteFault(unwritten))
         }

@@ -3,7 +3,7 @@
 use std::fs;
 use std::io::{self, Read};
 use std::rt::Runtime;
-use typed_text::{IfNear, nearest};
+use typed_text::{COMMANDS, IfNear, nearest};
 
 /// Standard input, or an open file.
 #[derive(Drop)]
@@ -61,8 +61,24 @@ pub(crate) fn nearest_command(word: &str) -> Option<&'static str> {
     }
 }
 
+/// Whether a word of the command line begins a line of a script.
+pub(crate) fn begins_line(word: &str) -> bool {
+    COMMANDS.contains(&word)
+}
+
+/// Writes where a line is typed that was given as words of the command line, of which this is the first.
+pub(crate) fn explain_line(rt: &impl Runtime, word: &str) {
+    let _ = eprintln!(rt;
+        "dsctl: `{word}` begins a line of a script: type the line at dsctl's prompt, or pipe it into dsctl"
+    );
+}
+
 // Writes why a file can't be opened, with the nearest subcommand if its name may be one.
 fn tell_unopened(rt: &impl Runtime, name: &str, error: io::Error) {
+    if begins_line(name) && error.kind() == io::ErrorKind::NotFound {
+        explain_line(rt, name);
+        return;
+    }
     match nearest_command(name) {
         Some(near) => {
             let near = IfNear(Some(near));

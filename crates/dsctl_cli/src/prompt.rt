@@ -1,5 +1,7 @@
 //! What a user at a terminal sees beside the answers, on standard error: a greeting, a prompt, and help on request.
 
+ghost use Rattle.std.specs.Prelude.{◌≡◌, ◌≤◌, length};
+
 use crate::help::LINES;
 use crate::help_short::COMMONEST;
 use crate::help_word::explain_word;
@@ -8,6 +10,7 @@ use crate::refusals::{Topic, explain_refusals};
 use std::cell::Cell;
 use std::io::{self, Read, Write};
 use std::rt::Runtime;
+use typed_text::respell;
 
 /// What a greeting is about.
 #[derive(Clone, Copy)]
@@ -86,7 +89,8 @@ impl LastLine {
 /// An input, with a prompt before each line if a user types it.
 ///
 /// At the prompt, an empty line, a comment, `help`, `help all`, `help WORD`, `?`, `quit`, `exit`, and a line that ^C ends
-/// are handled here, and aren't lines of the script. Once the input has ended it isn't read again: a terminal would wait for another ^D.
+/// are handled here, and aren't lines of the script. Any other line that comes whole is delivered in the spelling of scripts, by
+/// `respell`. Once the input has ended it isn't read again: a terminal would wait for another ^D.
 #[derive(Drop)]
 pub struct Typed<'a, R: Runtime> {
     rt: &'a R,
@@ -136,7 +140,7 @@ impl<'a, R: Runtime> Typed<'a, R> {
             return if read.is_empty() {
                 Meaning::End
             } else {
-                Meaning::Line
+                Meaning::Piece
             };
         }
         let began_line = self.begins_line;
@@ -150,14 +154,12 @@ impl<'a, R: Runtime> Typed<'a, R> {
             return Meaning::End;
         }
         if !began_line || !self.begins_line {
-            return Meaning::Line;
+            return Meaning::Piece;
         }
         let line = read.trim_ascii();
         let meaning = meaning_of(line);
-        match meaning {
-            Meaning::Help => self.help(line),
-            Meaning::Line => self.note(line),
-            Meaning::Nothing | Meaning::End => {}
+        if let Meaning::Help = meaning {
+            self.help(line);
         }
         meaning
     }
@@ -190,7 +192,10 @@ const TAKEN_BACK: u8 = 3;
 // What a line means to the prompt.
 #[derive(Clone, Copy)]
 enum Meaning {
+    // A line of the script.
     Line,
+    // A piece of a line, or bytes that nobody typed.
+    Piece,
     Nothing,
     Help,
     End,
@@ -198,7 +203,22 @@ enum Meaning {
 
 const AT_THE_PROMPT: &str = "\
 At the prompt: help or ? shows the commonest lines, help all shows these, help
-WORD explains a line, an answer, a refusal or a kind, quit or exit or ^D ends.";
+WORD explains a line, an answer, a refusal or a kind, quit or exit or ^D ends.
+A line may begin with capitals there, and end with spaces.";
+
+// Puts the first `count` bytes, a line and its newline, into the spelling of scripts. Returns how many bytes that takes.
+fn spelled(buf: &mut [u8], count: usize) -> usize
+    requires { count ≤ length buf.old }
+    ensures few { result ≤ count }
+    ensures same { length buf.new ≡ length buf.old }
+{
+    if count == 0 {
+        return 0;
+    }
+    let length = respell(&mut buf[..count - 1]);
+    buf[length] = b'\n';
+    length + 1
+}
 
 fn meaning_of(line: &[u8]) -> Meaning {
     let (word, _) = first_word(line);
@@ -304,7 +324,12 @@ impl<R: Runtime> Read for Typed<'_, R> {
             self.prompt();
             let count = self.reader.read(buf)?;
             match self.meaning(&buf[..count]) {
-                Meaning::Line => return Ok(count),
+                Meaning::Line => {
+                    let count = spelled(buf, count);
+                    self.note(&buf[..count]);
+                    return Ok(count);
+                }
+                Meaning::Piece => return Ok(count),
                 Meaning::End => {
                     self.ended = true;
                     return Ok(0);

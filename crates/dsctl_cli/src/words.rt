@@ -8,7 +8,7 @@ use crate::help_words::{
     AFTER_HELP, ENDS_ABOUT, KEEP_GOING_ABOUT, LINE_ABOUT, SETTINGS_ABOUT, SETTINGS_LONG_ABOUT,
     STOP_ABOUT,
 };
-use crate::input::{SUBCOMMANDS, nearest_command};
+use crate::input::{SUBCOMMANDS, begins_line, explain_line, nearest_command};
 use crate::live_words::{add_live, crew_of};
 use crate::record_words::{add_record, form_of, too_many_keys};
 use clap::error::ErrorKind;
@@ -325,6 +325,16 @@ fn meant_command(error: &Error, given: &[String]) -> Option<&'static str> {
     }
 }
 
+// Returns the first word of a line that was given in place of a subcommand, as in `dsctl retrieve mtu u32`.
+fn line_given<'a>(error: &Error, given: &'a [String]) -> Option<&'a str> {
+    let word = given.get(1)?.as_str();
+    let is_unread = matches!(
+        error.kind(),
+        ErrorKind::InvalidSubcommand | ErrorKind::UnknownArgument
+    );
+    (is_unread && !SUBCOMMANDS.contains(&word) && begins_line(word)).then_some(word)
+}
+
 // Whether an argument looks like a file's name.
 fn names_a_file(given: &[String]) -> bool {
     names_count(given) > 0
@@ -356,7 +366,9 @@ fn answer(rt: &(impl Runtime + AllocGlobal), error: &Error, given: &[String]) ->
         return Words::NoRoom;
     };
     let printed = print_message(rt, error, text.as_str());
-    if let Some(near) = meant_command(error, given) {
+    if let Some(word) = line_given(error, given) {
+        explain_line(rt, word);
+    } else if let Some(near) = meant_command(error, given) {
         let _ = eprintln!(rt; "dsctl: the nearest command is `{near}`");
     } else if let Some(tip) = tip_for(error, given) {
         let _ = rt.eprintln(tip);

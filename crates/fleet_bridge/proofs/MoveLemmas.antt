@@ -1,5 +1,6 @@
 -- The moves of a bridge's decisions are events of the rule.
-use Rattle.std.proofs.Common.{◌≡◌, ◌+◌, ◌-◌, ◌≤◌, ◌==◌, ◌||◌, ◌&&◌, not, cond, min, max, if◌then◌else◌, ℕ, Bool, true, false, List, [], ◌∷◌, ◌++◌, length, take, drop, Option, Some, refl, sym, ap, ◌∙◌, subst, arith}
+use Rattle.std.proofs.Common.{◌≡◌, ◌+◌, ◌-◌, ◌≤◌, ◌==◌, ◌||◌, ◌&&◌, not, cond, min, max, if◌then◌else◌, ℕ, Bool, true, false, List, [], ◌∷◌}
+use Rattle.std.proofs.Common.{◌++◌, length, take, drop, Option, Some, refl, sym, ap, ◌∙◌, subst, arith}
 use Rattle.std.proofs.lemmas.Bool.{eqb-true}
 use Rattle.std.proofs.lemmas.List.{length-append, length-drop}
 use Rattle.fleet_rule.specs.Covered.{uncovered}
@@ -19,7 +20,8 @@ use Rattle.fleet_bridge.specs.declared.question.Question.TheVariants.{Nothing, M
 -- The next question, by flags: met, gap, must resend, at the end, compaction due, dropped, nothing to add; and the number to add.
 abbrev pick : Bool → Bool → Bool → Bool → Bool → Bool → Bool → ℕ → Question
 pick m g r e c d z n =
-    if not m then Meet else if g then Fetch else if r && e then Refill else if c && (e && not d) then Compact else if z then Nothing else Add n
+    if not m then Meet else if g then Fetch else if r && e then Refill else if c && (e && not d) then Compact else if z then Nothing else
+    Add n
 
 -- What the rule asks of a question.
 abbrev MayAsk : Bool → Bool → ℕ → Question → Type 0
@@ -69,7 +71,8 @@ left true false false false false d false n q = absurd (cc)
 
 pub nothing_is_left : NothingIsLeft
 nothing_is_left b due q =
-    let all = left b.is_met b.has_gap b.must_resend b.is_at_end due.compaction b.has_dropped (b.outbox == 0) (min b.outbox (max due.most 1)) q in
+    let all = left b.is_met b.has_gap b.must_resend b.is_at_end due.compaction b.has_dropped (b.outbox == 0)
+    (min b.outbox (max due.most 1)) q in
     (all.0, all.1, eqb-true b.outbox 0 all.2, all.3)
 
 or_none : (a b : Bool) → b ≡ false → a ≡ (a || b)
@@ -116,7 +119,8 @@ module _ {I : Type 0} (covers : I → I → Bool) where
       record {
         may = (p, h.must_resend ∙ m.0, h.has_dropped ∙ m.1);
         after = at_host at (record b { in_flight = b.outbox }) k
-            (record (w.hosts k) { bridge = rule.sending r (length r.outbox); producer = Compacting r.met r.position r.held r.outbox }) w.hosts
+            (record (w.hosts k) { bridge = rule.sending r (length r.outbox); producer = Compacting r.met r.position r.held r.outbox })
+            w.hosts
             (record {
               outbox = h.outbox;
               in_flight = h.outbox;
@@ -216,32 +220,41 @@ module _ {I : Type 0} (covers : I → I → Bool) where
         fetch = λ at w k end b items held h p j.
             record {
               may = (p, j);
-              after = at_host at (fetched b end false) k (record (w.hosts k) { bridge = rule.consuming (bridge_at w k) items (at end) held; producer = Idle }) w.hosts
+              after = at_host at (fetched b end false) k
+                  (record (w.hosts k) { bridge = rule.consuming (bridge_at w k) items (at end) held; producer = Idle }) w.hosts
                   (read_to at b (bridge_at w k) items held (at end) end false false false h refl (b.has_dropped || false) h.has_dropped
                   (or_none b.has_dropped false refl));
             };
         fetch_part = λ at w k end b items held h p j.
             record {
               may = (p, j);
-              after = at_host at (fetched b end true) k (record (w.hosts k) { bridge = rule.dropping (bridge_at w k) items (at end) held; producer = Idle }) w.hosts
-                  (dropped_to at b (bridge_at w k) items held (at end) end false false (b.has_dropped || true) h refl (or_some b.has_dropped true refl));
+              after = at_host at (fetched b end true) k
+                  (record (w.hosts k) { bridge = rule.dropping (bridge_at w k) items (at end) held; producer = Idle }) w.hosts
+                  (dropped_to at b (bridge_at w k) items held (at end) end false false (b.has_dropped || true) h refl
+                  (or_some b.has_dropped true refl));
             };
         consume = λ at w k b new r items held ids h p l d j c.
             record {
               may = (p, h.met ∙ c.0, h.position ∙ ap at c.1, ids.grow r.end r.from c.2, j);
-              after = subst (λ (x : Bridge). Represents at x (bridge_at (after covers w (Event.Consumes k r.history (at r.from) (at r.end) items held)) k)) (sym c.3)
+              after = subst (λ (x : Bridge). Represents at x
+                  (bridge_at (after covers w (Event.Consumes k r.history (at r.from) (at r.end) items held)) k)) (sym c.3)
                   (at_host at (record b { position = r.last; has_dropped = b.has_dropped || r.has_dropped; is_at_end = r.is_all }) k
-                  (record (w.hosts k) { bridge = rule.consuming (bridge_at w k) items (at r.from + length items) held; consumer = Paused }) w.hosts
-                  (read_to at b (bridge_at w k) items held (at r.from + length items) r.last false r.is_all b.has_gap h (sym l) (b.has_dropped || r.has_dropped)
+                  (record (w.hosts k) { bridge = rule.consuming (bridge_at w k) items (at r.from + length items) held; consumer = Paused })
+                  w.hosts
+                  (read_to at b (bridge_at w k) items held (at r.from + length items) r.last false r.is_all b.has_gap h (sym l)
+                  (b.has_dropped || r.has_dropped)
                   h.has_dropped (or_none b.has_dropped r.has_dropped d)));
             };
         consume_part = λ at w k b new r items held ids h p l d j c.
             record {
               may = (p, h.met ∙ c.0, ids.grow r.end r.from c.2, j);
-              after = subst (λ (x : Bridge). Represents at x (bridge_at (after covers w (Event.ConsumesPart k r.history (at r.from) (at r.end) items held)) k)) (sym c.3)
+              after = subst (λ (x : Bridge). Represents at x
+                  (bridge_at (after covers w (Event.ConsumesPart k r.history (at r.from) (at r.end) items held)) k)) (sym c.3)
                   (at_host at (record b { position = r.last; has_dropped = b.has_dropped || r.has_dropped; is_at_end = r.is_all }) k
-                  (record (w.hosts k) { bridge = rule.dropping (bridge_at w k) items (at r.from + length items) held; consumer = Paused }) w.hosts
-                  (dropped_to at b (bridge_at w k) items held (at r.from + length items) r.last r.is_all b.has_gap (b.has_dropped || r.has_dropped) h (sym l)
+                  (record (w.hosts k) { bridge = rule.dropping (bridge_at w k) items (at r.from + length items) held; consumer = Paused })
+                  w.hosts
+                  (dropped_to at b (bridge_at w k) items held (at r.from + length items) r.last r.is_all b.has_gap
+                  (b.has_dropped || r.has_dropped) h (sym l)
                   (or_some b.has_dropped r.has_dropped d)));
             };
         refill = λ at w k b h m.

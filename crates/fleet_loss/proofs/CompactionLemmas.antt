@@ -1,9 +1,11 @@
 -- A compaction trims what its bridge read.
-use Rattle.std.proofs.Common.{◌≡◌, ◌⊎◌, ◌<◌, ◌+◌, ◌==◌, ℕ, Bool, true, List, [], ◌∷◌, ◌++◌, take, refl, sym, ap, ◌∙◌, subst, inl, inr, arith}
+use Rattle.std.proofs.Common.{◌≡◌, ◌⊎◌, ◌<◌, ◌+◌, ◌==◌, ℕ, Bool, true, List, [], ◌∷◌, ◌++◌, take, refl, sym, ap, ◌∙◌, subst, inl, inr}
+use Rattle.std.proofs.Common.{arith}
 use Rattle.std.specs.List.{Contains, list_any}
 use Rattle.std.proofs.lemmas.Bool.{eqb-true, or_cases}
 use Rattle.std.proofs.lemmas.List.Elements.{Contains-append_right}
-use Rattle.ds_entry.proofs.Members.{Contains-nil, Contains-head, Contains-tail, Contains-single, Contains-cons, Contains-from_take, Contains-from_drop, Contains-from_list_any}
+use Rattle.ds_entry.proofs.Members.{Contains-nil, Contains-head, Contains-tail, Contains-single, Contains-cons, Contains-from_take}
+use Rattle.ds_entry.proofs.Members.{Contains-from_drop, Contains-from_list_any}
 use Rattle.fleet_rule.specs.Covered.{Covers}
 use Rattle.fleet_rule.specs.Server.{Server}
 use Rattle.fleet_loss.specs.Stream.{Stream}

@@ -1,5 +1,6 @@
 -- The judgement of losses.
-use Rattle.std.proofs.Common.{◌≡◌, ◌⊎◌, ℕ, ◌<◌, ◌≤◌, ◌==◌, nat_lt, Bool, true, false, not, ◌||◌, ◌&&◌, List, [], ◌∷◌, refl, sym, ap, ◌∙◌, subst, inl, inr, arith}
+use Rattle.std.proofs.Common.{◌≡◌, ◌⊎◌, ℕ, ◌<◌, ◌≤◌, ◌==◌, nat_lt, Bool, true, false, not, ◌||◌, ◌&&◌, List, [], ◌∷◌, refl, sym, ap, ◌∙◌}
+use Rattle.std.proofs.Common.{subst, inl, inr, arith}
 use Rattle.std.specs.List.{Contains, list_any}
 use Rattle.std.proofs.lemmas.Bool.{ltb-true, ltb-false, eqb-true, lt-ltb, le-ltb, and_left, and_right, or_from, or_left, or_right}
 use Rattle.std.proofs.lemmas.List.{length-append}
@@ -91,7 +92,8 @@ none_lacks t probes f = by_test (list_any (lacks t) probes) refl
 
 has_no_less : (s t : Stream) → Goes s t → has_less s t ≡ false
 has_no_less s t g =
-    or_from (nat_lt t.end s.end) (nat_lt (missing s) (missing t) || (nat_lt t.added s.added || (nat_lt t.bytes s.bytes && not (nat_lt s.end t.end))))
+    or_from (nat_lt t.end s.end) (nat_lt (missing s) (missing t) ||
+    (nat_lt t.added s.added || (nat_lt t.bytes s.bytes && not (nat_lt s.end t.end))))
     (le-ltb t.end s.end g.end)
     (or_from (nat_lt (missing s) (missing t)) (nat_lt t.added s.added || (nat_lt t.bytes s.bytes && not (nat_lt s.end t.end)))
     (le-ltb (missing s) (missing t) (let e = g.missing in omega arith))

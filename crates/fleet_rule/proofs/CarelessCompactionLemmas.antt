@@ -1,10 +1,13 @@
 -- Runs of wrong rules of compaction.
 use Rattle.std.proofs.Common.{◌≡◌, Bool, true, List, [], ◌∷◌, refl, arith, Some}
 use Rattle.fleet_rule.specs.Happens.{Event, after, May}
-use Rattle.fleet_rule.specs.Happens.Event.{Changes, AsksToMeet, AsksToFetch, AsksToCompact, IsMet, IsFetched, IsCompacted, Meets, TakesSnapshot, Crashes, Loses}
+use Rattle.fleet_rule.specs.Happens.Event.{Changes, AsksToMeet, AsksToFetch, AsksToCompact, IsMet, IsFetched, IsCompacted, Meets}
+use Rattle.fleet_rule.specs.Happens.Event.{TakesSnapshot, Crashes, Loses}
 use Rattle.fleet_rule.specs.Example.{server_of, new_fleet}
-use Rattle.fleet_rule.specs.CarelessCompaction.{leaves_outbox, ignores_resending, ignores_dropping, ignores_history, replaces_later, OutboxIsNeeded, ResendingIsNeeded, DroppingIsNeeded, HistoryIsNeeded, LaterIsNeeded}
-use Rattle.fleet_rule.proofs.RunLemmas.{◌▸◌, none_met, other_met, joining, publishing, reading, dropping_all, compacting, all_of, ends, ends_of, AllMay, PhasesMay, follow, puts, repeats, refuses, is_server}
+use Rattle.fleet_rule.specs.CarelessCompaction.{leaves_outbox, ignores_resending, ignores_dropping, ignores_history, replaces_later}
+use Rattle.fleet_rule.specs.CarelessCompaction.{OutboxIsNeeded, ResendingIsNeeded, DroppingIsNeeded, HistoryIsNeeded, LaterIsNeeded}
+use Rattle.fleet_rule.proofs.RunLemmas.{◌▸◌, none_met, other_met, joining, publishing, reading, dropping_all, compacting, all_of, ends}
+use Rattle.fleet_rule.proofs.RunLemmas.{ends_of, AllMay, PhasesMay, follow, puts, repeats, refuses, is_server}
 
 module _ {I : Type 0} (covers : I → I → Bool) (reflexive : (i : I) → covers i i ≡ true)
     (transitive : (i j k : I) → covers i j ≡ true → covers j k ≡ true → covers i k ≡ true) where
@@ -61,7 +64,8 @@ module _ {I : Type 0} (covers : I → I → Bool) (reflexive : (i : I) → cover
   unfolding ends ends_of AllMay PhasesMay
   resending_is_needed_may i =
       (refl ▸ refl ▸ (refl, none_met 1) ▸ refl ▸ tt) ▸
-      (puts covers reflexive transitive [] (i ∷ []) ▸ (refl, omega arith) ▸ refl ▸ (omega arith, omega arith) ▸ (refl, omega arith) ▸ refl ▸ tt) ▸
+      (puts covers reflexive transitive [] (i ∷ []) ▸ (refl, omega arith) ▸ refl ▸ (omega arith, omega arith) ▸ (refl, omega arith) ▸ refl
+      ▸ tt) ▸
       ((omega arith, is_server covers reflexive transitive 2 [] 0 (omega arith)) ▸ tt) ▸
       (refl ▸ refl ▸ (refl, none_met 2) ▸ refl ▸ tt) ▸
       (refl ▸ refl ▸ (refl, other_met 1 2 refl) ▸ tt) ▸
@@ -98,7 +102,8 @@ module _ {I : Type 0} (covers : I → I → Bool) (reflexive : (i : I) → cover
   unfolding ends ends_of AllMay PhasesMay
   dropping_is_needed_may i =
       (refl ▸ refl ▸ (refl, none_met 1) ▸ refl ▸ tt) ▸
-      (puts covers reflexive transitive [] (i ∷ []) ▸ (refl, omega arith) ▸ refl ▸ (omega arith, omega arith) ▸ (refl, omega arith) ▸ refl ▸ tt) ▸
+      (puts covers reflexive transitive [] (i ∷ []) ▸ (refl, omega arith) ▸ refl ▸ (omega arith, omega arith) ▸ (refl, omega arith) ▸ refl
+      ▸ tt) ▸
       (refl ▸ refl ▸ (refl, none_met 1) ▸ refl ▸ tt) ▸
       (refl ▸ (refl, λ l. refl) ▸ (refl, refl, omega arith, refuses covers reflexive transitive [] (i ∷ [])) ▸ tt) ▸
       ((refl, refl) ▸ (refl, refl, omega arith) ▸ tt ▸ tt) ▸ tt
@@ -130,12 +135,14 @@ module _ {I : Type 0} (covers : I → I → Bool) (reflexive : (i : I) → cover
   unfolding ends ends_of AllMay PhasesMay
   history_is_needed_may i j =
       (refl ▸ refl ▸ (refl, none_met 1) ▸ refl ▸ tt) ▸
-      (puts covers reflexive transitive [] (i ∷ []) ▸ (refl, omega arith) ▸ refl ▸ (omega arith, omega arith) ▸ (refl, omega arith) ▸ refl ▸ tt) ▸
+      (puts covers reflexive transitive [] (i ∷ []) ▸ (refl, omega arith) ▸ refl ▸ (omega arith, omega arith) ▸ (refl, omega arith) ▸ refl
+      ▸ tt) ▸
       (refl ▸ (refl, λ l. refl) ▸ (refl, refl, refl, omega arith, repeats covers reflexive transitive (i ∷ [])) ▸ tt) ▸
       ((refl, refl, refl) ▸ tt) ▸
       ((omega arith, is_server covers reflexive transitive 2 [] 0 (omega arith)) ▸ tt) ▸
       (refl ▸ refl ▸ (refl, none_met 2) ▸ refl ▸ tt) ▸
-      (puts covers reflexive transitive [] (j ∷ []) ▸ (refl, omega arith) ▸ refl ▸ (omega arith, omega arith) ▸ (refl, omega arith) ▸ refl ▸ tt) ▸
+      (puts covers reflexive transitive [] (j ∷ []) ▸ (refl, omega arith) ▸ refl ▸ (omega arith, omega arith) ▸ (refl, omega arith) ▸ refl
+      ▸ tt) ▸
       ((refl, omega arith) ▸ tt) ▸ tt
 
   pub history_is_needed : HistoryIsNeeded covers
@@ -164,7 +171,8 @@ module _ {I : Type 0} (covers : I → I → Bool) (reflexive : (i : I) → cover
   unfolding ends ends_of AllMay PhasesMay
   later_is_needed_may i =
       (refl ▸ refl ▸ (refl, none_met 1) ▸ refl ▸ tt) ▸
-      (puts covers reflexive transitive [] (i ∷ []) ▸ (refl, omega arith) ▸ refl ▸ (omega arith, omega arith) ▸ (refl, omega arith) ▸ refl ▸ tt) ▸
+      (puts covers reflexive transitive [] (i ∷ []) ▸ (refl, omega arith) ▸ refl ▸ (omega arith, omega arith) ▸ (refl, omega arith) ▸ refl
+      ▸ tt) ▸
       (refl ▸ (refl, λ l. refl) ▸ (refl, refl, refl, omega arith, repeats covers reflexive transitive (i ∷ [])) ▸ tt) ▸
       (refl ▸ refl ▸ (refl, none_met 1) ▸ refl ▸ tt) ▸
       ((refl, refl, refl) ▸ tt) ▸

@@ -4,8 +4,10 @@ use Rattle.fleet_rule.specs.Happens.{Event, after, May}
 use Rattle.fleet_rule.specs.Happens.Event.{AsksToMeet, IsMet, Meets, Refills, Loses}
 use Rattle.fleet_rule.specs.Example.{server_of, new_fleet}
 use Rattle.fleet_rule.specs.Covered.{uncovered}
-use Rattle.fleet_rule.specs.CarelessMeeting.{keeps_position, keeps_consumed, resends_nothing, meets_again, refills_again, PositionIsNeeded, ConsumedIsNeeded, SendingAgainIsNeeded, NewsIsNeeded, NeedIsNeeded}
-use Rattle.fleet_rule.proofs.RunLemmas.{◌▸◌, none_met, other_met, joining, publishing, reading, all_of, ends, ends_of, AllMay, PhasesMay, follow, puts, repeats, is_server}
+use Rattle.fleet_rule.specs.CarelessMeeting.{keeps_position, keeps_consumed, resends_nothing, meets_again, refills_again, PositionIsNeeded}
+use Rattle.fleet_rule.specs.CarelessMeeting.{ConsumedIsNeeded, SendingAgainIsNeeded, NewsIsNeeded, NeedIsNeeded}
+use Rattle.fleet_rule.proofs.RunLemmas.{◌▸◌, none_met, other_met, joining, publishing, reading, all_of, ends, ends_of, AllMay, PhasesMay}
+use Rattle.fleet_rule.proofs.RunLemmas.{follow, puts, repeats, is_server}
 
 module _ {I : Type 0} (covers : I → I → Bool) (reflexive : (i : I) → covers i i ≡ true)
     (transitive : (i j k : I) → covers i j ≡ true → covers j k ≡ true → covers i k ≡ true) where
@@ -21,7 +23,8 @@ module _ {I : Type 0} (covers : I → I → Bool) (reflexive : (i : I) → cover
   unfolding ends ends_of AllMay PhasesMay
   position_is_needed_may i j =
       (refl ▸ refl ▸ (refl, none_met 1) ▸ refl ▸ tt) ▸
-      (puts covers reflexive transitive [] (i ∷ []) ▸ (refl, omega arith) ▸ refl ▸ (omega arith, omega arith) ▸ (refl, omega arith) ▸ refl ▸ tt) ▸
+      (puts covers reflexive transitive [] (i ∷ []) ▸ (refl, omega arith) ▸ refl ▸ (omega arith, omega arith) ▸ (refl, omega arith) ▸ refl
+      ▸ tt) ▸
       (refl ▸ (refl, λ l. refl) ▸ (refl, refl, refl, omega arith, repeats covers reflexive transitive (i ∷ [])) ▸ tt) ▸
       ((omega arith, is_server covers reflexive transitive 2 (j ∷ []) 1 (omega arith)) ▸ tt) ▸
       (refl ▸ refl ▸ (refl, other_met 1 2 refl) ▸ refl ▸ tt) ▸ tt
@@ -55,7 +58,8 @@ module _ {I : Type 0} (covers : I → I → Bool) (reflexive : (i : I) → cover
   unfolding ends ends_of AllMay PhasesMay
   consumed_is_needed_may i =
       (refl ▸ refl ▸ (refl, none_met 1) ▸ refl ▸ tt) ▸
-      (puts covers reflexive transitive [] (i ∷ []) ▸ (refl, omega arith) ▸ refl ▸ (omega arith, omega arith) ▸ (refl, omega arith) ▸ refl ▸ tt) ▸
+      (puts covers reflexive transitive [] (i ∷ []) ▸ (refl, omega arith) ▸ refl ▸ (omega arith, omega arith) ▸ (refl, omega arith) ▸ refl
+      ▸ tt) ▸
       (refl ▸ (refl, λ l. refl) ▸ (refl, refl, refl, omega arith, repeats covers reflexive transitive (i ∷ [])) ▸ tt) ▸
       ((omega arith, is_server covers reflexive transitive 2 [] 0 (omega arith)) ▸ tt) ▸
       (refl ▸ refl ▸ (refl, other_met 1 2 refl) ▸ refl ▸ tt) ▸ tt
@@ -80,7 +84,8 @@ module _ {I : Type 0} (covers : I → I → Bool) (reflexive : (i : I) → cover
   unfolding ends ends_of AllMay PhasesMay
   sending_again_is_needed_may i =
       (refl ▸ refl ▸ (refl, none_met 1) ▸ tt) ▸
-      (puts covers reflexive transitive [] (i ∷ []) ▸ (refl, omega arith) ▸ refl ▸ (omega arith, omega arith) ▸ (refl, omega arith) ▸ refl ▸ tt) ▸
+      (puts covers reflexive transitive [] (i ∷ []) ▸ (refl, omega arith) ▸ refl ▸ (omega arith, omega arith) ▸ (refl, omega arith) ▸ refl
+      ▸ tt) ▸
       ((omega arith, is_server covers reflexive transitive 2 [] 0 (omega arith)) ▸ tt) ▸
       (refl ▸ refl ▸ (refl, other_met 1 2 refl) ▸ tt) ▸ tt
 
@@ -102,12 +107,14 @@ module _ {I : Type 0} (covers : I → I → Bool) (reflexive : (i : I) → cover
   unfolding ends ends_of AllMay PhasesMay
   news_is_needed_may i =
       (refl ▸ refl ▸ refl ▸ refl ▸ tt) ▸
-      (puts covers reflexive transitive [] (i ∷ []) ▸ (refl, omega arith) ▸ refl ▸ (omega arith, omega arith) ▸ (refl, omega arith) ▸ refl ▸ tt) ▸ tt
+      (puts covers reflexive transitive [] (i ∷ []) ▸ (refl, omega arith) ▸ refl ▸ (omega arith, omega arith) ▸ (refl, omega arith) ▸ refl
+      ▸ tt) ▸ tt
 
   abbrev news_is_needed_later : List (Event I)
   news_is_needed_later = joining 0 1
 
-  news_is_needed_later_may : (i : I) → PhasesMay (meets_again covers) (after covers) (ends_of (meets_again covers) (after covers) new_fleet (news_is_needed_run i)) (news_is_needed_later ∷ [])
+  news_is_needed_later_may : (i : I) → PhasesMay (meets_again covers) (after covers)
+      (ends_of (meets_again covers) (after covers) new_fleet (news_is_needed_run i)) (news_is_needed_later ∷ [])
   unfolding ends ends_of AllMay PhasesMay
   news_is_needed_later_may i = (refl ▸ refl ▸ refl ▸ refl ▸ tt) ▸ tt
 
@@ -120,9 +127,11 @@ module _ {I : Type 0} (covers : I → I → Bool) (reflexive : (i : I) → cover
     record {
       sent = record { met = refl; must_resend = refl; outbox = refl };
       answered = refl;
-      y = ends_of (meets_again covers) (after covers) (ends_of (meets_again covers) (after covers) new_fleet (news_is_needed_run i)) (news_is_needed_later ∷ []);
+      y = ends_of (meets_again covers) (after covers) (ends_of (meets_again covers) (after covers) new_fleet (news_is_needed_run i))
+          (news_is_needed_later ∷ []);
       later = all_of (news_is_needed_later ∷ []);
-      path = follow (meets_again covers) (after covers) (ends_of (meets_again covers) (after covers) new_fleet (news_is_needed_run i)) (news_is_needed_later ∷ []) (news_is_needed_later_may i);
+      path = follow (meets_again covers) (after covers) (ends_of (meets_again covers) (after covers) new_fleet (news_is_needed_run i))
+          (news_is_needed_later ∷ []) (news_is_needed_later_may i);
       unbroken = refl;
       unchanged = refl;
       outbox = refl;
@@ -138,12 +147,14 @@ module _ {I : Type 0} (covers : I → I → Bool) (reflexive : (i : I) → cover
   unfolding ends ends_of AllMay PhasesMay
   need_is_needed_may i =
       (refl ▸ refl ▸ (refl, none_met 1) ▸ tt ▸ tt) ▸
-      (puts covers reflexive transitive [] (i ∷ []) ▸ (refl, omega arith) ▸ refl ▸ (omega arith, omega arith) ▸ (refl, omega arith) ▸ refl ▸ tt) ▸ tt
+      (puts covers reflexive transitive [] (i ∷ []) ▸ (refl, omega arith) ▸ refl ▸ (omega arith, omega arith) ▸ (refl, omega arith) ▸ refl
+      ▸ tt) ▸ tt
 
   abbrev need_is_needed_later : List (Event I)
   need_is_needed_later = Refills 0 ∷ []
 
-  need_is_needed_later_may : (i : I) → PhasesMay (refills_again covers) (after covers) (ends_of (refills_again covers) (after covers) new_fleet (need_is_needed_run i)) (need_is_needed_later ∷ [])
+  need_is_needed_later_may : (i : I) → PhasesMay (refills_again covers) (after covers)
+      (ends_of (refills_again covers) (after covers) new_fleet (need_is_needed_run i)) (need_is_needed_later ∷ [])
   unfolding ends ends_of AllMay PhasesMay
   need_is_needed_later_may i = (tt ▸ tt) ▸ tt
 
@@ -156,9 +167,11 @@ module _ {I : Type 0} (covers : I → I → Bool) (reflexive : (i : I) → cover
     record {
       sent = record { met = refl; must_resend = refl; outbox = refl };
       answered = refl;
-      y = ends_of (refills_again covers) (after covers) (ends_of (refills_again covers) (after covers) new_fleet (need_is_needed_run i)) (need_is_needed_later ∷ []);
+      y = ends_of (refills_again covers) (after covers) (ends_of (refills_again covers) (after covers) new_fleet (need_is_needed_run i))
+          (need_is_needed_later ∷ []);
       later = all_of (need_is_needed_later ∷ []);
-      path = follow (refills_again covers) (after covers) (ends_of (refills_again covers) (after covers) new_fleet (need_is_needed_run i)) (need_is_needed_later ∷ []) (need_is_needed_later_may i);
+      path = follow (refills_again covers) (after covers) (ends_of (refills_again covers) (after covers) new_fleet (need_is_needed_run i))
+          (need_is_needed_later ∷ []) (need_is_needed_later_may i);
       unbroken = refl;
       unchanged = refl;
       outbox = refl;

@@ -3,8 +3,10 @@ use Rattle.std.proofs.Common.{◌≡◌, Bool, true, List, [], ◌∷◌, refl, 
 use Rattle.fleet_rule.specs.Happens.{Event, after, May}
 use Rattle.fleet_rule.specs.Happens.Event.{Changes, AsksToAdd, AsksToRead, IsAdded, IsRead, Consumes, Rereads, Loses}
 use Rattle.fleet_rule.specs.Example.{server_of, new_fleet}
-use Rattle.fleet_rule.specs.CarelessReading.{consumes_old, consumes_elsewhere, consumes_past_gap, forgets_dropping, SameHistoryIsNeeded, SamePositionIsNeeded, GapIsNeeded, NotingIsNeeded}
-use Rattle.fleet_rule.proofs.RunLemmas.{◌▸◌, none_met, other_met, joining, publishing, reading, dropping_all, compacting, all_of, ends, ends_of, AllMay, PhasesMay, follow, puts, repeats, refuses, is_server}
+use Rattle.fleet_rule.specs.CarelessReading.{consumes_old, consumes_elsewhere, consumes_past_gap, forgets_dropping, SameHistoryIsNeeded}
+use Rattle.fleet_rule.specs.CarelessReading.{SamePositionIsNeeded, GapIsNeeded, NotingIsNeeded}
+use Rattle.fleet_rule.proofs.RunLemmas.{◌▸◌, none_met, other_met, joining, publishing, reading, dropping_all, compacting, all_of, ends}
+use Rattle.fleet_rule.proofs.RunLemmas.{ends_of, AllMay, PhasesMay, follow, puts, repeats, refuses, is_server}
 
 module _ {I : Type 0} (covers : I → I → Bool) (reflexive : (i : I) → covers i i ≡ true)
     (transitive : (i j k : I) → covers i j ≡ true → covers j k ≡ true → covers i k ≡ true) where
@@ -24,12 +26,14 @@ module _ {I : Type 0} (covers : I → I → Bool) (reflexive : (i : I) → cover
   unfolding ends ends_of AllMay PhasesMay
   same_history_is_needed_may i j =
       (refl ▸ refl ▸ (refl, none_met 1) ▸ refl ▸ tt) ▸
-      (puts covers reflexive transitive [] (i ∷ []) ▸ (refl, omega arith) ▸ refl ▸ (omega arith, omega arith) ▸ (refl, omega arith) ▸ refl ▸ tt) ▸
+      (puts covers reflexive transitive [] (i ∷ []) ▸ (refl, omega arith) ▸ refl ▸ (omega arith, omega arith) ▸ (refl, omega arith) ▸ refl
+      ▸ tt) ▸
       (refl ▸ refl ▸ (refl, none_met 1) ▸ refl ▸ tt) ▸
       (refl ▸ (refl, λ l. refl) ▸ tt) ▸
       ((omega arith, is_server covers reflexive transitive 2 [] 0 (omega arith)) ▸ tt) ▸
       (refl ▸ refl ▸ (refl, none_met 2) ▸ refl ▸ tt) ▸
-      (puts covers reflexive transitive [] (j ∷ []) ▸ (refl, omega arith) ▸ refl ▸ (omega arith, omega arith) ▸ (refl, omega arith) ▸ refl ▸ tt) ▸
+      (puts covers reflexive transitive [] (j ∷ []) ▸ (refl, omega arith) ▸ refl ▸ (omega arith, omega arith) ▸ (refl, omega arith) ▸ refl
+      ▸ tt) ▸
       (refl ▸ refl ▸ (refl, other_met 1 2 refl) ▸ refl ▸ tt) ▸
       ((refl, refl, omega arith, puts covers reflexive transitive [] (i ∷ [])) ▸ tt) ▸ tt
 
@@ -54,7 +58,8 @@ module _ {I : Type 0} (covers : I → I → Bool) (reflexive : (i : I) → cover
   unfolding ends ends_of AllMay PhasesMay
   same_position_is_needed_may i =
       (refl ▸ refl ▸ (refl, none_met 1) ▸ refl ▸ tt) ▸
-      (puts covers reflexive transitive [] (i ∷ []) ▸ (refl, omega arith) ▸ refl ▸ (omega arith, omega arith) ▸ (refl, omega arith) ▸ refl ▸ tt) ▸
+      (puts covers reflexive transitive [] (i ∷ []) ▸ (refl, omega arith) ▸ refl ▸ (omega arith, omega arith) ▸ (refl, omega arith) ▸ refl
+      ▸ tt) ▸
       (refl ▸ refl ▸ (refl, none_met 1) ▸ refl ▸ tt) ▸
       (refl ▸ (refl, λ l. refl) ▸ (refl, refl, omega arith, refuses covers reflexive transitive [] (i ∷ [])) ▸ tt) ▸
       (refl ▸ (refl, λ l. refl) ▸ tt ▸ (refl, refl, omega arith, puts covers reflexive transitive [] []) ▸ tt) ▸ tt
@@ -83,7 +88,8 @@ module _ {I : Type 0} (covers : I → I → Bool) (reflexive : (i : I) → cover
   unfolding ends ends_of AllMay PhasesMay
   gap_is_needed_may i j =
       (refl ▸ refl ▸ (refl, none_met 1) ▸ refl ▸ tt) ▸
-      (puts covers reflexive transitive [] (i ∷ []) ▸ (refl, omega arith) ▸ refl ▸ (omega arith, omega arith) ▸ (refl, omega arith) ▸ refl ▸ tt) ▸
+      (puts covers reflexive transitive [] (i ∷ []) ▸ (refl, omega arith) ▸ refl ▸ (omega arith, omega arith) ▸ (refl, omega arith) ▸ refl
+      ▸ tt) ▸
       (refl ▸ (refl, λ l. refl) ▸ (refl, refl, refl, repeats covers reflexive transitive (i ∷ [])) ▸ tt) ▸
       ((refl, refl, refl) ▸ (refl, refl, omega arith) ▸ tt ▸ tt) ▸
       (puts covers reflexive transitive (i ∷ []) (j ∷ []) ▸ (refl, omega arith) ▸ refl ▸ tt) ▸
@@ -111,7 +117,8 @@ module _ {I : Type 0} (covers : I → I → Bool) (reflexive : (i : I) → cover
   unfolding ends ends_of AllMay PhasesMay
   noting_is_needed_may i =
       (refl ▸ refl ▸ (refl, none_met 1) ▸ refl ▸ tt) ▸
-      (puts covers reflexive transitive [] (i ∷ []) ▸ (refl, omega arith) ▸ refl ▸ (omega arith, omega arith) ▸ (refl, omega arith) ▸ refl ▸ tt) ▸
+      (puts covers reflexive transitive [] (i ∷ []) ▸ (refl, omega arith) ▸ refl ▸ (omega arith, omega arith) ▸ (refl, omega arith) ▸ refl
+      ▸ tt) ▸
       (refl ▸ refl ▸ (refl, none_met 1) ▸ refl ▸ tt) ▸
       (refl ▸ (refl, λ l. refl) ▸ (refl, refl, omega arith, refuses covers reflexive transitive [] (i ∷ [])) ▸ tt) ▸ tt
 

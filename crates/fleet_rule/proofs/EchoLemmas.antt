@@ -1,17 +1,20 @@
 -- Nothing is echoed.
-use Rattle.std.proofs.Common.{◌≡◌, ◌+◌, ◌==◌, cond, ℕ, Bool, true, false, List, [], ◌∷◌, ◌++◌, length, take, Some, refl, sym, ap, ◌∙◌, subst, inl, inr, append_assoc}
+use Rattle.std.proofs.Common.{◌≡◌, ◌+◌, ◌==◌, cond, ℕ, Bool, true, false, List, [], ◌∷◌, ◌++◌, length, take, Some, refl, sym, ap, ◌∙◌}
+use Rattle.std.proofs.Common.{subst, inl, inr, append_assoc}
 use Rattle.std.specs.List.{Contains, list_any}
 use Rattle.std.proofs.lemmas.Bool.{eq-eqb, or_parts}
 use Rattle.std.proofs.lemmas.List.Elements.{Contains-append_left, Contains-append_right, Contains-append_cases}
 use Rattle.fleet_rule.specs.Covered.{ArePart}
-use Rattle.fleet_rule.specs.Bridge.{Bridge, changed, sending, acknowledged, meeting, consuming, dropping, rereading, refilled, folded, doubting}
+use Rattle.fleet_rule.specs.Bridge.{Bridge, changed, sending, acknowledged, meeting, consuming, dropping, rereading, refilled, folded}
+use Rattle.fleet_rule.specs.Bridge.{doubting}
 use Rattle.fleet_rule.specs.Fleet.{Producer, Consumer, Host, Fleet, new_host, placed}
 use Rattle.fleet_rule.specs.Fleet.Producer.{Idle, Meeting, Adding, Fetching, Compacting, Replicating, Met, Acknowledged, Fetched}
 use Rattle.fleet_rule.specs.Fleet.Consumer.{Paused, Reading, Read}
 use Rattle.fleet_rule.specs.Happens.{Event, after, May, HappenAll, bridge_at, with_producer, with_consumer, cut_off}
 use Rattle.fleet_rule.specs.Happens.Event.{Changes, AsksToMeet, AsksToAdd, AsksToFetch, AsksToCompact, AsksToRead}
 use Rattle.fleet_rule.specs.Happens.Event.{IsMet, IsAdded, IsReplicated, IsFetched, IsCompacted, IsOnlyAdded, IsRead}
-use Rattle.fleet_rule.specs.Happens.Event.{Meets, GetsAcknowledged, TakesSnapshot, TakesPart, Consumes, ConsumesPart, Ignores, IgnoresReading}
+use Rattle.fleet_rule.specs.Happens.Event.{Meets, GetsAcknowledged, TakesSnapshot, TakesPart, Consumes, ConsumesPart, Ignores}
+use Rattle.fleet_rule.specs.Happens.Event.{IgnoresReading}
 use Rattle.fleet_rule.specs.Happens.Event.{Rereads, Refills, Folds, Doubts, Disconnects, Crashes, Replicates, FailsOver, Loses}
 use Rattle.fleet_rule.specs.Laws.{breaks, change_at, changes_of, NothingIsEchoed}
 use Rattle.fleet_rule.proofs.CoverLemmas.{part_left, part_drop}
@@ -59,7 +62,8 @@ module _ {I : Type 0} (covers : I → I → Bool) (reflexive : (i : I) → cover
     pub bridge : SameBut (bridge_at x k) (bridge_at w k) more
 
   -- The outbox is no longer than it was.
-  same_outbox : (w : Fleet I) (j k : ℕ) (host : Host I) → host.bridge.met ≡ (bridge_at w j).met → host.bridge.must_resend ≡ (bridge_at w j).must_resend →
+  same_outbox : (w : Fleet I) (j k : ℕ) (host : Host I) → host.bridge.met ≡ (bridge_at w j).met →
+      host.bridge.must_resend ≡ (bridge_at w j).must_resend →
       host.bridge.outbox ≡ (bridge_at w j).outbox → SameBut (placed j host w.hosts k).bridge (bridge_at w k) []
   same_outbox w j k host e f g =
       moved w j k host
@@ -70,10 +74,12 @@ module _ {I : Type 0} (covers : I → I → Bool) (reflexive : (i : I) → cover
       })
 
   -- It met this server, and the answer to a meeting is of it, too: the bridge ignores it.
-  pub no_meeting : (w : Fleet I) (j q k : ℕ) → IsKept covers w → (bridge_at w k).met ≡ Some w.server.history → k ≡ j → May covers w (Meets j q) → ⊥
+  pub no_meeting : (w : Fleet I) (j q k : ℕ) → IsKept covers w → (bridge_at w k).met ≡ Some w.server.history → k ≡ j →
+      May covers w (Meets j q) → ⊥
   no_meeting w j q k h a e m =
       let at : (bridge_at w j).met ≡ Some w.server.history = subst (λ (z : ℕ). (bridge_at w z).met ≡ Some w.server.history) e a in
-      let t : ProducerIs covers w.server (bridge_at w j) (Met q) = subst (λ (l : Producer I). ProducerIs covers w.server (bridge_at w j) l) m.0 (h.hosts j).producer in
+      let t : ProducerIs covers w.server (bridge_at w j) (Met q) =
+      subst (λ (l : Producer I). ProducerIs covers w.server (bridge_at w j) l) m.0 (h.hosts j).producer in
       m.1 (at ∙ ap (λ (z : ℕ). Some z) (sym (t.1 at)))
 
   quiet_change : (w : Fleet I) (j k : ℕ) (i : I) (held : List I) →
@@ -105,7 +111,8 @@ module _ {I : Type 0} (covers : I → I → Bool) (reflexive : (i : I) → cover
       let b = bridge_at w j in
       let new = record (w.hosts j) { bridge = sending b (length b.outbox); producer = Compacting b.met b.position b.held b.outbox } in
       record { history = refl; bridge = same_outbox w j k new refl refl refl }
-  quiet_step w (AsksToRead j) k h m n a o = record { history = refl; bridge = on_consumer w j k (Reading (bridge_at w j).met (bridge_at w j).position) }
+  quiet_step w (AsksToRead j) k h m n a o = record
+      { history = refl; bridge = on_consumer w j k (Reading (bridge_at w j).met (bridge_at w j).position) }
   quiet_step w (IsMet j) k h m n a o = record { history = refl; bridge = on_producer w j k (Met w.server.history) }
   quiet_step w (IsAdded j items) k h m n a o =
       record { history = refl; bridge = on_producer w j k (Replicating w.server.history (length (w.server.log ++ items))) }
@@ -151,18 +158,22 @@ module _ {I : Type 0} (covers : I → I → Bool) (reflexive : (i : I) → cover
       }
   quiet_step w (Folds j) k h m n a o =
       let new = record (w.hosts j) { bridge = folded (bridge_at w j) } in
-      record { history = refl; bridge = not_moved w j k new (λ e. true_is_false (sym (eq-eqb j k (sym e)) ∙ (or_parts (j == k) false n).0)) }
+      record
+      { history = refl; bridge = not_moved w j k new (λ e. true_is_false (sym (eq-eqb j k (sym e)) ∙ (or_parts (j == k) false n).0)) }
   quiet_step w (Doubts j) k h m n a o =
       let new = record (w.hosts j) { bridge = doubting (bridge_at w j) } in
-      record { history = refl; bridge = not_moved w j k new (λ e. true_is_false (sym (eq-eqb j k (sym e)) ∙ (or_parts (j == k) false n).0)) }
+      record
+      { history = refl; bridge = not_moved w j k new (λ e. true_is_false (sym (eq-eqb j k (sym e)) ∙ (or_parts (j == k) false n).0)) }
   quiet_step w (Disconnects j) k h m n a o = record { history = refl; bridge = same_outbox w j k (cut_off (w.hosts j)) refl refl refl }
   quiet_step w (Crashes j) k h m n a o =
-      record { history = refl; bridge = not_moved w j k new_host (λ e. true_is_false (sym (eq-eqb j k (sym e)) ∙ (or_parts (j == k) false n).0)) }
+      record
+      { history = refl; bridge = not_moved w j k new_host (λ e. true_is_false (sym (eq-eqb j k (sym e)) ∙ (or_parts (j == k) false n).0)) }
   quiet_step w (Replicates p) k h m n a o = record { history = refl; bridge = same (bridge_at w k) }
   quiet_step w (FailsOver s) k h m n a o = true_is_false n
   quiet_step w (Loses s) k h m n a o = true_is_false n
 
-  quiet_all : (x y : Fleet I) (later : List (Event I)) (k : ℕ) → IsKept covers x → HappenAll covers x later y → list_any (breaks k) later ≡ false →
+  quiet_all : (x y : Fleet I) (later : List (Event I)) (k : ℕ) → IsKept covers x → HappenAll covers x later y →
+      list_any (breaks k) later ≡ false →
       (bridge_at x k).met ≡ Some x.server.history → (bridge_at x k).must_resend ≡ false →
       ArePart (bridge_at y k).outbox ((bridge_at x k).outbox ++ changes_of k later)
   quiet_all x y [] k h path n a o =
@@ -179,7 +190,8 @@ module _ {I : Type 0} (covers : I → I → Bool) (reflexive : (i : I) → cover
       λ i q. elim (Contains-append_cases (bridge_at u k).outbox (changes_of k es) i (rest i q)) [
         | inl s ↦ subst (λ (l : List I). Contains l i) (append_assoc (bridge_at x k).outbox (change_at k e) (changes_of k es))
             (Contains-append_left ((bridge_at x k).outbox ++ change_at k e) (changes_of k es) i (one.bridge.outbox i s))
-        | inr s ↦ Contains-append_right (bridge_at x k).outbox (change_at k e ++ changes_of k es) i (Contains-append_right (change_at k e) (changes_of k es) i s)
+        | inr s ↦ Contains-append_right (bridge_at x k).outbox (change_at k e ++ changes_of k es) i
+            (Contains-append_right (change_at k e) (changes_of k es) i s)
       ]
 
   pub nothing_is_echoed : NothingIsEchoed covers

@@ -1,10 +1,12 @@
 -- Runs in which a change reaches another bridge, by the log, by a snapshot, and after a loss.
 use Rattle.std.proofs.Common.{◌≡◌, Bool, true, List, [], ◌∷◌, refl, arith}
 use Rattle.fleet_rule.specs.Happens.{Event, after, May, bridge_at}
-use Rattle.fleet_rule.specs.Happens.Event.{AsksToAdd, AsksToFetch, IsAdded, IsReplicated, IsFetched, GetsAcknowledged, TakesSnapshot, Replicates, Loses}
+use Rattle.fleet_rule.specs.Happens.Event.{AsksToAdd, AsksToFetch, IsAdded, IsReplicated, IsFetched, GetsAcknowledged, TakesSnapshot}
+use Rattle.fleet_rule.specs.Happens.Event.{Replicates, Loses}
 use Rattle.fleet_rule.specs.Example.{CanEnd, server_of, new_fleet, ChangesCome, SnapshotsCome, LostIsSentAgain}
 use Rattle.fleet_rule.specs.Laws.{HasRead, HasSent}
-use Rattle.fleet_rule.proofs.RunLemmas.{◌▸◌, none_met, other_met, joining, publishing, reading, compacting, all_of, ends, ends_of, AllMay, PhasesMay, follow, puts, repeats, is_server}
+use Rattle.fleet_rule.proofs.RunLemmas.{◌▸◌, none_met, other_met, joining, publishing, reading, compacting, all_of, ends, ends_of, AllMay}
+use Rattle.fleet_rule.proofs.RunLemmas.{PhasesMay, follow, puts, repeats, is_server}
 
 module _ {I : Type 0} (covers : I → I → Bool) (reflexive : (i : I) → covers i i ≡ true)
     (transitive : (i j k : I) → covers i j ≡ true → covers j k ≡ true → covers i k ≡ true) where
@@ -19,7 +21,8 @@ module _ {I : Type 0} (covers : I → I → Bool) (reflexive : (i : I) → cover
   unfolding ends ends_of AllMay PhasesMay
   comes_may i =
       (refl ▸ refl ▸ (refl, none_met 1) ▸ refl ▸ tt) ▸
-      (puts covers reflexive transitive [] (i ∷ []) ▸ (refl, omega arith) ▸ refl ▸ (omega arith, omega arith) ▸ (refl, omega arith) ▸ refl ▸ tt) ▸
+      (puts covers reflexive transitive [] (i ∷ []) ▸ (refl, omega arith) ▸ refl ▸ (omega arith, omega arith) ▸ (refl, omega arith) ▸ refl
+      ▸ tt) ▸
       (refl ▸ refl ▸ (refl, none_met 1) ▸ refl ▸ tt) ▸
       (refl ▸ (refl, λ l. refl) ▸ (refl, refl, refl, omega arith, puts covers reflexive transitive [] (i ∷ [])) ▸ tt) ▸ tt
 
@@ -55,7 +58,8 @@ module _ {I : Type 0} (covers : I → I → Bool) (reflexive : (i : I) → cover
   unfolding ends ends_of AllMay PhasesMay
   snapshots_come_may i =
       (refl ▸ refl ▸ (refl, none_met 1) ▸ refl ▸ tt) ▸
-      (puts covers reflexive transitive [] (i ∷ []) ▸ (refl, omega arith) ▸ refl ▸ (omega arith, omega arith) ▸ (refl, omega arith) ▸ refl ▸ tt) ▸
+      (puts covers reflexive transitive [] (i ∷ []) ▸ (refl, omega arith) ▸ refl ▸ (omega arith, omega arith) ▸ (refl, omega arith) ▸ refl
+      ▸ tt) ▸
       (refl ▸ (refl, λ l. refl) ▸ (refl, refl, refl, omega arith, repeats covers reflexive transitive (i ∷ [])) ▸ tt) ▸
       ((refl, refl, refl) ▸ (refl, refl, omega arith) ▸ tt ▸ tt) ▸
       (refl ▸ refl ▸ (refl, none_met 1) ▸ refl ▸ tt) ▸
@@ -87,7 +91,8 @@ module _ {I : Type 0} (covers : I → I → Bool) (reflexive : (i : I) → cover
   unfolding ends ends_of AllMay PhasesMay
   lost_is_sent_again_may i =
       (refl ▸ refl ▸ (refl, none_met 1) ▸ refl ▸ tt) ▸
-      (puts covers reflexive transitive [] (i ∷ []) ▸ (refl, omega arith) ▸ refl ▸ (omega arith, omega arith) ▸ (refl, omega arith) ▸ refl ▸ tt) ▸
+      (puts covers reflexive transitive [] (i ∷ []) ▸ (refl, omega arith) ▸ refl ▸ (omega arith, omega arith) ▸ (refl, omega arith) ▸ refl
+      ▸ tt) ▸
       ((omega arith, is_server covers reflexive transitive 2 [] 0 (omega arith)) ▸ tt) ▸
       (refl ▸ refl ▸ (refl, other_met 1 2 refl) ▸ refl ▸ tt) ▸
       ((refl, omega arith) ▸ refl ▸ (omega arith, omega arith) ▸ (refl, omega arith) ▸ refl ▸ tt) ▸ tt

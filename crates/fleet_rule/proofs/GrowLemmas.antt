@@ -1,5 +1,6 @@
 -- What is known of a host stays known while its server grows, and is forgotten once another server replaces it.
-use Rattle.std.proofs.Common.{◌≡◌, ◌<◌, ◌≤◌, ℕ, Bool, true, List, ◌++◌, length, take, Option, Some, None, sym, ap, ◌∙◌, subst, append_assoc, arith}
+use Rattle.std.proofs.Common.{◌≡◌, ◌<◌, ◌≤◌, ℕ, Bool, true, List, ◌++◌, length, take, Option, Some, None, sym, ap, ◌∙◌, subst, append_assoc}
+use Rattle.std.proofs.Common.{arith}
 use Rattle.std.specs.List.{Contains}
 use Rattle.std.proofs.lemmas.List.{take-append-le, length-append}
 use Rattle.fleet_rule.specs.Covered.{ArePart, Covers}
@@ -11,7 +12,8 @@ use Rattle.fleet_rule.specs.Fleet.Consumer.{Paused, Reading, Read}
 use Rattle.fleet_rule.specs.Happens.{cut_off}
 use Rattle.fleet_rule.proofs.CoverLemmas.{part_left, part_takes}
 use Rattle.fleet_rule.proofs.CoverLemmas as cover
-use Rattle.fleet_rule.proofs.Kept.{IsUpTo, Tracks, IsSnapshot, AreBoth, IsThere, IsPiece, in_flight_of, ProducerIs, ConsumerIs, IsHost, Grows}
+use Rattle.fleet_rule.proofs.Kept.{IsUpTo, Tracks, IsSnapshot, AreBoth, IsThere, IsPiece, in_flight_of, ProducerIs, ConsumerIs, IsHost}
+use Rattle.fleet_rule.proofs.Kept.{Grows}
 
 pub up_to-le : (o : Option ℕ) (n m : ℕ) → n ≤ m → IsUpTo o n → IsUpTo o m
 up_to-le None n m l h = tt
@@ -54,7 +56,8 @@ module _ {I : Type 0} (covers : I → I → Bool) (reflexive : (i : I) → cover
         nothing_else = cover.in_more covers reflexive transitive s.log t.log items (grown_part s t g) h.nothing_else;
       }
 
-  grown_both : (s t : Server I) (p : ℕ) (snapshot items : List I) → Grows covers s t → AreBoth covers s p snapshot items → AreBoth covers t p snapshot items
+  grown_both : (s t : Server I) (p : ℕ) (snapshot items : List I) → Grows covers s t → AreBoth covers s p snapshot items →
+      AreBoth covers t p snapshot items
   grown_both s t p snapshot items g h =
       record {
         end = grown_length s t g p h.end;
@@ -80,11 +83,14 @@ module _ {I : Type 0} (covers : I → I → Bool) (reflexive : (i : I) → cover
       }
 
   -- What the replicas have grows, too.
-  grown_replicated : (s t : Server I) → Grows covers s t → s.replicated ≤ length s.log → ArePart (take s.replicated s.log) (take t.replicated t.log)
+  grown_replicated : (s t : Server I) → Grows covers s t → s.replicated ≤ length s.log →
+      ArePart (take s.replicated s.log) (take t.replicated t.log)
   grown_replicated s t g l i h =
-      part_takes s.replicated t.replicated t.log g.replicated i (subst (λ (xs : List I). Contains xs i) (sym (grown_take s t g s.replicated l)) h)
+      part_takes s.replicated t.replicated t.log g.replicated i
+      (subst (λ (xs : List I). Contains xs i) (sym (grown_take s t g s.replicated l)) h)
 
-  grown_producer : (s t : Server I) (b : Bridge I) (l : Producer I) → Grows covers s t → s.replicated ≤ length s.log → ProducerIs covers s b l → ProducerIs covers t b l
+  grown_producer : (s t : Server I) (b : Bridge I) (l : Producer I) → Grows covers s t → s.replicated ≤ length s.log →
+      ProducerIs covers s b l → ProducerIs covers t b l
   grown_producer s t b Idle g k h = tt
   grown_producer s t b Meeting g k h = tt
   grown_producer s t b (Adding items) g k h = h
@@ -104,7 +110,8 @@ module _ {I : Type 0} (covers : I → I → Bool) (reflexive : (i : I) → cover
   grown_producer s t b (Acknowledged n) g k h = (
     let e = g.history in omega arith,
     λ e. h.1 (e ∙ some s.history t.history g.history) ∙ sym g.history,
-    λ e. cover.in_more covers reflexive transitive (take s.replicated s.log) (take t.replicated t.log) (in_flight_of b) (grown_replicated s t g k) (h.2 (e ∙ g.history)),
+    λ e. cover.in_more covers reflexive transitive (take s.replicated s.log) (take t.replicated t.log) (in_flight_of b)
+        (grown_replicated s t g k) (h.2 (e ∙ g.history)),
   )
   grown_producer s t b (Fetched p items) g k h = λ e. grown_snapshot s t p items g (h (e ∙ some s.history t.history g.history))
 
@@ -119,7 +126,8 @@ module _ {I : Type 0} (covers : I → I → Bool) (reflexive : (i : I) → cover
     λ e l. grown_piece s t p items g (h.1 (e ∙ some s.history t.history g.history) l),
   )
 
-  pub grown_host : (s t : Server I) (host : Host I) → Grows covers s t → s.replicated ≤ length s.log → IsHost covers s host → IsHost covers t host
+  pub grown_host : (s t : Server I) (host : Host I) → Grows covers s t → s.replicated ≤ length s.log → IsHost covers s host →
+      IsHost covers t host
   grown_host s t host g k h =
       record {
         in_flight = h.in_flight;
@@ -130,22 +138,27 @@ module _ {I : Type 0} (covers : I → I → Bool) (reflexive : (i : I) → cover
       }
 
   -- ---- another server
-  other_producer : (s t : Server I) (b : Bridge I) (l : Producer I) → s.history < t.history → IsUpTo b.met s.history → ProducerIs covers s b l → ProducerIs covers t b l
+  other_producer : (s t : Server I) (b : Bridge I) (l : Producer I) → s.history < t.history → IsUpTo b.met s.history →
+      ProducerIs covers s b l → ProducerIs covers t b l
   other_producer s t b Idle g u h = tt
   other_producer s t b Meeting g u h = tt
   other_producer s t b (Adding items) g u h = h
   other_producer s t b Fetching g u h = tt
   other_producer s t b (Compacting m p snapshot items) g u h =
       (h.0, up_to-le m s.history t.history (omega arith) h.1, λ e. absurd (not_met m s.history t.history g h.1 e))
-  other_producer s t b (Replicating n p) g u h = let l = h.0 in (omega arith, λ e. absurd (not_met b.met s.history t.history g u e), λ e. absurd (omega arith))
+  other_producer s t b (Replicating n p) g u h = let l = h.0 in
+      (omega arith, λ e. absurd (not_met b.met s.history t.history g u e), λ e. absurd (omega arith))
   other_producer s t b (Met n) g u h = let l = h.0 in (omega arith, λ e. absurd (not_met b.met s.history t.history g u e))
-  other_producer s t b (Acknowledged n) g u h = let l = h.0 in (omega arith, λ e. absurd (not_met b.met s.history t.history g u e), λ e. absurd (omega arith))
+  other_producer s t b (Acknowledged n) g u h = let l = h.0 in
+      (omega arith, λ e. absurd (not_met b.met s.history t.history g u e), λ e. absurd (omega arith))
   other_producer s t b (Fetched p items) g u h = λ e. absurd (not_met b.met s.history t.history g u e)
 
   other_consumer : (s t : Server I) (l : Consumer I) → s.history < t.history → ConsumerIs covers s l → ConsumerIs covers t l
   other_consumer s t Paused g h = tt
-  other_consumer s t (Reading m p) g h = (up_to-le m s.history t.history (omega arith) h.0, λ e. absurd (not_met m s.history t.history g h.0 e))
-  other_consumer s t (Read m p end items) g h = (up_to-le m s.history t.history (omega arith) h.0, λ e. absurd (not_met m s.history t.history g h.0 e))
+  other_consumer s t (Reading m p) g h =
+      (up_to-le m s.history t.history (omega arith) h.0, λ e. absurd (not_met m s.history t.history g h.0 e))
+  other_consumer s t (Read m p end items) g h =
+      (up_to-le m s.history t.history (omega arith) h.0, λ e. absurd (not_met m s.history t.history g h.0 e))
 
   pub other_host : (s t : Server I) (host : Host I) → s.history < t.history → IsHost covers s host → IsHost covers t host
   other_host s t host g h =

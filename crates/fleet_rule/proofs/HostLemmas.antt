@@ -1,11 +1,13 @@
 -- What is known of a host after its bridge's own events.
-use Rattle.std.proofs.Common.{◌≡◌, ◌≤◌, ◌+◌, ◌==◌, cond, ℕ, Bool, true, false, List, [], ◌∷◌, ◌++◌, length, take, drop, Option, Some, None, refl, sym, ap, ◌∙◌, subst, append_assoc, arith}
+use Rattle.std.proofs.Common.{◌≡◌, ◌≤◌, ◌+◌, ◌==◌, cond, ℕ, Bool, true, false, List, [], ◌∷◌, ◌++◌, length, take, drop, Option, Some, None}
+use Rattle.std.proofs.Common.{refl, sym, ap, ◌∙◌, subst, append_assoc, arith}
 use Rattle.std.specs.List.{Contains}
 use Rattle.std.proofs.lemmas.List.{take-append-drop, take-append-le, take_at, length-append}
 use Rattle.ds_entry.proofs.Members.{Contains-nil}
 use Rattle.fleet_rule.specs.Covered.{JoinsPart, ArePart, Covers, Joins, uncovered}
 use Rattle.fleet_rule.specs.Server.{Server, IsServer}
-use Rattle.fleet_rule.specs.Bridge.{Bridge, changed, sending, acknowledged, meeting, consuming, dropping, rereading, refilled, folded, doubting}
+use Rattle.fleet_rule.specs.Bridge.{Bridge, changed, sending, acknowledged, meeting, consuming, dropping, rereading, refilled, folded}
+use Rattle.fleet_rule.specs.Bridge.{doubting}
 use Rattle.fleet_rule.specs.Fleet.{Producer, Consumer, Host, Fleet, new_host, placed, with_host}
 use Rattle.fleet_rule.specs.Fleet.Producer.{Idle, Meeting, Adding, Fetching, Compacting, Replicating, Met, Acknowledged, Fetched}
 use Rattle.fleet_rule.specs.Fleet.Consumer.{Paused, Read}
@@ -52,7 +54,8 @@ module _ {I : Type 0} (covers : I → I → Bool) (reflexive : (i : I) → cover
     λ m. h.1 (f ∙ m),
     λ m.
         (let t = h.2 m in
-        record { end = t.end; there = cover.of_part covers reflexive transitive (in_flight_of c) (in_flight_of b) (take q s.log) p t.there }),
+        record
+        { end = t.end; there = cover.of_part covers reflexive transitive (in_flight_of c) (in_flight_of b) (take q s.log) p t.there }),
   )
   producer_as s b c (Met n) p f h = (h.0, λ m. h.1 (f ∙ m))
   producer_as s b c (Acknowledged n) p f h = (
@@ -67,13 +70,15 @@ module _ {I : Type 0} (covers : I → I → Bool) (reflexive : (i : I) → cover
   producer_same s b c l e f h = producer_as s b c l (part_same (in_flight_of c) (in_flight_of b) e) f h
 
   -- What is known of the question or answer that is under way.
-  pub at_producer : (s : Server I) (host : Host I) (l : Producer I) → IsHost covers s host → host.producer ≡ l → ProducerIs covers s host.bridge l
+  pub at_producer : (s : Server I) (host : Host I) (l : Producer I) → IsHost covers s host → host.producer ≡ l →
+      ProducerIs covers s host.bridge l
   at_producer s host l h e = subst (λ (x : Producer I). ProducerIs covers s host.bridge x) e h.producer
 
   pub at_consumer : (s : Server I) (host : Host I) (l : Consumer I) → IsHost covers s host → host.consumer ≡ l → ConsumerIs covers s l
   at_consumer s host l h e = subst (λ (x : Consumer I). ConsumerIs covers s x) e h.consumer
 
-  pub change_host : (s : Server I) (host : Host I) (i : I) (held : List I) → IsHost covers s host → Joins covers held host.bridge.held (i ∷ []) →
+  pub change_host : (s : Server I) (host : Host I) (i : I) (held : List I) → IsHost covers s host →
+      Joins covers held host.bridge.held (i ∷ []) →
       IsHost covers s (record host { bridge = changed host.bridge i held })
   change_host s host i held h j =
       let b = host.bridge in
@@ -85,15 +90,18 @@ module _ {I : Type 0} (covers : I → I → Bool) (reflexive : (i : I) → cover
             record {
               accounted = λ o. cover.joined_under covers reflexive transitive held b.held (i ∷ []) (s.log ++ (b.outbox ++ i ∷ [])) j
                   (cover.in_more covers reflexive transitive (s.log ++ b.outbox) (s.log ++ (b.outbox ++ i ∷ [])) b.held
-                  (λ x m. subst (λ (xs : List I). Contains xs x) (append_assoc s.log b.outbox (i ∷ [])) (part_left (s.log ++ b.outbox) (i ∷ []) x m))
+                  (λ x m. subst (λ (xs : List I). Contains xs x) (append_assoc s.log b.outbox (i ∷ []))
+                  (part_left (s.log ++ b.outbox) (i ∷ []) x m))
                   (k.accounted o))
                   (cover.by_part covers reflexive transitive (i ∷ []) (s.log ++ (b.outbox ++ i ∷ []))
                   (λ x m. part_right s.log (b.outbox ++ i ∷ []) x (part_right b.outbox (i ∷ []) x m)));
               position = k.position;
-              read = λ q. cover.through covers reflexive transitive (take b.position s.log) b.held held (k.read q) (cover.joined_old covers reflexive transitive held b.held (i ∷ []) j);
+              read = λ q. cover.through covers reflexive transitive (take b.position s.log) b.held held (k.read q)
+                  (cover.joined_old covers reflexive transitive held b.held (i ∷ []) j);
               consumed = k.consumed;
             });
-        producer = producer_same s b (changed b i held) host.producer (take-append-le b.in_flight b.outbox (i ∷ []) h.in_flight) refl h.producer;
+        producer = producer_same s b (changed b i held) host.producer (take-append-le b.in_flight b.outbox (i ∷ []) h.in_flight) refl
+            h.producer;
         consumer = h.consumer;
       }
 
@@ -103,7 +111,8 @@ module _ {I : Type 0} (covers : I → I → Bool) (reflexive : (i : I) → cover
       record {
         in_flight = l;
         met = h.met;
-        tracks = λ e. (let k = h.tracks e in record { accounted = k.accounted; position = k.position; read = k.read; consumed = k.consumed });
+        tracks = λ e. (let k = h.tracks e in record
+            { accounted = k.accounted; position = k.position; read = k.read; consumed = k.consumed });
         producer = cover.by_part covers reflexive transitive (take n host.bridge.outbox) (take n host.bridge.outbox) (λ i q. q);
         consumer = h.consumer;
       }
@@ -125,7 +134,8 @@ module _ {I : Type 0} (covers : I → I → Bool) (reflexive : (i : I) → cover
         consumer = h.consumer;
       }
 
-  pub acknowledge_host : (s : Server I) (host : Host I) (n : ℕ) → IsServer covers s → IsHost covers s host → host.producer ≡ Acknowledged n →
+  pub acknowledge_host : (s : Server I) (host : Host I) (n : ℕ) → IsServer covers s → IsHost covers s host →
+      host.producer ≡ Acknowledged n →
       IsHost covers s (record host { bridge = acknowledged host.bridge; producer = Idle })
   acknowledge_host s host n v h m =
       let b = host.bridge in
@@ -135,14 +145,19 @@ module _ {I : Type 0} (covers : I → I → Bool) (reflexive : (i : I) → cover
         met = h.met;
         tracks = λ e. (let k = h.tracks e in
             record {
-              accounted = λ o. cover.through covers reflexive transitive b.held (s.log ++ b.outbox) (s.log ++ drop b.in_flight b.outbox) (k.accounted o)
+              accounted = λ o. cover.through covers reflexive transitive b.held (s.log ++ b.outbox) (s.log ++ drop b.in_flight b.outbox)
+                  (k.accounted o)
                   (cover.both covers reflexive transitive s.log b.outbox (s.log ++ drop b.in_flight b.outbox)
-                  (cover.by_part covers reflexive transitive s.log (s.log ++ drop b.in_flight b.outbox) (part_left s.log (drop b.in_flight b.outbox)))
+                  (cover.by_part covers reflexive transitive s.log (s.log ++ drop b.in_flight b.outbox)
+                  (part_left s.log (drop b.in_flight b.outbox)))
                   (subst (λ (xs : List I). Covers covers (s.log ++ drop b.in_flight b.outbox) xs) (take-append-drop b.in_flight b.outbox)
-                  (cover.both covers reflexive transitive (take b.in_flight b.outbox) (drop b.in_flight b.outbox) (s.log ++ drop b.in_flight b.outbox)
-                  (cover.in_more covers reflexive transitive (take s.replicated s.log) (s.log ++ drop b.in_flight b.outbox) (take b.in_flight b.outbox)
+                  (cover.both covers reflexive transitive (take b.in_flight b.outbox) (drop b.in_flight b.outbox)
+                  (s.log ++ drop b.in_flight b.outbox)
+                  (cover.in_more covers reflexive transitive (take s.replicated s.log) (s.log ++ drop b.in_flight b.outbox)
+                  (take b.in_flight b.outbox)
                   (λ x q. part_left s.log (drop b.in_flight b.outbox) x (part_take s.replicated s.log x q)) (t.2 (t.1 e)))
-                  (cover.by_part covers reflexive transitive (drop b.in_flight b.outbox) (s.log ++ drop b.in_flight b.outbox) (part_right s.log (drop b.in_flight b.outbox))))));
+                  (cover.by_part covers reflexive transitive (drop b.in_flight b.outbox) (s.log ++ drop b.in_flight b.outbox)
+                  (part_right s.log (drop b.in_flight b.outbox))))));
               position = k.position;
               read = k.read;
               consumed = k.consumed;
@@ -166,14 +181,16 @@ module _ {I : Type 0} (covers : I → I → Bool) (reflexive : (i : I) → cover
               accounted = λ o. cover.joined_under covers reflexive transitive held b.held items (s.log ++ b.outbox) j (k.accounted o)
                   (cover.in_more covers reflexive transitive s.log (s.log ++ b.outbox) items (part_left s.log b.outbox) snap.nothing_else);
               position = snap.end;
-              read = λ q. cover.through covers reflexive transitive (take p s.log) items held snap.whole (cover.joined_items covers reflexive transitive held b.held items j);
+              read = λ q. cover.through covers reflexive transitive (take p s.log) items held snap.whole
+                  (cover.joined_items covers reflexive transitive held b.held items j);
               consumed = cover.both covers reflexive transitive b.consumed items s.log k.consumed snap.nothing_else;
             });
         producer = tt;
         consumer = h.consumer;
       }
 
-  pub consume_host : (s : Server I) (host : Host I) (m : Option ℕ) (p end : ℕ) (items held : List I) → IsHost covers s host → host.consumer ≡ Read m p end items →
+  pub consume_host : (s : Server I) (host : Host I) (m : Option ℕ) (p end : ℕ) (items held : List I) → IsHost covers s host →
+      host.consumer ≡ Read m p end items →
       host.bridge.met ≡ m → host.bridge.position ≡ p → end ≤ p → Joins covers held host.bridge.held items →
       IsHost covers s (record host { bridge = consuming host.bridge items (p + length items) held; consumer = Paused })
   consume_host s host m p end items held h r f at l j =
@@ -189,7 +206,8 @@ module _ {I : Type 0} (covers : I → I → Bool) (reflexive : (i : I) → cover
             let longer = length-append (piece.front ++ items) piece.back in
             let all = ap (λ (xs : List I). length xs) whole in
             let begun : take b.position s.log ≡ piece.front =
-            ap (λ (q : ℕ). take q s.log) at ∙ ap (λ (xs : List I). take p xs) piece.whole ∙ take_at piece.front (items ++ piece.back) p piece.position in
+            ap (λ (q : ℕ). take q s.log) at ∙ ap (λ (xs : List I). take p xs) piece.whole ∙
+            take_at piece.front (items ++ piece.back) p piece.position in
             let read : take (p + length items) s.log ≡ piece.front ++ items =
             ap (λ (xs : List I). take (p + length items) xs) whole ∙
             take_at (piece.front ++ items) piece.back (p + length items) (long ∙ ap (λ (q : ℕ). q + length items) piece.position) in
@@ -203,7 +221,8 @@ module _ {I : Type 0} (covers : I → I → Bool) (reflexive : (i : I) → cover
               position = (let position_is = piece.position in omega arith);
               read = λ q. subst (λ (xs : List I). Covers covers held xs) (sym read)
                   (cover.both covers reflexive transitive piece.front items held
-                  (cover.through covers reflexive transitive piece.front b.held held (subst (λ (xs : List I). Covers covers b.held xs) begun (k.read q))
+                  (cover.through covers reflexive transitive piece.front b.held held
+                  (subst (λ (xs : List I). Covers covers b.held xs) begun (k.read q))
                   (cover.joined_old covers reflexive transitive held b.held items j))
                   (cover.joined_items covers reflexive transitive held b.held items j));
               consumed = cover.both covers reflexive transitive b.consumed items s.log k.consumed covered;
@@ -220,7 +239,8 @@ module _ {I : Type 0} (covers : I → I → Bool) (reflexive : (i : I) → cover
       (cover.both covers reflexive transitive b.held items (s.log ++ b.outbox) t
       (cover.in_more covers reflexive transitive s.log (s.log ++ b.outbox) items (part_left s.log b.outbox) c))
 
-  pub take_part_host : (s : Server I) (host : Host I) (p : ℕ) (items held : List I) → IsHost covers s host → host.producer ≡ Fetched p items →
+  pub take_part_host : (s : Server I) (host : Host I) (p : ℕ) (items held : List I) → IsHost covers s host →
+      host.producer ≡ Fetched p items →
       JoinsPart covers held host.bridge.held items →
       IsHost covers s (record host { bridge = dropping host.bridge items p held; producer = Idle })
   take_part_host s host p items held h m j =
@@ -241,7 +261,8 @@ module _ {I : Type 0} (covers : I → I → Bool) (reflexive : (i : I) → cover
         consumer = h.consumer;
       }
 
-  pub consume_part_host : (s : Server I) (host : Host I) (m : Option ℕ) (p end : ℕ) (items held : List I) → IsHost covers s host → host.consumer ≡ Read m p end items →
+  pub consume_part_host : (s : Server I) (host : Host I) (m : Option ℕ) (p end : ℕ) (items held : List I) → IsHost covers s host →
+      host.consumer ≡ Read m p end items →
       host.bridge.met ≡ m → end ≤ p → JoinsPart covers held host.bridge.held items →
       IsHost covers s (record host { bridge = dropping host.bridge items (p + length items) held; consumer = Paused })
   consume_part_host s host m p end items held h r f l j =
@@ -276,12 +297,19 @@ module _ {I : Type 0} (covers : I → I → Bool) (reflexive : (i : I) → cover
         in_flight = h.in_flight;
         met = h.met;
         tracks = λ e. (let k = h.tracks e in
-            record { accounted = k.accounted; position = omega arith; read = λ q. cover.none covers reflexive transitive b.held; consumed = k.consumed });
+            record {
+              accounted = k.accounted;
+              position = omega arith;
+              read = λ q. cover.none covers reflexive transitive b.held;
+              consumed =
+                  k.consumed;
+            });
         producer = producer_same s b (rereading b) host.producer refl refl h.producer;
         consumer = h.consumer;
       }
 
-  pub refill_host : (s : Server I) (host : Host I) → IsHost covers s host → IsHost covers s (record host { bridge = refilled covers host.bridge })
+  pub refill_host : (s : Server I) (host : Host I) → IsHost covers s host →
+      IsHost covers s (record host { bridge = refilled covers host.bridge })
   refill_host s host h =
       let b = host.bridge in
       let rest = uncovered covers (b.consumed ++ b.outbox) b.held in
@@ -297,17 +325,21 @@ module _ {I : Type 0} (covers : I → I → Bool) (reflexive : (i : I) → cover
                   (cover.both covers reflexive transitive (b.consumed ++ b.outbox) rest all
                   (cover.both covers reflexive transitive b.consumed b.outbox all
                   (cover.in_more covers reflexive transitive s.log all b.consumed (part_left s.log (b.outbox ++ rest)) k.consumed)
-                  (cover.by_part covers reflexive transitive b.outbox all (λ x q. part_right s.log (b.outbox ++ rest) x (part_left b.outbox rest x q))))
-                  (cover.by_part covers reflexive transitive rest all (λ x q. part_right s.log (b.outbox ++ rest) x (part_right b.outbox rest x q))));
+                  (cover.by_part covers reflexive transitive b.outbox all
+                  (λ x q. part_right s.log (b.outbox ++ rest) x (part_left b.outbox rest x q))))
+                  (cover.by_part covers reflexive transitive rest all
+                  (λ x q. part_right s.log (b.outbox ++ rest) x (part_right b.outbox rest x q))));
               position = k.position;
               read = k.read;
               consumed = k.consumed;
             });
-        producer = producer_same s b (refilled covers b) host.producer (take-append-le b.in_flight b.outbox rest h.in_flight) refl h.producer;
+        producer = producer_same s b (refilled covers b) host.producer (take-append-le b.in_flight b.outbox rest h.in_flight) refl
+            h.producer;
         consumer = h.consumer;
       }
 
-  pub compact_host : (s : Server I) (host : Host I) → IsHost covers s host → host.bridge.must_resend ≡ false → host.bridge.has_dropped ≡ false →
+  pub compact_host : (s : Server I) (host : Host I) → IsHost covers s host → host.bridge.must_resend ≡ false →
+      host.bridge.has_dropped ≡ false →
       IsHost covers s
       (record host {
         bridge = sending host.bridge (length host.bridge.outbox);
@@ -318,7 +350,8 @@ module _ {I : Type 0} (covers : I → I → Bool) (reflexive : (i : I) → cover
       record {
         in_flight = omega arith;
         met = h.met;
-        tracks = λ e. (let k = h.tracks e in record { accounted = k.accounted; position = k.position; read = k.read; consumed = k.consumed });
+        tracks = λ e. (let k = h.tracks e in record
+            { accounted = k.accounted; position = k.position; read = k.read; consumed = k.consumed });
         producer = (
           cover.by_part covers reflexive transitive (take (length b.outbox) b.outbox) b.outbox (part_take (length b.outbox) b.outbox),
           h.met,

@@ -4,7 +4,8 @@ use Rattle.fleet_rule.specs.Happens.{Event, after, May}
 use Rattle.fleet_rule.specs.Happens.Event.{Changes, AsksToMeet, AsksToAdd, IsMet, IsAdded, Meets, Loses}
 use Rattle.fleet_rule.specs.Example.{server_of, new_fleet}
 use Rattle.fleet_rule.specs.Known.{LookIsNeeded, ToldIsNeeded, OwedIsNeeded, WaitIsNeeded}
-use Rattle.fleet_rule.proofs.RunLemmas.{◌▸◌, none_met, other_met, joining, publishing, reading, all_of, ends, ends_of, AllMay, PhasesMay, follow, puts, is_server}
+use Rattle.fleet_rule.proofs.RunLemmas.{◌▸◌, none_met, other_met, joining, publishing, reading, all_of, ends, ends_of, AllMay, PhasesMay}
+use Rattle.fleet_rule.proofs.RunLemmas.{follow, puts, is_server}
 
 module _ {I : Type 0} (covers : I → I → Bool) (reflexive : (i : I) → covers i i ≡ true)
     (transitive : (i j k : I) → covers i j ≡ true → covers j k ≡ true → covers i k ≡ true) where
@@ -16,7 +17,8 @@ module _ {I : Type 0} (covers : I → I → Bool) (reflexive : (i : I) → cover
   unfolding ends ends_of AllMay PhasesMay
   look_may i =
       (refl ▸ refl ▸ (refl, none_met 1) ▸ refl ▸ tt) ▸
-      (puts covers reflexive transitive [] (i ∷ []) ▸ (refl, omega arith) ▸ refl ▸ (omega arith, omega arith) ▸ (refl, omega arith) ▸ refl ▸ tt) ▸
+      (puts covers reflexive transitive [] (i ∷ []) ▸ (refl, omega arith) ▸ refl ▸ (omega arith, omega arith) ▸ (refl, omega arith) ▸ refl
+      ▸ tt) ▸
       ((omega arith, is_server covers reflexive transitive 2 [] 0 (omega arith)) ▸ tt) ▸ tt
 
   pub look_is_needed : LookIsNeeded covers
@@ -54,7 +56,8 @@ module _ {I : Type 0} (covers : I → I → Bool) (reflexive : (i : I) → cover
   unfolding ends ends_of AllMay PhasesMay
   owed_may i =
       (refl ▸ refl ▸ (refl, none_met 1) ▸ refl ▸ tt) ▸
-      (puts covers reflexive transitive [] (i ∷ []) ▸ (refl, omega arith) ▸ refl ▸ (omega arith, omega arith) ▸ (refl, omega arith) ▸ refl ▸ tt) ▸
+      (puts covers reflexive transitive [] (i ∷ []) ▸ (refl, omega arith) ▸ refl ▸ (omega arith, omega arith) ▸ (refl, omega arith) ▸ refl
+      ▸ tt) ▸
       ((omega arith, is_server covers reflexive transitive 2 [] 0 (omega arith)) ▸ tt) ▸
       (refl ▸ refl ▸ (refl, other_met 1 2 refl) ▸ tt) ▸ tt
 

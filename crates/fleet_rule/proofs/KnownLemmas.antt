@@ -1,18 +1,21 @@
 -- A change that a bridge held already is on its server, and what is acknowledged leaves the outbox at its front.
-use Rattle.std.proofs.Common.{◌≡◌, ◌+◌, ◌≤◌, ◌==◌, cond, ℕ, Bool, true, false, List, [], ◌∷◌, ◌++◌, length, take, drop, Option, Some, None, refl, sym, ap, ◌∙◌, subst, append_assoc, arith}
+use Rattle.std.proofs.Common.{◌≡◌, ◌+◌, ◌≤◌, ◌==◌, cond, ℕ, Bool, true, false, List, [], ◌∷◌, ◌++◌, length, take, drop, Option, Some, None}
+use Rattle.std.proofs.Common.{refl, sym, ap, ◌∙◌, subst, append_assoc, arith}
 use Rattle.std.specs.List.{Contains, list_any}
 use Rattle.std.proofs.lemmas.Bool.{eqb-true, eq-eqb, or_parts}
 use Rattle.std.proofs.lemmas.List.{append-nil, take-append-drop, take-append-le, take_at, length-append}
 use Rattle.fleet_rule.specs.Covered.{ArePart, Covers}
 use Rattle.fleet_rule.specs.Server.{Server}
-use Rattle.fleet_rule.specs.Bridge.{Bridge, changed, sending, acknowledged, meeting, consuming, dropping, rereading, refilled, folded, doubting}
+use Rattle.fleet_rule.specs.Bridge.{Bridge, changed, sending, acknowledged, meeting, consuming, dropping, rereading, refilled, folded}
+use Rattle.fleet_rule.specs.Bridge.{doubting}
 use Rattle.fleet_rule.specs.Fleet.{Producer, Consumer, Host, Fleet, new_host, placed}
 use Rattle.fleet_rule.specs.Fleet.Producer.{Idle, Meeting, Adding, Fetching, Compacting, Replicating, Met, Acknowledged, Fetched}
 use Rattle.fleet_rule.specs.Fleet.Consumer.{Paused, Reading, Read}
 use Rattle.fleet_rule.specs.Happens.{Event, after, May, HappenAll, bridge_at, with_producer, with_consumer, cut_off}
 use Rattle.fleet_rule.specs.Happens.Event.{Changes, AsksToMeet, AsksToAdd, AsksToFetch, AsksToCompact, AsksToRead}
 use Rattle.fleet_rule.specs.Happens.Event.{IsMet, IsAdded, IsReplicated, IsFetched, IsCompacted, IsOnlyAdded, IsRead}
-use Rattle.fleet_rule.specs.Happens.Event.{Meets, GetsAcknowledged, TakesSnapshot, TakesPart, Consumes, ConsumesPart, Ignores, IgnoresReading}
+use Rattle.fleet_rule.specs.Happens.Event.{Meets, GetsAcknowledged, TakesSnapshot, TakesPart, Consumes, ConsumesPart, Ignores}
+use Rattle.fleet_rule.specs.Happens.Event.{IgnoresReading}
 use Rattle.fleet_rule.specs.Happens.Event.{Rereads, Refills, Folds, Doubts, Disconnects, Crashes, Replicates, FailsOver, Loses}
 use Rattle.fleet_rule.specs.Laws.{breaks, begins_anew, is_loss, change_at, changes_of}
 use Rattle.fleet_rule.specs.Known.{KnownIsKept}
@@ -110,8 +113,10 @@ module _ {I : Type 0} (covers : I → I → Bool) (reflexive : (i : I) → cover
   grows w (IsAdded j items) m n = record { history = refl; more = items; log = refl; replicated = self_le w.server.replicated }
   grows w (IsReplicated j q p) m n = stays w.server
   grows w (IsFetched j) m n = stays w.server
-  grows w (IsCompacted j q p snapshot items) m n = record { history = refl; more = items; log = refl; replicated = self_le w.server.replicated }
-  grows w (IsOnlyAdded j q p snapshot items) m n = record { history = refl; more = items; log = refl; replicated = self_le w.server.replicated }
+  grows w (IsCompacted j q p snapshot items) m n =
+      record { history = refl; more = items; log = refl; replicated = self_le w.server.replicated }
+  grows w (IsOnlyAdded j q p snapshot items) m n =
+      record { history = refl; more = items; log = refl; replicated = self_le w.server.replicated }
   grows w (IsRead j q p c items) m n = stays w.server
   grows w (Meets j q) m n = stays w.server
   grows w (GetsAcknowledged j q) m n = stays w.server
@@ -150,7 +155,8 @@ module _ {I : Type 0} (covers : I → I → Bool) (reflexive : (i : I) → cover
       (grows x e path.1.0 (or_parts (begins_anew k e) (is_loss e) parts.0).1))
       (grows_all path.0 z es k path.2 parts.1)
 
-  replicated_part : (s t : Server I) → Grows covers s t → s.replicated ≤ length s.log → ArePart (take s.replicated s.log) (take t.replicated t.log)
+  replicated_part : (s t : Server I) → Grows covers s t → s.replicated ≤ length s.log →
+      ArePart (take s.replicated s.log) (take t.replicated t.log)
   replicated_part s t g l i h =
       part_takes s.replicated t.replicated t.log g.replicated i
       (subst (λ (xs : List I). Contains xs i)
@@ -174,10 +180,12 @@ module _ {I : Type 0} (covers : I → I → Bool) (reflexive : (i : I) → cover
       sym (at_host (λ (x : Host I). x.bridge.outbox ≡ (bridge_at w k).outbox) j k host w.hosts
       (λ e. f ∙ ap (λ (z : ℕ). (bridge_at w z).outbox) (sym e)) refl))
 
-  on_producer : (w : Fleet I) (j k : ℕ) (l : Producer I) → Leaves w.server ((bridge_at w k).outbox ++ []) (bridge_at (with_producer w j l) k).outbox
+  on_producer : (w : Fleet I) (j k : ℕ) (l : Producer I) →
+      Leaves w.server ((bridge_at w k).outbox ++ []) (bridge_at (with_producer w j l) k).outbox
   on_producer w j k l = same_outbox w j k (record (w.hosts j) { producer = l }) refl
 
-  on_consumer : (w : Fleet I) (j k : ℕ) (l : Consumer I) → Leaves w.server ((bridge_at w k).outbox ++ []) (bridge_at (with_consumer w j l) k).outbox
+  on_consumer : (w : Fleet I) (j k : ℕ) (l : Consumer I) →
+      Leaves w.server ((bridge_at w k).outbox ++ []) (bridge_at (with_consumer w j l) k).outbox
   on_consumer w j k l = same_outbox w j k (record (w.hosts j) { consumer = l }) refl
 
   other_outbox : (w : Fleet I) (j k : ℕ) (host : Host I) → (k ≡ j → ⊥) →
@@ -193,7 +201,8 @@ module _ {I : Type 0} (covers : I → I → Bool) (reflexive : (i : I) → cover
       new : Host I
       new = record (w.hosts j) { bridge = changed (bridge_at w j) i held }
 
-      by_test : (b : Bool) → (j == k) ≡ b → Leaves w.server ((bridge_at w k).outbox ++ cond b (i ∷ []) []) (placed j new w.hosts k).bridge.outbox
+      by_test : (b : Bool) → (j == k) ≡ b → Leaves w.server ((bridge_at w k).outbox ++ cond b (i ∷ []) [])
+          (placed j new w.hosts k).bridge.outbox
       by_test true e =
           let f : j ≡ k = eqb-true j k e in
           no_leaves w.server ((bridge_at w k).outbox ++ i ∷ []) (placed j new w.hosts k).bridge.outbox
@@ -217,10 +226,12 @@ module _ {I : Type 0} (covers : I → I → Bool) (reflexive : (i : I) → cover
       mine : k ≡ j → Leaves w.server ((bridge_at w k).outbox ++ []) (drop b.in_flight b.outbox)
       mine e =
           let at : b.met ≡ Some w.server.history = subst (λ (z : ℕ). (bridge_at w z).met ≡ Some w.server.history) e a in
-          let t : ProducerIs covers w.server b (Acknowledged q) = subst (λ (l : Producer I). ProducerIs covers w.server b l) m (h.hosts j).producer in
+          let t : ProducerIs covers w.server b (Acknowledged q) =
+          subst (λ (l : Producer I). ProducerIs covers w.server b l) m (h.hosts j).producer in
           record {
             gone = take b.in_flight b.outbox;
-            whole = append-nil (bridge_at w k).outbox ∙ ap (λ (z : ℕ). (bridge_at w z).outbox) e ∙ sym (take-append-drop b.in_flight b.outbox);
+            whole = append-nil (bridge_at w k).outbox ∙ ap (λ (z : ℕ). (bridge_at w z).outbox) e ∙
+                sym (take-append-drop b.in_flight b.outbox);
             there = t.2 (t.1 at);
           }
 
@@ -234,7 +245,8 @@ module _ {I : Type 0} (covers : I → I → Bool) (reflexive : (i : I) → cover
   leave_step w (AsksToFetch j) k h m n a o = on_producer w j k Fetching
   leave_step w (AsksToCompact j) k h m n a o =
       let b = bridge_at w j in
-      same_outbox w j k (record (w.hosts j) { bridge = sending b (length b.outbox); producer = Compacting b.met b.position b.held b.outbox }) refl
+      same_outbox w j k
+      (record (w.hosts j) { bridge = sending b (length b.outbox); producer = Compacting b.met b.position b.held b.outbox }) refl
   leave_step w (AsksToRead j) k h m n a o = on_consumer w j k (Reading (bridge_at w j).met (bridge_at w j).position)
   leave_step w (IsMet j) k h m n a o = on_producer w j k (Met w.server.history)
   leave_step w (IsAdded j items) k h m n a o = on_producer w j k (Replicating w.server.history (length (w.server.log ++ items)))
@@ -303,7 +315,8 @@ module _ {I : Type 0} (covers : I → I → Bool) (reflexive : (i : I) → cover
             append_assoc one.gone (bridge_at u k).outbox cs ∙ ap (λ (xs : List I). one.gone ++ xs) rest.whole ∙
             sym (append_assoc one.gone rest.gone (bridge_at z k).outbox);
         there = cover.both covers reflexive transitive one.gone rest.gone (take z.server.replicated z.server.log)
-            (cover.in_more covers reflexive transitive (take x.server.replicated x.server.log) (take z.server.replicated z.server.log) one.gone part one.there)
+            (cover.in_more covers reflexive transitive (take x.server.replicated x.server.log) (take z.server.replicated z.server.log)
+            one.gone part one.there)
             rest.there;
       }
 

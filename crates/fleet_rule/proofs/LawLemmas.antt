@@ -1,5 +1,6 @@
 -- The laws of a fleet, except that nothing is echoed.
-use Rattle.std.proofs.Common.{◌≡◌, ◌+◌, ◌==◌, cond, ℕ, Bool, true, false, List, [], ◌∷◌, ◌++◌, length, take, drop, refl, sym, ap, ◌∙◌, subst, arith}
+use Rattle.std.proofs.Common.{◌≡◌, ◌+◌, ◌==◌, cond, ℕ, Bool, true, false, List, [], ◌∷◌, ◌++◌, length, take, drop, refl, sym, ap, ◌∙◌}
+use Rattle.std.proofs.Common.{subst, arith}
 use Rattle.std.specs.List.{list_any}
 use Rattle.std.proofs.lemmas.Bool.{eqb-true, eq-eqb, or_parts}
 use Rattle.std.proofs.lemmas.List.{append-nil, take-append-drop, take_all}
@@ -11,9 +12,11 @@ use Rattle.fleet_rule.specs.Fleet.Consumer.{Paused, Reading, Read}
 use Rattle.fleet_rule.specs.Happens.{Event, after, May, HappenAll, IsNew, bridge_at, with_producer, with_consumer, cut_off}
 use Rattle.fleet_rule.specs.Happens.Event.{Changes, AsksToMeet, AsksToAdd, AsksToFetch, AsksToCompact, AsksToRead}
 use Rattle.fleet_rule.specs.Happens.Event.{IsMet, IsAdded, IsReplicated, IsFetched, IsCompacted, IsOnlyAdded, IsRead}
-use Rattle.fleet_rule.specs.Happens.Event.{Meets, GetsAcknowledged, TakesSnapshot, TakesPart, Consumes, ConsumesPart, Ignores, IgnoresReading}
+use Rattle.fleet_rule.specs.Happens.Event.{Meets, GetsAcknowledged, TakesSnapshot, TakesPart, Consumes, ConsumesPart, Ignores}
+use Rattle.fleet_rule.specs.Happens.Event.{IgnoresReading}
 use Rattle.fleet_rule.specs.Happens.Event.{Rereads, Refills, Folds, Doubts, Disconnects, Crashes, Replicates, FailsOver, Loses}
-use Rattle.fleet_rule.specs.Laws.{HasRead, HasSent, is_crash_of, readable, AnsweredIsKept, ReadersHoldAll, BridgesAgree, SnapshotsAreWhole, NothingHeldIsLost}
+use Rattle.fleet_rule.specs.Laws.{HasRead, HasSent, is_crash_of, readable, AnsweredIsKept, ReadersHoldAll, BridgesAgree, SnapshotsAreWhole}
+use Rattle.fleet_rule.specs.Laws.{NothingHeldIsLost}
 use Rattle.fleet_rule.proofs.CoverLemmas.{part_left, part_right, part_take, part_drop}
 use Rattle.fleet_rule.proofs.CoverLemmas as cover
 use Rattle.fleet_rule.proofs.Kept.{IsKept}
@@ -22,7 +25,8 @@ use Rattle.fleet_rule.proofs.StepLemmas as steps
 
 -- The host at k, after another one was put at j.
 module _ {I : Type 0} where
-  pub at_host : (P : Host I → Type 0) (j k : ℕ) (host : Host I) (hosts : ℕ → Host I) → (k ≡ j → P host) → P (hosts k) → P (placed j host hosts k)
+  pub at_host : (P : Host I → Type 0) (j k : ℕ) (host : Host I) (hosts : ℕ → Host I) → (k ≡ j → P host) → P (hosts k) →
+      P (placed j host hosts k)
   at_host P j k host hosts f g = by_test (k == j) refl
     where
       by_test : (b : Bool) → (k == j) ≡ b → P (cond b host (hosts k))
@@ -56,13 +60,15 @@ module _ {I : Type 0} (covers : I → I → Bool) (reflexive : (i : I) → cover
       let h = kept w x es n path in
       let all = reads_all x k h r in
       let front = take x.server.replicated x.server.log in
-      let holds_front = cover.of_part covers reflexive transitive front x.server.log (bridge_at x k).held (part_take x.server.replicated x.server.log) all in
+      let holds_front = cover.of_part covers reflexive transitive front x.server.log (bridge_at x k).held
+      (part_take x.server.replicated x.server.log) all in
       (all, cover.through covers reflexive transitive x.answered front (bridge_at x k).held h.answered holds_front)
 
   pub bridges_agree : BridgesAgree covers
   bridges_agree w x es j k n path rj rk t =
       let h = kept w x es n path in
-      cover.through covers reflexive transitive (bridge_at x j).held x.server.log (bridge_at x k).held (sends_all x j h t) (reads_all x k h rk)
+      cover.through covers reflexive transitive (bridge_at x j).held x.server.log (bridge_at x k).held (sends_all x j h t)
+      (reads_all x k h rk)
 
   pub snapshots_are_whole : SnapshotsAreWhole covers
   snapshots_are_whole w x es n path =
@@ -111,7 +117,8 @@ module _ {I : Type 0} (covers : I → I → Bool) (reflexive : (i : I) → cover
   held_grows w (AsksToFetch j) k m n = on_producer w j k Fetching
   held_grows w (AsksToCompact j) k m n =
       let b = bridge_at w j in
-      same_at w j k (record (w.hosts j) { bridge = sending b (length b.outbox); producer = Compacting b.met b.position b.held b.outbox }) refl
+      same_at w j k (record (w.hosts j) { bridge = sending b (length b.outbox); producer = Compacting b.met b.position b.held b.outbox })
+      refl
   held_grows w (AsksToRead j) k m n = on_consumer w j k (Reading (bridge_at w j).met (bridge_at w j).position)
   held_grows w (IsMet j) k m n = on_producer w j k (Met w.server.history)
   held_grows w (IsAdded j items) k m n = on_producer w j k (Replicating w.server.history (length (w.server.log ++ items)))
@@ -121,7 +128,8 @@ module _ {I : Type 0} (covers : I → I → Bool) (reflexive : (i : I) → cover
   held_grows w (IsOnlyAdded j o p snapshot items) k m n = on_producer w j k (Replicating w.server.history (length (w.server.log ++ items)))
   held_grows w (IsRead j o p c items) k m n = on_consumer w j k (Read o p w.server.end items)
   held_grows w (Meets j h) k m n = same_at w j k (record (w.hosts j) { bridge = meeting (bridge_at w j) h; producer = Idle }) refl
-  held_grows w (GetsAcknowledged j h) k m n = same_at w j k (record (w.hosts j) { bridge = acknowledged (bridge_at w j); producer = Idle }) refl
+  held_grows w (GetsAcknowledged j h) k m n =
+      same_at w j k (record (w.hosts j) { bridge = acknowledged (bridge_at w j); producer = Idle }) refl
   held_grows w (TakesSnapshot j p items held) k m n =
       grown_at w j k (record (w.hosts j) { bridge = consuming (bridge_at w j) items p held; producer = Idle })
       (cover.joined_old covers reflexive transitive held (bridge_at w j).held items m.1)
@@ -149,7 +157,8 @@ module _ {I : Type 0} (covers : I → I → Bool) (reflexive : (i : I) → cover
 
   held_grows_all : (w x : Fleet I) (es : List (Event I)) (k : ℕ) → HappenAll covers w es x → list_any (is_crash_of k) es ≡ false →
       Covers covers (bridge_at x k).held (bridge_at w k).held
-  held_grows_all w x [] k e n = subst (λ (y : Fleet I). Covers covers (bridge_at y k).held (bridge_at w k).held) e (itself (bridge_at w k).held)
+  held_grows_all w x [] k e n = subst (λ (y : Fleet I). Covers covers (bridge_at y k).held (bridge_at w k).held) e
+      (itself (bridge_at w k).held)
   held_grows_all w x (e ∷ es) k path n =
       let first = subst (λ (y : Fleet I). Covers covers (bridge_at y k).held (bridge_at w k).held) path.1.1
       (held_grows w e k path.1.0 (or_parts (is_crash_of k e) (list_any (is_crash_of k) es) n).0) in

@@ -4,7 +4,8 @@ use Rattle.fleet_rule.specs.Happens.{Event, after}
 use Rattle.fleet_rule.specs.Happens.Event.{FailsOver, Loses}
 use Rattle.fleet_rule.specs.Example.{server_of, new_fleet}
 use Rattle.fleet_rule.specs.Premises.{loses_unseen, fails_over_to_any, SeeingIsNeeded, ChoiceIsNeeded}
-use Rattle.fleet_rule.proofs.RunLemmas.{◌▸◌, none_met, joining, publishing, all_of, ends, ends_of, AllMay, PhasesMay, follow, puts, is_server}
+use Rattle.fleet_rule.proofs.RunLemmas.{◌▸◌, none_met, joining, publishing, all_of, ends, ends_of, AllMay, PhasesMay, follow, puts}
+use Rattle.fleet_rule.proofs.RunLemmas.{is_server}
 
 module _ {I : Type 0} (covers : I → I → Bool) (reflexive : (i : I) → covers i i ≡ true)
     (transitive : (i j k : I) → covers i j ≡ true → covers j k ≡ true → covers i k ≡ true) where
@@ -18,7 +19,8 @@ module _ {I : Type 0} (covers : I → I → Bool) (reflexive : (i : I) → cover
   unfolding ends ends_of AllMay PhasesMay
   seeing_is_needed_may i =
       (refl ▸ refl ▸ (refl, none_met 1) ▸ refl ▸ tt) ▸
-      (puts covers reflexive transitive [] (i ∷ []) ▸ (refl, omega arith) ▸ refl ▸ (omega arith, omega arith) ▸ (refl, omega arith) ▸ refl ▸ tt) ▸
+      (puts covers reflexive transitive [] (i ∷ []) ▸ (refl, omega arith) ▸ refl ▸ (omega arith, omega arith) ▸ (refl, omega arith) ▸ refl
+      ▸ tt) ▸
       (is_server covers reflexive transitive 1 [] 0 (omega arith) ▸ tt) ▸ tt
 
   pub seeing_is_needed : SeeingIsNeeded covers
@@ -44,7 +46,8 @@ module _ {I : Type 0} (covers : I → I → Bool) (reflexive : (i : I) → cover
   unfolding ends ends_of AllMay PhasesMay
   choice_is_needed_may i =
       (refl ▸ refl ▸ (refl, none_met 1) ▸ refl ▸ tt) ▸
-      (puts covers reflexive transitive [] (i ∷ []) ▸ (refl, omega arith) ▸ refl ▸ (omega arith, omega arith) ▸ (refl, omega arith) ▸ refl ▸ tt) ▸
+      (puts covers reflexive transitive [] (i ∷ []) ▸ (refl, omega arith) ▸ refl ▸ (omega arith, omega arith) ▸ (refl, omega arith) ▸ refl
+      ▸ tt) ▸
       ((omega arith, is_server covers reflexive transitive 2 [] 0 (omega arith), (0, refl)) ▸ tt) ▸ tt
 
   pub choice_is_needed : ChoiceIsNeeded covers

@@ -4,7 +4,9 @@ use Rattle.fleet_rule.specs.Covered.{Covers, Joins, JoinsPart}
 use Rattle.fleet_rule.specs.Server.{IsServer}
 use Rattle.fleet_rule.specs.Fleet.{Fleet}
 use Rattle.fleet_rule.specs.Happens.{Event, Follow}
-use Rattle.fleet_rule.specs.Happens.Event.{Changes, AsksToMeet, AsksToAdd, AsksToCompact, AsksToRead, IsMet, IsAdded, IsReplicated, IsCompacted, IsRead, Meets, GetsAcknowledged, Consumes, ConsumesPart, Ignores, Refills, Replicates}
+use Rattle.fleet_rule.specs.Happens.Event.{Changes, AsksToMeet, AsksToAdd, AsksToCompact, AsksToRead, IsMet, IsAdded, IsReplicated}
+use Rattle.fleet_rule.specs.Happens.Event.{IsCompacted, IsRead, Meets, GetsAcknowledged, Consumes, ConsumesPart, Ignores, Refills}
+use Rattle.fleet_rule.specs.Happens.Event.{Replicates}
 use Rattle.fleet_rule.specs.Example.{server_of}
 use Rattle.fleet_rule.proofs.CoverLemmas.{part_left}
 use Rattle.fleet_rule.proofs.CoverLemmas as cover
@@ -65,7 +67,8 @@ module _ {I : Type 0} (may : Fleet I → Event I → Type 0) (leads : Fleet I �
   PhasesMay w [] = Unit {0}
   PhasesMay w (es ∷ phases) = AllMay w es × PhasesMay (ends w es) phases
 
-  follow_phase : (w x : Fleet I) (es rest : List (Event I)) → AllMay w es → Follow may leads (ends w es) rest x → Follow may leads w (es ++ rest) x
+  follow_phase : (w x : Fleet I) (es rest : List (Event I)) → AllMay w es → Follow may leads (ends w es) rest x →
+      Follow may leads w (es ++ rest) x
   unfolding ends AllMay
   follow_phase w x [] rest m path = path
   follow_phase w x (e ∷ es) rest m path = (leads w e, (m.0, refl), follow_phase (leads w e) x es rest m.1 path)

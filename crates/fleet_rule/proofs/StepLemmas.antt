@@ -1,18 +1,22 @@
 -- Each event keeps the invariant of a fleet.
-use Rattle.std.proofs.Common.{◌≡◌, ◌<◌, ◌≤◌, ◌+◌, ◌==◌, cond, max, ℕ, Bool, true, false, List, [], ◌∷◌, ◌++◌, length, take, drop, Option, Some, refl, sym, ap, ◌∙◌, subst, arith}
+use Rattle.std.proofs.Common.{◌≡◌, ◌<◌, ◌≤◌, ◌+◌, ◌==◌, cond, max, ℕ, Bool, true, false, List, [], ◌∷◌, ◌++◌, length, take, drop, Option}
+use Rattle.std.proofs.Common.{Some, refl, sym, ap, ◌∙◌, subst, arith}
 use Rattle.std.specs.List.{Contains}
 use Rattle.std.proofs.lemmas.Bool.{eqb-true}
-use Rattle.std.proofs.lemmas.List.{append-nil, take-append-drop, take-append-le, take-take, take_all, length-append, length-take, length-take-le}
+use Rattle.std.proofs.lemmas.List.{append-nil, take-append-drop, take-append-le, take-take, take_all, length-append, length-take}
+use Rattle.std.proofs.lemmas.List.{length-take-le}
 use Rattle.fleet_rule.specs.Covered.{Covers}
 use Rattle.fleet_rule.specs.Server.{Server, IsServer}
 use Rattle.fleet_rule.specs.Bridge.{changed, sending, acknowledged, meeting, consuming, dropping, rereading, refilled, folded, doubting}
 use Rattle.fleet_rule.specs.Fleet.{Producer, Consumer, Host, Fleet, new_host, with_host}
 use Rattle.fleet_rule.specs.Fleet.Producer.{Idle, Meeting, Adding, Fetching, Compacting, Replicating, Met, Acknowledged, Fetched}
 use Rattle.fleet_rule.specs.Fleet.Consumer.{Paused, Reading, Read}
-use Rattle.fleet_rule.specs.Happens.{Event, after, May, HappenAll, IsNew, bridge_at, with_producer, with_consumer, with_added, added, cut_off}
+use Rattle.fleet_rule.specs.Happens.{Event, after, May, HappenAll, IsNew, bridge_at, with_producer, with_consumer, with_added, added}
+use Rattle.fleet_rule.specs.Happens.{cut_off}
 use Rattle.fleet_rule.specs.Happens.Event.{Changes, AsksToMeet, AsksToAdd, AsksToFetch, AsksToCompact, AsksToRead}
 use Rattle.fleet_rule.specs.Happens.Event.{IsMet, IsAdded, IsReplicated, IsFetched, IsCompacted, IsOnlyAdded, IsRead}
-use Rattle.fleet_rule.specs.Happens.Event.{Meets, GetsAcknowledged, TakesSnapshot, TakesPart, Consumes, ConsumesPart, Ignores, IgnoresReading}
+use Rattle.fleet_rule.specs.Happens.Event.{Meets, GetsAcknowledged, TakesSnapshot, TakesPart, Consumes, ConsumesPart, Ignores}
+use Rattle.fleet_rule.specs.Happens.Event.{IgnoresReading}
 use Rattle.fleet_rule.specs.Happens.Event.{Rereads, Refills, Folds, Doubts, Disconnects, Crashes, Replicates, FailsOver, Loses}
 use Rattle.fleet_rule.proofs.CoverLemmas.{part_left, part_right, part_takes}
 use Rattle.fleet_rule.proofs.CoverLemmas as cover
@@ -51,7 +55,8 @@ module _ {I : Type 0} (covers : I → I → Bool) (reflexive : (i : I) → cover
       let grown = grow.grown_host covers reflexive transitive s t (w.hosts k) g h.server.replicated (h.hosts k) in
       record {
         server = v;
-        hosts = hosts.placed_all covers reflexive transitive t k (record (w.hosts k) { producer = Replicating s.history (length t.log) }) w.hosts
+        hosts = hosts.placed_all covers reflexive transitive t k (record (w.hosts k) { producer = Replicating s.history (length t.log) })
+            w.hosts
             (hosts.producer_host covers reflexive transitive t (w.hosts k) (Replicating s.history (length t.log)) grown (
               omega arith,
               λ e. refl,
@@ -63,7 +68,8 @@ module _ {I : Type 0} (covers : I → I → Bool) (reflexive : (i : I) → cover
                   },
             ))
             (λ j. grow.grown_host covers reflexive transitive s t (w.hosts j) g h.server.replicated (h.hosts j));
-        answered = subst (λ (xs : List I). Covers covers xs w.answered) (sym (take-append-le s.replicated s.log items h.server.replicated)) h.answered;
+        answered = subst (λ (xs : List I). Covers covers xs w.answered) (sym (take-append-le s.replicated s.log items h.server.replicated))
+            h.answered;
       }
 
   added_kept : (w : Fleet I) (k : ℕ) (items : List I) → Covers covers items (in_flight_of (bridge_at w k)) → IsKept covers w →
@@ -71,7 +77,8 @@ module _ {I : Type 0} (covers : I → I → Bool) (reflexive : (i : I) → cover
   added_kept w k items sent h =
       added_with w k items w.server.trimmed w.server.end w.server.snapshot (added_server w.server items h.server) sent h
 
-  compacted_kept : (w : Fleet I) (k : ℕ) (m : Option ℕ) (p : ℕ) (snapshot items : List I) → (w.hosts k).producer ≡ Compacting m p snapshot items →
+  compacted_kept : (w : Fleet I) (k : ℕ) (m : Option ℕ) (p : ℕ) (snapshot items : List I) →
+      (w.hosts k).producer ≡ Compacting m p snapshot items →
       m ≡ Some w.server.history → w.server.end ≤ p → IsKept covers w → IsKept covers (after covers w (IsCompacted k m p snapshot items))
   compacted_kept w k m p snapshot items q e l h =
       let s = w.server in
@@ -88,15 +95,25 @@ module _ {I : Type 0} (covers : I → I → Bool) (reflexive : (i : I) → cover
       })
       t.0 h
 
-  replicated_kept : (w : Fleet I) (p : ℕ) → w.server.replicated ≤ p → p ≤ length w.server.log → IsKept covers w → IsKept covers (after covers w (Replicates p))
+  replicated_kept : (w : Fleet I) (p : ℕ) → w.server.replicated ≤ p → p ≤ length w.server.log → IsKept covers w →
+      IsKept covers (after covers w (Replicates p))
   replicated_kept w p l m h =
       let s = w.server in
       let t = record s { replicated = p } in
       let g = same_grows s s.trimmed s.end p s.snapshot l in
       record {
-        server = record { trimmed = h.server.trimmed; end = h.server.end; replicated = m; whole = h.server.whole; nothing_else = h.server.nothing_else };
+        server =
+            record {
+              trimmed = h.server.trimmed;
+              end = h.server.end;
+              replicated = m;
+              whole = h.server.whole;
+              nothing_else =
+                  h.server.nothing_else;
+            };
         hosts = λ j. grow.grown_host covers reflexive transitive s t (w.hosts j) g h.server.replicated (h.hosts j);
-        answered = cover.in_more covers reflexive transitive (take s.replicated s.log) (take p s.log) w.answered (part_takes s.replicated p s.log l) h.answered;
+        answered = cover.in_more covers reflexive transitive (take s.replicated s.log) (take p s.log) w.answered
+            (part_takes s.replicated p s.log l) h.answered;
       }
 
   failed_over_kept : (w : Fleet I) (s : Server I) → w.server.history < s.history → IsServer covers s → w.server.replicated ≤ s.replicated →
@@ -111,13 +128,15 @@ module _ {I : Type 0} (covers : I → I → Bool) (reflexive : (i : I) → cover
       ap (λ (xs : List I). take old.replicated xs) e.1 ∙ take-take old.replicated n old.log fits in
       record {
         server = v;
-        hosts = λ j. grow.cut_host covers reflexive transitive s (w.hosts j) (grow.other_host covers reflexive transitive old s (w.hosts j) l (h.hosts j));
+        hosts = λ j. grow.cut_host covers reflexive transitive s (w.hosts j)
+            (grow.other_host covers reflexive transitive old s (w.hosts j) l (h.hosts j));
         answered = cover.in_more covers reflexive transitive (take old.replicated old.log) (take s.replicated s.log) w.answered
             (λ x q. part_takes old.replicated s.replicated s.log k x (subst (λ (xs : List I). Contains xs x) (sym front) q))
             h.answered;
       }
 
-  lost_kept : (w : Fleet I) (s : Server I) → w.server.history < s.history → IsServer covers s → IsKept covers w → IsKept covers (after covers w (Loses s))
+  lost_kept : (w : Fleet I) (s : Server I) → w.server.history < s.history → IsServer covers s → IsKept covers w →
+      IsKept covers (after covers w (Loses s))
   lost_kept w s l v h =
       record {
         server = v;
@@ -125,13 +144,15 @@ module _ {I : Type 0} (covers : I → I → Bool) (reflexive : (i : I) → cover
         answered = cover.none covers reflexive transitive (take s.replicated s.log);
       }
 
-  acknowledged_kept : (w : Fleet I) (k n : ℕ) → (w.hosts k).producer ≡ Acknowledged n → IsKept covers w → IsKept covers (after covers w (GetsAcknowledged k n))
+  acknowledged_kept : (w : Fleet I) (k n : ℕ) → (w.hosts k).producer ≡ Acknowledged n → IsKept covers w →
+      IsKept covers (after covers w (GetsAcknowledged k n))
   acknowledged_kept w k n m h =
       let s = w.server in
       let t = hosts.at_producer covers reflexive transitive s (w.hosts k) (Acknowledged n) (h.hosts k) m in
       record {
         server = h.server;
-        hosts = hosts.placed_all covers reflexive transitive s k (record (w.hosts k) { bridge = acknowledged (bridge_at w k); producer = Idle }) w.hosts
+        hosts = hosts.placed_all covers reflexive transitive s k
+            (record (w.hosts k) { bridge = acknowledged (bridge_at w k); producer = Idle }) w.hosts
             (hosts.acknowledge_host covers reflexive transitive s (w.hosts k) n h.server (h.hosts k) m) h.hosts;
         answered = by_test (n == s.history) refl t.2;
       }
@@ -148,16 +169,21 @@ module _ {I : Type 0} (covers : I → I → Bool) (reflexive : (i : I) → cover
   with_kept : (w : Fleet I) (k : ℕ) (host : Host I) → IsKept covers w → IsHost covers w.server host → IsKept covers (with_host w k host)
   with_kept w k host h new = hosts.host_kept covers reflexive transitive w k host h new
 
-  producer_kept : (w : Fleet I) (k : ℕ) (l : Producer I) → IsKept covers w → ProducerIs covers w.server (bridge_at w k) l → IsKept covers (with_producer w k l)
+  producer_kept : (w : Fleet I) (k : ℕ) (l : Producer I) → IsKept covers w → ProducerIs covers w.server (bridge_at w k) l →
+      IsKept covers (with_producer w k l)
   producer_kept w k l h t =
-      with_kept w k (record (w.hosts k) { producer = l }) h (hosts.producer_host covers reflexive transitive w.server (w.hosts k) l (h.hosts k) t)
+      with_kept w k (record (w.hosts k) { producer = l }) h
+      (hosts.producer_host covers reflexive transitive w.server (w.hosts k) l (h.hosts k) t)
 
-  consumer_kept : (w : Fleet I) (k : ℕ) (l : Consumer I) → IsKept covers w → ConsumerIs covers w.server l → IsKept covers (with_consumer w k l)
+  consumer_kept : (w : Fleet I) (k : ℕ) (l : Consumer I) → IsKept covers w → ConsumerIs covers w.server l →
+      IsKept covers (with_consumer w k l)
   consumer_kept w k l h t =
-      with_kept w k (record (w.hosts k) { consumer = l }) h (hosts.consumer_host covers reflexive transitive w.server (w.hosts k) l (h.hosts k) t)
+      with_kept w k (record (w.hosts k) { consumer = l }) h
+      (hosts.consumer_host covers reflexive transitive w.server (w.hosts k) l (h.hosts k) t)
 
   read_kept : (w : Fleet I) (k : ℕ) (m : Option ℕ) (p n : ℕ) (items : List I) → (w.hosts k).consumer ≡ Reading m p →
-      (w.server.trimmed ≤ p → items ≡ take n (drop p w.server.log)) → IsKept covers w → IsKept covers (after covers w (IsRead k m p n items))
+      (w.server.trimmed ≤ p → items ≡ take n (drop p w.server.log)) → IsKept covers w →
+      IsKept covers (after covers w (IsRead k m p n items))
   read_kept w k m p n items r f h =
       let s = w.server in
       let t = hosts.at_consumer covers reflexive transitive s (w.hosts k) (Reading m p) (h.hosts k) r in
@@ -168,7 +194,8 @@ module _ {I : Type 0} (covers : I → I → Bool) (reflexive : (i : I) → cover
               front = take p s.log;
               back = drop n (drop p s.log);
               whole = sym (ap (λ (xs : List I). take p s.log ++ xs)
-                  (ap (λ (xs : List I). xs ++ drop n (drop p s.log)) (f (let g = h.server.trimmed in omega arith)) ∙ take-append-drop n (drop p s.log)) ∙
+                  (ap (λ (xs : List I). xs ++ drop n (drop p s.log)) (f (let g = h.server.trimmed in omega arith)) ∙
+                  take-append-drop n (drop p s.log)) ∙
                   take-append-drop p s.log);
               position = length-take-le p s.log (t.1 e);
             },
@@ -190,7 +217,8 @@ module _ {I : Type 0} (covers : I → I → Bool) (reflexive : (i : I) → cover
   step w (AsksToRead k) m h =
       consumer_kept w k (Reading (bridge_at w k).met (bridge_at w k).position) h ((h.hosts k).met, λ e. ((h.hosts k).tracks e).position)
   step w (IsMet k) m h = producer_kept w k (Met w.server.history) h (omega arith, λ e. refl)
-  step w (IsAdded k items) m h = added_kept w k items (hosts.at_producer covers reflexive transitive w.server (w.hosts k) (Adding items) (h.hosts k) m) h
+  step w (IsAdded k items) m h = added_kept w k items
+      (hosts.at_producer covers reflexive transitive w.server (w.hosts k) (Adding items) (h.hosts k) m) h
   step w (IsReplicated k n p) m h =
       let t = hosts.at_producer covers reflexive transitive w.server (w.hosts k) (Replicating n p) (h.hosts k) m.0 in
       producer_kept w k (Acknowledged n) h (
@@ -204,7 +232,8 @@ module _ {I : Type 0} (covers : I → I → Bool) (reflexive : (i : I) → cover
       (λ e. record { end = h.server.end; whole = h.server.whole; nothing_else = h.server.nothing_else })
   step w (IsCompacted k o p snapshot items) m h = compacted_kept w k o p snapshot items m.0 m.1 m.2 h
   step w (IsOnlyAdded k o p snapshot items) m h =
-      added_kept w k items (hosts.at_producer covers reflexive transitive w.server (w.hosts k) (Compacting o p snapshot items) (h.hosts k) m).0 h
+      added_kept w k items (hosts.at_producer covers reflexive transitive w.server (w.hosts k) (Compacting o p snapshot items) (h.hosts k)
+      m).0 h
   step w (IsRead k o p n items) m h = read_kept w k o p n items m.0 m.1 h
   step w (Meets k n) m h =
       with_kept w k (record (w.hosts k) { bridge = meeting (bridge_at w k) n; producer = Idle }) h
@@ -225,14 +254,19 @@ module _ {I : Type 0} (covers : I → I → Bool) (reflexive : (i : I) → cover
   step w (Ignores k) m h = producer_kept w k Idle h tt
   step w (IgnoresReading k) m h = consumer_kept w k Paused h tt
   step w (Rereads k) m h =
-      with_kept w k (record (w.hosts k) { bridge = rereading (bridge_at w k) }) h (hosts.reread_host covers reflexive transitive w.server (w.hosts k) (h.hosts k))
+      with_kept w k (record (w.hosts k) { bridge = rereading (bridge_at w k) }) h
+      (hosts.reread_host covers reflexive transitive w.server (w.hosts k) (h.hosts k))
   step w (Refills k) m h =
-      with_kept w k (record (w.hosts k) { bridge = refilled covers (bridge_at w k) }) h (hosts.refill_host covers reflexive transitive w.server (w.hosts k) (h.hosts k))
+      with_kept w k (record (w.hosts k) { bridge = refilled covers (bridge_at w k) }) h
+      (hosts.refill_host covers reflexive transitive w.server (w.hosts k) (h.hosts k))
   step w (Folds k) m h =
-      with_kept w k (record (w.hosts k) { bridge = folded (bridge_at w k) }) h (hosts.fold_host covers reflexive transitive w.server (w.hosts k) (h.hosts k))
+      with_kept w k (record (w.hosts k) { bridge = folded (bridge_at w k) }) h
+      (hosts.fold_host covers reflexive transitive w.server (w.hosts k) (h.hosts k))
   step w (Doubts k) m h =
-      with_kept w k (record (w.hosts k) { bridge = doubting (bridge_at w k) }) h (hosts.doubt_host covers reflexive transitive w.server (w.hosts k) (h.hosts k))
-  step w (Disconnects k) m h = with_kept w k (cut_off (w.hosts k)) h (grow.cut_host covers reflexive transitive w.server (w.hosts k) (h.hosts k))
+      with_kept w k (record (w.hosts k) { bridge = doubting (bridge_at w k) }) h
+      (hosts.doubt_host covers reflexive transitive w.server (w.hosts k) (h.hosts k))
+  step w (Disconnects k) m h = with_kept w k (cut_off (w.hosts k)) h
+      (grow.cut_host covers reflexive transitive w.server (w.hosts k) (h.hosts k))
   step w (Crashes k) m h = with_kept w k new_host h (hosts.fresh_host covers reflexive transitive w.server)
   step w (Replicates p) m h = replicated_kept w p m.0 m.1 h
   step w (FailsOver s) m h = failed_over_kept w s m.0 m.1 m.2 m.3 h
@@ -242,7 +276,8 @@ module _ {I : Type 0} (covers : I → I → Bool) (reflexive : (i : I) → cover
   new_kept w n =
       record {
         server = n.server;
-        hosts = λ k. subst (λ (host : Host I). IsHost covers w.server host) (sym (n.hosts k)) (hosts.fresh_host covers reflexive transitive w.server);
+        hosts = λ k. subst (λ (host : Host I). IsHost covers w.server host) (sym (n.hosts k))
+            (hosts.fresh_host covers reflexive transitive w.server);
         answered = subst (λ (xs : List I). Covers covers (take w.server.replicated w.server.log) xs) (sym n.answered)
             (cover.none covers reflexive transitive (take w.server.replicated w.server.log));
       }

@@ -32,9 +32,17 @@ at_newline b bs same p =
     }
 
 -- another byte belongs to the first line
-at_other : (b : ℕ) (bs : List ℕ) (front : List (List ℕ)) (last : List ℕ) → b ≢ 10 → bs ≡ joined front ++ last → All IsUnbroken front → IsUnbroken last → Parts (b ∷ bs)
+at_other : (b : ℕ) (bs : List ℕ) (front : List (List ℕ)) (last : List ℕ) → b ≢ 10 → bs ≡ joined front ++ last → All IsUnbroken front →
+    IsUnbroken last → Parts (b ∷ bs)
 at_other b bs [] last other text whole whole_last =
-    record { front = []; last = b ∷ last; text = ap (λ (l : List ℕ). b ∷ l) text; unbroken = All-nil IsUnbroken; unbroken_last = unbroken_more b last other whole_last }
+    record {
+      front = [];
+      last = b ∷ last;
+      text = ap (λ (l : List ℕ). b ∷ l) text;
+      unbroken = All-nil IsUnbroken;
+      unbroken_last =
+          unbroken_more b last other whole_last;
+    }
 at_other b bs (line ∷ front) last other text whole whole_last =
     record {
       front = (b ∷ line) ∷ front;
@@ -54,5 +62,15 @@ parts (b ∷ bs) = by_test b bs (b == 10) refl (parts bs)
 
 pub has_lines : InputsHaveLines
 has_lines input =
-    let p = parts input in
-    (p.front ++ unended p.last, record { front = p.front; last = p.last; text = p.text; unbroken = p.unbroken; unbroken_last = p.unbroken_last; all = refl })
+    let p = parts input in (
+      p.front ++ unended p.last,
+      record {
+        front = p.front;
+        last = p.last;
+        text = p.text;
+        unbroken = p.unbroken;
+        unbroken_last =
+            p.unbroken_last;
+        all = refl;
+      },
+    )

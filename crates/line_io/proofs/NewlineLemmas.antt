@@ -37,7 +37,8 @@ breaks_at (x ∷ xs) (suc i) h none passes =
     }
 
 -- what a search for the first newline finds
-pub newline_found : (text : List ℕ) (place : Option ℕ) → IsFirstByte (is_byte 10) text place → MatchOption place (IsUnbroken text) (BreaksAt text)
+pub newline_found : (text : List ℕ) (place : Option ℕ) → IsFirstByte (is_byte 10) text place →
+    MatchOption place (IsUnbroken text) (BreaksAt text)
 newline_found text None found = unbroken text found
 newline_found text (Some i) found = breaks_at text i found.0.high found.0.before found.1
 

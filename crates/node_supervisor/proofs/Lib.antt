@@ -1,2 +1,3 @@
 pub mod TellLemmas
 pub mod MoveLemmas
+pub mod RenewalLemmas

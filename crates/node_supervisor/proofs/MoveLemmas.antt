@@ -23,7 +23,8 @@ nodes_are_supervisors s t (Client c ∷ moves) rs e (u, ((reply, turn), same), p
     let r = nodes_are_supervisors u t moves rs (turn.1 ∙ e) path in
     (r.0, r.1, subst (λ (k : Keeper). Path IsMove (supervisor_of rs k) (supervised_in moves) (supervisor_of r.0 t.keeper)) same r.2)
 nodes_are_supervisors s t (Supervise m ∷ moves) rs e (u, move, path) =
-    let g = goes_on rs s.keeper u.keeper m u.node.services (subst (λ (o : Option RsRecord). Supervises o s.keeper m u.node.services u.keeper) e move) in
+    let g = goes_on rs s.keeper u.keeper m u.node.services
+    (subst (λ (o : Option RsRecord). Supervises o s.keeper m u.node.services u.keeper) e move) in
     let r = nodes_are_supervisors u t moves g.0 g.1 path in
     (r.0, r.1, (supervisor_of g.0 u.keeper, g.2, r.2))
 

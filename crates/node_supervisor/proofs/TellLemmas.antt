@@ -1,5 +1,6 @@
 -- From turns of RS and its store to what a supervisor tells RS.
-use Rattle.std.proofs.Common.{◌≡◌, ◌≢◌, ◌&&◌, ℕ, nat_lt, Bool, true, false, not, List, [], ◌∷◌, Option, Some, None, Result, Ok, Err, refl, sym, ap, ◌∙◌, subst, inl, inr}
+use Rattle.std.proofs.Common.{◌≡◌, ◌≢◌, ◌&&◌, ℕ, nat_lt, Bool, true, false, not, List, [], ◌∷◌, Option, Some, None, Result, Ok, Err, refl}
+use Rattle.std.proofs.Common.{sym, ap, ◌∙◌, subst, inl, inr}
 use Rattle.std.proofs.lemmas.Bool.{false≢true, true≢false}
 use Rattle.std.proofs.lemmas.Option.{none-some, same_Some}
 use Rattle.std.specs.List.{slice_get}
@@ -37,7 +38,8 @@ use Rattle.supervisor.specs.Telling.{IsPlanned, IsRefusedBy, Told, is_held, next
 use Rattle.supervisor.specs.declared.fault.SupervisorFault.{SupervisorFault}
 use Rattle.supervisor.specs.declared.fault.SupervisorFault.TheVariants.{NotDead, Refused, Unwritten}
 use Rattle.node_supervisor.specs.Moves.{Supervises}
-use Rattle.node_supervisor.specs.Telling.{FollowsNode, Holds, IsDeadIn, IsNodeRefusal, IsNodeReportRefused, IsNodeVouchRefused, IsPendingIn, NoneIsDead, NoneIsPending, ReportTurn, ToldBy, VouchesNode, why_refused, next_start}
+use Rattle.node_supervisor.specs.Telling.{FollowsNode, Holds, IsDeadIn, IsNodeRefusal, IsNodeReportRefused, IsNodeVouchRefused, IsPendingIn}
+use Rattle.node_supervisor.specs.Telling.{NoneIsDead, NoneIsPending, ReportTurn, ToldBy, VouchesNode, why_refused, next_start}
 
 -- ---- starts that wait for the file
 but_not : (b c : Bool) → c ≡ true → (b && not c) ≡ false
@@ -45,7 +47,8 @@ but_not true true e = refl
 but_not false true e = refl
 but_not b false e = absurd (false≢true e)
 
-pub holds_not_ahead : (o : Option RsRecord) (next file tick : ℕ) (event : Event) → nat_lt next file ≡ true → Holds o next file event tick false
+pub holds_not_ahead : (o : Option RsRecord) (next file tick : ℕ) (event : Event) → nat_lt next file ≡ true →
+    Holds o next file event tick false
 holds_not_ahead None next file tick event e = refl
 holds_not_ahead (Some rs) next file tick event e =
     λ p h. but_not (starts_instance p) (nat_lt next file) e
@@ -66,12 +69,14 @@ same_task p q e = ap task_in e
 
 pub holds_by_plan : (o : Option RsRecord) (rs : RsRecord) (next file tick : ℕ) (event : Event) (plan : Plan) (b : Bool) → o ≡ Some rs →
     IsPlanOf rs event tick plan → b ≡ is_held plan next file → Holds o next file event tick b
-holds_by_plan o rs next file tick event plan b e h is = subst (λ (x : Option RsRecord). Holds x next file event tick b) (sym e) (by_held b is)
+holds_by_plan o rs next file tick event plan b e h is =
+    subst (λ (x : Option RsRecord). Holds x next file event tick b) (sym e) (by_held b is)
   where
     by_held : (b : Bool) → b ≡ is_held plan next file → Holds (Some rs) next file event tick b
     by_held true is = (plan, h, sym is)
     by_held false is = λ p k.
-        ap (λ (t : Option Task). asks takes_generation (Ok t) && not (nat_lt next file)) (same_task p.task plan.task (sym k.called ∙ h.called)) ∙ sym is
+        ap (λ (t : Option Task). asks takes_generation (Ok t) && not (nat_lt next file))
+        (same_task p.task plan.task (sym k.called ∙ h.called)) ∙ sym is
 
 pub holds_not_refused : (o : Option RsRecord) (rs : RsRecord) (next file tick : ℕ) (event : Event) (fault : RsFault) → o ≡ Some rs →
     refusal rs event tick ≡ Some fault → Holds o next file event tick false
@@ -84,7 +89,8 @@ held_is_refusal None next file tick event h = absurd (true≢false h)
 held_is_refusal (Some rs) next file tick event h = h
 
 -- ---- refusals
-planned : (rs : RsRecord) (event : Event) (tick : ℕ) (r : Result (Option Task) RsFault) → asked rs event tick ≡ r → refusal rs event tick ≡ None →
+planned : (rs : RsRecord) (event : Event) (tick : ℕ) (r : Result (Option Task) RsFault) → asked rs event tick ≡ r →
+    refusal rs event tick ≡ None →
     asks has_actions r ≡ true → IsPlanned acts rs event tick
 planned rs event tick (Err fault) e n a = absurd (false≢true a)
 planned rs event tick (Ok p) e n a = (record { tick = tick; task = p }, record { allowed = n; called = e; at = refl }, a)
@@ -103,8 +109,10 @@ refused_by rs next file tick event faults.GenerationsSpent h = inl h
 refused_by rs next file tick event faults.NoSlot h = inl h
 
 -- The reply of a turn whose reply has this fault.
-refusing : (event : Event) (tick : ℕ) (rs : RsRecord) (old new : ContentRecord) (reply : RsReply) (after : Option RsRecord) (fault : RsFault) →
-    RsServes event tick rs old reply after new → why_refused reply ≡ Some fault → RsRefuses rs event tick fault × (after ≡ Some rs) × (new ≡ old)
+refusing : (event : Event) (tick : ℕ) (rs : RsRecord) (old new : ContentRecord) (reply : RsReply) (after : Option RsRecord)
+    (fault : RsFault) →
+    RsServes event tick rs old reply after new → why_refused reply ≡ Some fault →
+    RsRefuses rs event tick fault × (after ≡ Some rs) × (new ≡ old)
 refusing event tick rs old new (RefusedReply f) after fault h e =
     subst (λ (x : RsFault). RsRefuses rs event tick x × (after ≡ Some rs) × (new ≡ old)) (same_Some f fault e) h
 refusing event tick rs old new (Acted a r g) after fault h e = absurd (none-some fault e)
@@ -123,7 +131,8 @@ reply_of_fault (Begun a b) fault e = absurd (none-some fault e)
 reply_of_fault Exists fault e = absurd (none-some fault e)
 reply_of_fault (NotBegun f) fault e = absurd (none-some fault e)
 
-pub turn_is_refusal : (o after : Option RsRecord) (next file tick : ℕ) (event : Event) (old new : ContentRecord) (reply : RsReply) (fault : RsFault) →
+pub turn_is_refusal : (o after : Option RsRecord) (next file tick : ℕ) (event : Event) (old new : ContentRecord) (reply : RsReply)
+    (fault : RsFault) →
     EventTurn event tick o old reply after new → Some fault ≡ why_refused reply → IsNodeRefusal o next file event tick (Refused fault)
 turn_is_refusal None after next file tick event old new reply fault h e = sym h.0 ∙ reply_of_fault reply fault (sym e)
 turn_is_refusal (Some rs) after next file tick event old new reply fault h e =
@@ -143,7 +152,8 @@ refused_changes_nothing a b tick event reply fault h e = by_services a.services 
 -- ---- what RS is told
 acting : (event : Event) (tick : ℕ) (rs : RsRecord) (old new : ContentRecord) (reply : RsReply) (after : Option RsRecord) →
     RsServes event tick rs old reply after new → None ≡ why_refused reply →
-    (actions : List Action) × (t : RsRecord) × RsStep rs event tick actions t × (after ≡ Some t) × (replies : List (Option Reply)) × TurnsFor old actions replies new
+    (actions : List Action) × (t : RsRecord) × RsStep rs event tick actions t × (after ≡ Some t) × (replies : List (Option Reply)) ×
+    TurnsFor old actions replies new
 acting event tick rs old new (Acted a r g) after h e = (a, h.0.0, h.0.1, h.0.2, r, h.1)
 acting event tick rs old new (RefusedReply f) after h e = absurd (none-some f e)
 acting event tick rs old new (Replied r) after h e = absurd h
@@ -153,7 +163,8 @@ acting event tick rs old new Exists after h e = absurd h
 acting event tick rs old new (NotBegun f) after h e = absurd h
 
 told_by_step : (rs t : RsRecord) (next file given tick : ℕ) (event : Event) (actions : List Action) → RsStep rs event tick actions t →
-    Holds (Some rs) next file event tick false → given ≡ next_after_start rs.next t.next next file → Told rs next file event tick actions t given
+    Holds (Some rs) next file event tick false → given ≡ next_after_start rs.next t.next next file →
+    Told rs next file event tick actions t given
 told_by_step rs t next file given tick event actions step free counts =
     let p : Plan = record { tick = tick; task = step.0 } in
     let h : IsPlanOf rs event tick p = record { allowed = step.1; called = step.2; at = refl } in
@@ -167,8 +178,11 @@ turn_is_told None after next file given tick event old new reply h e free counts
     (counts ∙ ap (λ (x : Option RsRecord). next_after_start 0 (next_start x) next file) h.1)
 turn_is_told (Some rs) after next file given tick event old new reply h e free counts =
     let a = acting event tick rs old new reply after h e in
-    subst (λ (x : Option RsRecord). ToldBy (Some rs) next file event tick x given) (sym a.3)
-    (a.0, told_by_step rs a.1 next file given tick event a.0 a.2 free (counts ∙ ap (λ (x : Option RsRecord). next_after_start rs.next (next_start x) next file) a.3))
+    subst (λ (x : Option RsRecord). ToldBy (Some rs) next file event tick x given) (sym a.3) (
+      a.0,
+      told_by_step rs a.1 next file given tick event a.0 a.2 free
+          (counts ∙ ap (λ (x : Option RsRecord). next_after_start rs.next (next_start x) next file) a.3),
+    )
 
 -- ---- moves
 pub told_is_move : (o after : Option RsRecord) (k l : Keeper) (event : Event) (tick deadline given : ℕ) (mid : List Lifecycle) →
@@ -182,12 +196,14 @@ told_is_move (Some rs) (Some t) k l event tick deadline given mid told m f n e =
   subst (λ (xs : List Lifecycle). FollowsNode (Some t) deadline xs l.labels.items) m f,
 )
 
-took : (labels new : List Lifecycle) (k now : ℕ) (b : Bool) (p : Lifecycle) → slice_get labels k ≡ Some p → is_accepted p (Reported 0) ≡ true →
+took : (labels new : List Lifecycle) (k now : ℕ) (b : Bool) (p : Lifecycle) → slice_get labels k ≡ Some p →
+    is_accepted p (Reported 0) ≡ true →
     TakesAt labels k (Reported now) b new → TakesAt labels k (Reported now) true new
 took labels new k now true p at a h = h
 took labels new k now false p at a h = absurd (true≢false (sym a ∙ h.0 p at))
 
-pub report_is_move : (o after : Option RsRecord) (k l : Keeper) (label cause tick now given : ℕ) (endpoint : EndpointRecord) (b : Bool) (mid taken : List Lifecycle) →
+pub report_is_move : (o after : Option RsRecord) (k l : Keeper) (label cause tick now given : ℕ) (endpoint : EndpointRecord) (b : Bool)
+    (mid taken : List Lifecycle) →
     IsDeadIn o k.labels.items label endpoint → ToldBy o k.next k.file (Death endpoint cause) tick after given → mid ≡ k.labels.items →
     TakesAt mid label (Reported now) b taken → FollowsNode after now taken l.labels.items → l.next ≡ given → l.file ≡ k.file →
     Supervises o k (Report label cause tick now) after l
@@ -198,17 +214,21 @@ report_is_move (Some rs) (Some s) k l label cause tick now given endpoint b mid 
   (taken, took k.labels.items taken label now b p at a (subst (λ (xs : List Lifecycle). TakesAt xs label (Reported now) b taken) m t), f),
 )
 
-pub report_turn : (o after : Option RsRecord) (labels : List Lifecycle) (label cause tick : ℕ) (endpoint : EndpointRecord) (old new : ContentRecord) (reply : RsReply) →
-    IsDeadIn o labels label endpoint → EventTurn (Death endpoint cause) tick o old reply after new → ReportTurn o old label cause tick reply after new
+pub report_turn : (o after : Option RsRecord) (labels : List Lifecycle) (label cause tick : ℕ) (endpoint : EndpointRecord)
+    (old new : ContentRecord) (reply : RsReply) →
+    IsDeadIn o labels label endpoint → EventTurn (Death endpoint cause) tick o old reply after new →
+    ReportTurn o old label cause tick reply after new
 report_turn None after labels label cause tick endpoint old new reply dead h = absurd dead
 report_turn (Some rs) after labels label cause tick endpoint old new reply dead h = (endpoint, dead.1, h)
 
 pub report_refused : (o : Option RsRecord) (k : Keeper) (label cause tick : ℕ) (endpoint : EndpointRecord) (fault : SupervisorFault) →
-    IsDeadIn o k.labels.items label endpoint → IsNodeRefusal o k.next k.file (Death endpoint cause) tick fault → IsNodeReportRefused o k label cause tick fault
+    IsDeadIn o k.labels.items label endpoint → IsNodeRefusal o k.next k.file (Death endpoint cause) tick fault →
+    IsNodeReportRefused o k label cause tick fault
 report_refused None k label cause tick endpoint fault dead h = absurd dead
 report_refused (Some rs) k label cause tick endpoint fault dead h = inr (endpoint, dead, h)
 
-pub not_dead : (o : Option RsRecord) (k : Keeper) (label cause tick : ℕ) → NoneIsDead o k.labels.items label → IsNodeReportRefused o k label cause tick NotDead
+pub not_dead : (o : Option RsRecord) (k : Keeper) (label cause tick : ℕ) → NoneIsDead o k.labels.items label →
+    IsNodeReportRefused o k label cause tick NotDead
 not_dead None k label cause tick h = refl
 not_dead (Some rs) k label cause tick h = inl (refl, h)
 
@@ -219,7 +239,8 @@ hears_nothing s service (Up r) = refl
 hears_nothing s service (Waiting p) = refl
 hears_nothing s service GaveUp = refl
 
-beat_actions : (rs t : RsRecord) (e : EndpointRecord) (tick : ℕ) (actions : List Action) (o : Option ℕ) (p : Option Task) → of_instance Hear o ≡ Ok p →
+beat_actions : (rs t : RsRecord) (e : EndpointRecord) (tick : ℕ) (actions : List Action) (o : Option ℕ) (p : Option Task) →
+    of_instance Hear o ≡ Ok p →
     IsCarriedOut rs tick p actions t → actions ≡ []
 beat_actions rs t e tick actions None p is h = absurd (true≢false (ap is_fault is))
 beat_actions rs t e tick actions (Some j) p is h =
@@ -247,7 +268,8 @@ beat_keeps_store (Some rs) after tick endpoint old new reply h = by_fault (why_r
         let none : a.0 ≡ [] = beat_actions rs a.1 endpoint tick a.0 (place_of_instance rs endpoint) a.2.0 a.2.2 a.2.3 in
         no_turns old new a.4 (subst (λ (xs : List Action). TurnsFor old xs a.4 new) none a.5)
 
-pub vouched : (o after : Option RsRecord) (labels : List Lifecycle) (label tick : ℕ) (endpoint : EndpointRecord) (old new : ContentRecord) (reply : RsReply) →
+pub vouched : (o after : Option RsRecord) (labels : List Lifecycle) (label tick : ℕ) (endpoint : EndpointRecord) (old new : ContentRecord)
+    (reply : RsReply) →
     IsPendingIn o labels label endpoint → EventTurn (Beat endpoint) tick o old reply after new → None ≡ why_refused reply →
     VouchesNode o labels label tick true after
 vouched None after labels label tick endpoint old new reply h turn e = absurd h
@@ -287,8 +309,10 @@ says_why rs event tick faults.OldEndpoint h = other_says rs event tick faults.Ol
 says_why rs event tick faults.GenerationsSpent h = other_says rs event tick faults.GenerationsSpent refl h
 says_why rs event tick faults.NoSlot h = other_says rs event tick faults.NoSlot refl h
 
-pub vouch_refused : (o after : Option RsRecord) (labels : List Lifecycle) (label tick : ℕ) (endpoint : EndpointRecord) (old new : ContentRecord) (reply : RsReply)
-    (fault : RsFault) → IsPendingIn o labels label endpoint → EventTurn (Beat endpoint) tick o old reply after new → Some fault ≡ why_refused reply →
+pub vouch_refused : (o after : Option RsRecord) (labels : List Lifecycle) (label tick : ℕ) (endpoint : EndpointRecord)
+    (old new : ContentRecord) (reply : RsReply)
+    (fault : RsFault) → IsPendingIn o labels label endpoint → EventTurn (Beat endpoint) tick o old reply after new →
+    Some fault ≡ why_refused reply →
     IsNodeVouchRefused o label tick (Refused fault)
 vouch_refused None after labels label tick endpoint old new reply fault h turn e = absurd h
 vouch_refused (Some rs) after labels label tick endpoint old new reply fault h turn e =
@@ -328,10 +352,12 @@ pub told : (o after : Option RsRecord) (next file given tick before later : ℕ)
     Holds o next file event tick b → b ≡ false → before ≡ next_start o → later ≡ next_start after →
     given ≡ next_after_start before later next file → ToldBy o next file event tick after given
 told o after next file given tick before later event old new reply r b h e is free not_held was comes counts =
-    turn_is_told o after next file given tick event old new reply h (sym is ∙ e) (subst (λ (x : Bool). Holds o next file event tick x) not_held free)
+    turn_is_told o after next file given tick event old new reply h (sym is ∙ e)
+    (subst (λ (x : Bool). Holds o next file event tick x) not_held free)
     (counts ∙ ap (λ (n : ℕ). next_after_start n later next file) was ∙ ap (λ (n : ℕ). next_after_start (next_start o) n next file) comes)
 
-pub told_moves : (o after : Option RsRecord) (k m l : Keeper) (event : Event) (tick deadline : ℕ) → ToldBy o k.next k.file event tick after m.next →
+pub told_moves : (o after : Option RsRecord) (k m l : Keeper) (event : Event) (tick deadline : ℕ) →
+    ToldBy o k.next k.file event tick after m.next →
     m.labels.items ≡ k.labels.items → m.file ≡ k.file → FollowsNode after deadline m.labels.items l.labels.items → l.next ≡ m.next →
     l.file ≡ m.file → Supervises o k (Tell event tick deadline) after l
 told_moves o after k m l event tick deadline told same file f n e =
@@ -352,8 +378,10 @@ pub heard : (o after : Option RsRecord) (labels : List Lifecycle) (label tick : 
 heard o after labels label tick endpoint old new reply r h turn e is =
     vouched o after labels label tick endpoint old new reply h turn (sym is ∙ e)
 
-pub refuses_beat : (o after : Option RsRecord) (labels : List Lifecycle) (label tick : ℕ) (endpoint : EndpointRecord) (old new : ContentRecord)
+pub refuses_beat : (o after : Option RsRecord) (labels : List Lifecycle) (label tick : ℕ) (endpoint : EndpointRecord)
+    (old new : ContentRecord)
     (reply : RsReply) (fault : RsFault) (r : Option RsFault) → IsPendingIn o labels label endpoint →
-    EventTurn (Beat endpoint) tick o old reply after new → r ≡ why_refused reply → r ≡ Some fault → IsNodeVouchRefused o label tick (Refused fault)
+    EventTurn (Beat endpoint) tick o old reply after new → r ≡ why_refused reply → r ≡ Some fault →
+    IsNodeVouchRefused o label tick (Refused fault)
 refuses_beat o after labels label tick endpoint old new reply fault r h turn e is =
     vouch_refused o after labels label tick endpoint old new reply fault h turn (sym is ∙ e)

@@ -34,7 +34,7 @@ NodesAreReachable =
 abbrev pub NodesAgree : Type 0
 NodesAgree = (s : NodeState) → IsReachableNode s → (rs : RsRecord) × (s.node.services ≡ Some rs) × Agree (supervisor_of rs s.keeper)
 
--- A law: a label keeps its leader until that is reaped.
+-- A law: the label with a number keeps its leader until that is reaped, while labels have the same numbers.
 abbrev pub NodeLeadersStay : Type 0
 NodeLeadersStay =
     (s t : NodeState) (moves : List NodeMove) (rs : RsRecord) (k : ℕ) (p : Lifecycle) (i : Instance) → s.node.services ≡ Some rs →

@@ -1,3 +1,4 @@
 pub mod Moves
+pub mod Renewal
 pub mod Telling
 pub mod Laws

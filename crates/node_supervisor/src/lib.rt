@@ -8,6 +8,7 @@ mod counting;
 mod following;
 mod laws;
 mod processes;
+mod renewing;
 mod telling;
 
 pub use counting::count_of;

@@ -11,6 +11,7 @@ ghost use Rattle.rs_store.specs.Serving.{EventTurn};
 ghost use Rattle.supervisor.specs.Following.{is_note};
 ghost use Rattle.supervisor.specs.Moves.Move.{Report, Tell};
 ghost use Rattle.node_supervisor.specs.Moves.{Supervises};
+ghost use Rattle.node_supervisor.specs.Renewal.{RenewsNode};
 ghost use Rattle.node_supervisor.specs.Telling.{IsNodeRefusal, IsNodeReportRefused, IsNodeVouchRefused, ReportTurn, VouchesNode};
 
 use crate::counting::count_of;
@@ -18,9 +19,10 @@ use crate::telling::why_refused;
 use ds_names::NoRoom;
 use process_keeper::{Input, Keeper, Task};
 use rs_core::{Event, Rs};
+use rs_settings::Settings;
 use rs_store::{RsReply, RsStore};
 use std::alloc::Global;
-use supervisor::{SupervisorFault, is_note};
+use supervisor::{RenewalFault, SupervisorFault, is_note};
 
 /// The keepers of the processes of a node's services. Labels have the numbers of RS's services, from 0. The node is RS beside its store:
 /// each call is made with the same one.
@@ -130,6 +132,34 @@ impl Processes {
                 }
             }
             None => Ok(false),
+        }
+    }
+
+    /// Gives RS other settings, as `RsStore::renew` does, and the services their processes: a service whose label stays keeps its state and
+    /// its processes, whatever its number is. Of a new one an earlier run may have left processes. Returns `None` if RS hasn't begun.
+    ///
+    /// Refuses the settings as `Supervisor::renew` does. If refused, nothing changes. The store is unchanged.
+    #[tactic(auto, using(crate::proofs::RenewalLemmas::taken, crate::proofs::RenewalLemmas::refused_by_rs, crate::proofs::RenewalLemmas::no_rs, crate::proofs::RenewalLemmas::refused_before, crate::proofs::RenewalLemmas::not_begun))]
+    pub fn renew(
+        &mut self,
+        node: &mut RsStore,
+        settings: Settings,
+    ) -> Option<Result<(), RenewalFault>>
+        ensures renews { RenewsNode node.old.services self.old.keeper settings result node.new.services self.new.keeper }
+        ensures store { node.new.store ≡ node.old.store }
+    {
+        let _settings = settings.slots(); // its clause says that they are checked
+        match self.renewed_for(node, &settings) {
+            Some(Ok(keeper)) => match node.renew(settings) {
+                None => None,
+                Some(Ok(())) => {
+                    self.keeper = keeper;
+                    Some(Ok(()))
+                }
+                Some(Err(fault)) => Some(Err(RenewalFault::Refused(fault))),
+            },
+            Some(Err(fault)) => Some(Err(fault)),
+            None => None,
         }
     }
 

@@ -1,19 +1,23 @@
 -- Inputs and tasks are events of the rule.
-use Rattle.std.proofs.Common.{◌≡◌, ◌+◌, ◌<◌, ◌≤◌, ◌&&◌, ℕ, true, false, not, is_some, Option, Some, None, refl, sym, ap, ◌∙◌, subst, inl, inr}
+use Rattle.std.proofs.Common.{◌≡◌, ◌+◌, ◌<◌, ◌≤◌, ◌&&◌, ℕ, true, false, not, is_some, Option, Some, None, refl, sym, ap, ◌∙◌, subst, inl}
+use Rattle.std.proofs.Common.{inr}
 use Rattle.std.proofs.lemmas.Bool.{and_parts}
 use Rattle.process_rule.specs.Supervisor.{InstanceState, ServiceState, Host, replaced}
 use Rattle.process_rule.specs.Events.{Event, after_event, May, IsReachable, stopping}
-use Rattle.process_rule.specs.Events.Event.{Start, Cancel, Stop, Shorten, Begin, Fail, Report, Reap, Clear}
-use Rattle.process_rule.proofs.LawLemmas.{signals_are_aimed, groups_may_be_killed}
+use Rattle.process_rule.specs.Events.Event.{Start, Cancel, Stop, Shorten, Begin, Fail, Report, Reap, Clear, Forget}
+use Rattle.process_rule.proofs.LawLemmas.{forgets_none, signals_are_aimed, groups_may_be_killed}
 use Rattle.process_rule.proofs.PutLemmas.{at_service, replaced_same}
 use Rattle.process_keeper.specs.Inputs.{is_accepted, after_input, after_scan, is_running, is_stopping}
+use Rattle.process_keeper.specs.Renewal.{new_lifecycle}
 use Rattle.process_keeper.specs.Sight.{service, some_instance, IsTrueOf}
-use Rattle.process_keeper.specs.Happening.{IsSeen, IsEventOf, InputsAreEvents, TasksMayBeDone}
-use Rattle.process_keeper.specs.declared.input.Input.TheVariants.{Started, Cancelled, Stopped, Shortened, Begun, Failed, Exited, Changed, Asked, Killed, Scanned, Reported, Reaped, Cleared}
+use Rattle.process_keeper.specs.Happening.{IsSeen, IsEventOf, IdleMayBeLeftOut, InputsAreEvents, TasksMayBeDone}
+use Rattle.process_keeper.specs.declared.input.Input.TheVariants.{Started, Cancelled, Stopped, Shortened, Begun, Failed, Exited, Changed}
+use Rattle.process_keeper.specs.declared.input.Input.TheVariants.{Asked, Killed, Scanned, Reported, Reaped, Cleared}
 use Rattle.process_keeper.specs.declared.lifecycle.Lifecycle.{Lifecycle}
 use Rattle.process_keeper.specs.declared.scan.Scan.{Scan}
 use Rattle.process_keeper.specs.declared.scan.Scan.TheVariants.{Nothing, Dying, Living}
-use Rattle.process_keeper.proofs.SightLemmas.{no_test, some_test, up_instance, not_up_instance, stopping_instance, due_instance, no_instance_test, stopped_is, stopped_leader, begun_is, SeesSame, own_truth}
+use Rattle.process_keeper.proofs.SightLemmas.{no_test, some_test, up_instance, not_up_instance, stopping_instance, due_instance}
+use Rattle.process_keeper.proofs.SightLemmas.{no_instance_test, stopped_is, stopped_leader, begun_is, SeesSame, own_truth, truth_stays}
 
 -- An event that replaces one service.
 event_of : (h : Host) (k : ℕ) (p q : Lifecycle) (e : Event) (s : ServiceState) → IsReachable h → IsTrueOf h k p → May h e →
@@ -30,11 +34,13 @@ event_of h k p q e s path t m f g same =
 quiet : (h : Host) (k : ℕ) (q : Lifecycle) → IsTrueOf h k q → IsEventOf h k q
 quiet h k q t = record { event = Fail k; may = tt; true_of = t; others = λ j d. refl }
 
-same_leader : (p q : Lifecycle) → some_instance q.instance ≡ some_instance p.instance → (i : InstanceState) → (service q).instance ≡ Some i →
+same_leader : (p q : Lifecycle) → some_instance q.instance ≡ some_instance p.instance → (i : InstanceState) →
+    (service q).instance ≡ Some i →
     (j : InstanceState) × ((service p).instance ≡ Some j) × (j.leader ≡ i.leader)
 same_leader p q e i u = (i, sym e ∙ u, refl)
 
-start_event : (h : Host) (k : ℕ) (p : Lifecycle) (g : ℕ) → IsReachable h → IsTrueOf h k p → is_accepted p (Started g) ≡ true → IsSeen h k p (Started g) →
+start_event : (h : Host) (k : ℕ) (p : Lifecycle) (g : ℕ) → IsReachable h → IsTrueOf h k p → is_accepted p (Started g) ≡ true →
+    IsSeen h k p (Started g) →
     IsEventOf h k (after_input p (Started g))
 start_event h k p g path t a seen =
     let q = after_input p (Started g) in
@@ -45,10 +51,12 @@ start_event h k p g path t a seen =
       subst (λ (y : ℕ). y < h.file) seen.0 seen.1,
     )
     (λ j. refl)
-    (ap (λ (y : ServiceState). record y { pending = Some h.next }) t.same ∙ ap (λ (y : ℕ). record (service p) { pending = Some y }) (sym seen.0))
+    (ap (λ (y : ServiceState). record y { pending = Some h.next }) t.same ∙
+    ap (λ (y : ℕ). record (service p) { pending = Some y }) (sym seen.0))
     (inr (refl, refl, same_leader p q refl))
 
-stop_event : (h : Host) (k : ℕ) (p : Lifecycle) (at : ℕ) → IsReachable h → IsTrueOf h k p → is_running p.instance ≡ true → IsSeen h k p (Stopped at) →
+stop_event : (h : Host) (k : ℕ) (p : Lifecycle) (at : ℕ) → IsReachable h → IsTrueOf h k p → is_running p.instance ≡ true →
+    IsSeen h k p (Stopped at) →
     IsEventOf h k (after_input p (Stopped at))
 stop_event h k p at path t a seen =
     let q = after_input p (Stopped at) in
@@ -76,21 +84,24 @@ shorten_event h k p at path t a seen =
     (ap (λ (y : ℕ). Some (stopping due.0 y)) (sym seen.1) ∙ sym (stopped_is p.instance due.0 at due.1)))
     (inr (refl, refl, λ i u. stopped_leader p.instance at i u))
 
-begin_event : (h : Host) (k : ℕ) (p : Lifecycle) (n : ℕ) → IsReachable h → IsTrueOf h k p → is_accepted p (Begun n) ≡ true → IsSeen h k p (Begun n) →
+begin_event : (h : Host) (k : ℕ) (p : Lifecycle) (n : ℕ) → IsReachable h → IsTrueOf h k p → is_accepted p (Begun n) ≡ true →
+    IsSeen h k p (Begun n) →
     IsEventOf h k (after_input p (Begun n))
 begin_event h k p n path t a free =
     let q = after_input p (Begun n) in
     let tests = and_parts (is_some p.pending) (not (is_some p.instance) && p.is_clean) a in
     let rest = and_parts (not (is_some p.instance)) p.is_clean tests.1 in
     let g = some_test p.pending tests.0 in
-    event_of h k p q (Begin k g.0 n) (record (h.services k) { instance = Some (record { generation = g.0; leader = n; deadline = None }); pending = None }) path t (
+    event_of h k p q (Begin k g.0 n) (record (h.services k)
+    { instance = Some (record { generation = g.0; leader = n; deadline = None }); pending = None }) path t (
       ap (λ (y : ServiceState). y.pending) t.same ∙ g.1,
       ap (λ (y : ServiceState). y.instance) t.same ∙ no_instance_test p.instance rest.0,
       ap (λ (y : ServiceState). y.clean) t.same ∙ rest.1,
       free,
     )
     (λ j. refl)
-    (ap (λ (y : ServiceState). record y { instance = Some (record { generation = g.0; leader = n; deadline = None }); pending = None }) t.same ∙
+    (ap (λ (y : ServiceState). record y { instance = Some (record { generation = g.0; leader = n; deadline = None }); pending = None })
+    t.same ∙
     ap (λ (y : Option InstanceState). record (service p) { instance = y; pending = None }) (sym (begun_is p.pending g.0 n g.1)))
     (inl refl)
 
@@ -110,7 +121,8 @@ report_event h k p at path t a seen =
     (ap (λ (y : ℕ). Some (stopping up.0 y)) (sym seen) ∙ sym (stopped_is p.instance up.0 at up.1)))
     (inr (refl, refl, λ i u. stopped_leader p.instance at i u))
 
-reap_event : (h : Host) (k : ℕ) (p : Lifecycle) → IsReachable h → IsTrueOf h k p → is_accepted p Reaped ≡ true → IsEventOf h k (after_input p Reaped)
+reap_event : (h : Host) (k : ℕ) (p : Lifecycle) → IsReachable h → IsTrueOf h k p → is_accepted p Reaped ≡ true →
+    IsEventOf h k (after_input p Reaped)
 reap_event h k p path t a =
     let q = after_input p Reaped in
     let tests = and_parts (is_stopping p.instance) (p.has_exited && (p.is_scanned && p.is_empty)) a in
@@ -125,7 +137,8 @@ reap_event h k p path t a =
     (ap (λ (y : ServiceState). record y { instance = None }) t.same)
     (inl refl)
 
-scan_event : (h : Host) (k : ℕ) (p : Lifecycle) (found : Scan) → IsTrueOf h k p → IsSeen h k p (Scanned found) → IsEventOf h k (after_scan p found)
+scan_event : (h : Host) (k : ℕ) (p : Lifecycle) (found : Scan) → IsTrueOf h k p → IsSeen h k p (Scanned found) →
+    IsEventOf h k (after_scan p found)
 scan_event h k p Nothing t seen =
     quiet h k (after_scan p Nothing) (record { same = t.same; exited = t.exited; empty = λ d z i u. seen i u })
 scan_event h k p Dying t seen =
@@ -188,4 +201,21 @@ tasks_may_be_done h k p path t =
           groups_may_be_killed h path k m.0 (ap (λ (s : ServiceState). s.instance) t.same ∙ m.1) m.3 q r e (g ∙ sym m.2);
       reap = λ n m r e.
           (ap (λ (s : ServiceState). s.instance) t.same ∙ m.1.0, m.1.2, e, t.exited m.2 m.0 m.1.0 r e, t.empty m.2 m.4 m.0 m.1.0);
+    }
+
+-- ---- a label that is left out
+pub idle_may_be_left_out : IdleMayBeLeftOut
+idle_may_be_left_out h k p path t idle =
+    let tests = and_parts p.is_clean (not (is_some p.instance) && not (is_some p.pending)) idle in
+    let rest = and_parts (not (is_some p.instance)) (not (is_some p.pending)) tests.1 in
+    let s = record (h.services k) { pending = None; clean = false } in
+    let none : (h.services k).instance ≡ None = ap (λ (y : ServiceState). y.instance) t.same ∙ no_instance_test p.instance rest.0 in
+    let m : May h (Forget k) = (none, ap (λ (y : ServiceState). y.clean) t.same ∙ tests.0) in
+    record {
+      may = m;
+      none = forgets_none h path k m;
+      new = own_truth h (Forget k) k p new_lifecycle path m t
+          (replaced_same k s h.services ∙ ap (λ (y : Option InstanceState). record s { instance = y }) none) (inl refl);
+      others = λ j q d u. truth_stays h (Forget k) j q path m u
+          (at_service (λ (x : ServiceState). x ≡ h.services j) k j s h.services (λ o. absurd (d o)) (λ o. refl));
     }

@@ -2,7 +2,8 @@
 use Rattle.std.proofs.Common.{◌≡◌, ℕ, Bool, true, false, cond, not, is_some, List, [], ◌∷◌, Option, Some, None, refl, ap, ◌∙◌}
 use Rattle.std.proofs.lemmas.Bool.{false≢true, true≢false, eqb-true}
 use Rattle.process_keeper.specs.Inputs.{is_running, with_deadline, after_input}
-use Rattle.process_keeper.specs.Following.{up_generation, wanted, are_same_wants, halted, begun_anew, followed, after_inputs, AcceptsAll, FollowsByInputs, FollowingIsInputs}
+use Rattle.process_keeper.specs.Following.{up_generation, wanted, are_same_wants, halted, begun_anew, followed, after_inputs, AcceptsAll}
+use Rattle.process_keeper.specs.Following.{FollowsByInputs, FollowingIsInputs}
 use Rattle.process_keeper.specs.declared.input.Input.{Input}
 use Rattle.process_keeper.specs.declared.input.Input.TheVariants.{Cancelled, Stopped, Started}
 use Rattle.process_keeper.specs.declared.instance.Instance.{Instance}
@@ -31,7 +32,8 @@ pub halted_by : (P : Lifecycle → Type 0) (p : Lifecycle) (d : ℕ) →
     (is_running p.instance ≡ false → P (after_input p Cancelled)) → P (halted p d)
 halted_by P p d f g = by_test (is_running p.instance) refl
   where
-    by_test : (b : Bool) → is_running p.instance ≡ b → P (cond b (after_input (after_input p Cancelled) (Stopped d)) (after_input p Cancelled))
+    by_test : (b : Bool) → is_running p.instance ≡ b →
+        P (cond b (after_input (after_input p Cancelled) (Stopped d)) (after_input p Cancelled))
     by_test true e = f e
     by_test false e = g e
 
@@ -62,7 +64,8 @@ chain p None d =
 chain p (Some g) d =
     halted_by (λ q. Chain p (begun_anew q (Some g))) p d
     (λ e.
-    record { inputs = Cancelled ∷ Stopped d ∷ Started g ∷ []; accepted = (refl, (e, (stopped_not_running p.instance d, tt))); after = refl })
+    record
+    { inputs = Cancelled ∷ Stopped d ∷ Started g ∷ []; accepted = (refl, (e, (stopped_not_running p.instance d, tt))); after = refl })
     (λ e. record { inputs = Cancelled ∷ Started g ∷ []; accepted = (refl, (ap (λ (b : Bool). not b) e, tt)); after = refl })
 
 pub following_is_inputs : FollowingIsInputs

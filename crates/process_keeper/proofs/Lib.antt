@@ -3,3 +3,4 @@ pub mod SightLemmas
 pub mod EventLemmas
 pub mod FollowLemmas
 pub mod WakingLemmas
+pub mod RenewalLemmas

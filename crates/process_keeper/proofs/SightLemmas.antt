@@ -31,7 +31,8 @@ pub up_instance : (o : Option Instance) → is_running o ≡ true → (i : Insta
 up_instance None e = absurd (false≢true e)
 up_instance (Some b) e = (instance_state b, refl, no_test b.deadline e)
 
-pub not_up_instance : (o : Option Instance) → not (is_running o) ≡ true → (i : InstanceState) → some_instance o ≡ Some i → i.deadline ≡ None → ⊥
+pub not_up_instance : (o : Option Instance) → not (is_running o) ≡ true → (i : InstanceState) → some_instance o ≡ Some i →
+    i.deadline ≡ None → ⊥
 not_up_instance None e i u d = none-some i u
 not_up_instance (Some b) e i u d = by_deadline b.deadline e (ap (λ (y : InstanceState). y.deadline) (same_Some (instance_state b) i u) ∙ d)
   where
@@ -39,7 +40,8 @@ not_up_instance (Some b) e i u d = by_deadline b.deadline e (ap (λ (y : Instanc
     by_deadline None e d = absurd (false≢true e)
     by_deadline (Some t) e d = none-some t (sym d)
 
-pub stopping_instance : (o : Option Instance) → is_stopping o ≡ true → (i : InstanceState) × (some_instance o ≡ Some i) × ((t : ℕ) × (i.deadline ≡ Some t))
+pub stopping_instance : (o : Option Instance) → is_stopping o ≡ true →
+    (i : InstanceState) × (some_instance o ≡ Some i) × ((t : ℕ) × (i.deadline ≡ Some t))
 stopping_instance None e = absurd (false≢true e)
 stopping_instance (Some b) e = (instance_state b, refl, some_test b.deadline e)
 
@@ -53,7 +55,8 @@ no_instance_test None e = refl
 no_instance_test (Some b) e = absurd (false≢true e)
 
 -- ---- other deadlines, and a leader
-pub stopped_is : (o : Option Instance) (i : InstanceState) (at : ℕ) → some_instance o ≡ Some i → some_instance (with_deadline o at) ≡ Some (stopping i at)
+pub stopped_is : (o : Option Instance) (i : InstanceState) (at : ℕ) → some_instance o ≡ Some i →
+    some_instance (with_deadline o at) ≡ Some (stopping i at)
 stopped_is None i at e = absurd (none-some i e)
 stopped_is (Some b) i at e = ap (λ (y : InstanceState). Some (stopping y at)) (same_Some (instance_state b) i e)
 
@@ -63,7 +66,8 @@ stopped_leader None at i e = absurd (none-some i e)
 stopped_leader (Some b) at i e =
     (instance_state b, refl, ap (λ (y : InstanceState). y.leader) (same_Some (stopping (instance_state b) at) i e))
 
-pub begun_is : (o : Option ℕ) (g n : ℕ) → o ≡ Some g → some_instance (with_leader o n) ≡ Some (record { generation = g; leader = n; deadline = None })
+pub begun_is : (o : Option ℕ) (g n : ℕ) → o ≡ Some g →
+    some_instance (with_leader o n) ≡ Some (record { generation = g; leader = n; deadline = None })
 begun_is o g n e = ap (λ (y : Option ℕ). some_instance (with_leader y n)) e
 
 -- ---- truth
@@ -87,7 +91,8 @@ SeesSame p q =
     ((q.has_exited ≡ p.has_exited) × (q.is_empty ≡ p.is_empty) ×
     ((i : InstanceState) → (service q).instance ≡ Some i → (j : InstanceState) × ((service p).instance ≡ Some j) × (j.leader ≡ i.leader)))
 
-pub own_truth : (h : Host) (e : Event) (k : ℕ) (p q : Lifecycle) → IsReachable h → May h e → IsTrueOf h k p → (after_event h e).services k ≡ service q →
+pub own_truth : (h : Host) (e : Event) (k : ℕ) (p q : Lifecycle) → IsReachable h → May h e → IsTrueOf h k p →
+    (after_event h e).services k ≡ service q →
     SeesSame p q → IsTrueOf (after_event h e) k q
 own_truth h e k p q path m t same c =
     record {
@@ -102,7 +107,8 @@ own_truth h e k p q path m t same c =
     exited_by (inr a) d i u s f =
         let j = a.2 i u in
         let r = (signals_are_aimed h path k j.0 (ap (λ (y : ServiceState). y.instance) t.same ∙ j.1)).leader in
-        dead_stays h e j.0.leader r.0 r.1 (t.exited (sym a.0 ∙ d) j.0 j.1 r.0 r.1) m s (ap (λ (y : ℕ). (after_event h e).processes y) j.2 ∙ f)
+        dead_stays h e j.0.leader r.0 r.1 (t.exited (sym a.0 ∙ d) j.0 j.1 r.0 r.1) m s
+        (ap (λ (y : ℕ). (after_event h e).processes y) j.2 ∙ f)
 
     empty_by : SeesSame p q → q.has_exited ≡ true → q.is_empty ≡ true → (i : InstanceState) → (service q).instance ≡ Some i →
         OnlyLeader (after_event h e) k i.leader

@@ -1,5 +1,6 @@
 -- Settled labels are settled until the first time that is due.
-use Rattle.std.proofs.Common.{◌≡◌, ◌⊎◌, ◌<◌, ◌≤◌, ℕ, nat_lt, Bool, true, false, cond, List, [], ◌∷◌, Option, Some, None, refl, sym, ap, ◌∙◌, subst, inl, inr, arith, min}
+use Rattle.std.proofs.Common.{◌≡◌, ◌⊎◌, ◌<◌, ℕ, Bool, true, false, cond, List, [], ◌∷◌, Option, Some, None, refl, sym, ap, ◌∙◌, subst, inl}
+use Rattle.std.proofs.Common.{inr, arith, min}
 use Rattle.std.specs.List.{All, fold}
 use Rattle.std.proofs.lemmas.Bool.{lt-ltb, false≢true}
 use Rattle.std.proofs.lemmas.List.Elements.{All-cons, All-head, All-nil, All-tail}
@@ -39,7 +40,8 @@ settled_until p now t m h = record {
   clean = h.clean;
   waits = λ c g e none. fork_waits p.instance p.pending p.is_killed p.retry_at now t g e none (h.waits c g e none) m;
   up = h.up;
-  ends = λ c i e at d. ((h.ends c i e at d).0, kill_waits p.instance p.pending p.is_killed p.retry_at now t at i e d (h.ends c i e at d).1 m);
+  ends = λ c i e at d.
+      ((h.ends c i e at d).0, kill_waits p.instance p.pending p.is_killed p.retry_at now t at i e d (h.ends c i e at d).1 m);
   scanned = h.scanned;
 }
 

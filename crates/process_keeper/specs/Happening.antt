@@ -3,9 +3,10 @@ use Rattle.std.specs.Prelude.{◌≡◌, ◌<◌, ◌+◌, ℕ, true, false, Som
 use Rattle.process_rule.specs.Kernel.{Process, IsFreeNumber}
 use Rattle.process_rule.specs.Supervisor.{InstanceState, Host}
 use Rattle.process_rule.specs.Events.{Event, after_event, May, IsReachable}
-use Rattle.process_rule.specs.Events.Event.{Begin, Kill, Reap, Report}
+use Rattle.process_rule.specs.Events.Event.{Begin, Forget, Kill, Reap, Report}
 use Rattle.process_rule.specs.Progress.{OnlyLeader}
 use Rattle.process_keeper.specs.Inputs.{is_accepted, after_input}
+use Rattle.process_keeper.specs.Renewal.{is_idle, new_lifecycle}
 use Rattle.process_keeper.specs.Sight.{service, IsTrueOf}
 use Rattle.process_keeper.specs.Doing.{MayDo}
 use Rattle.process_keeper.specs.declared.input.Input.{Input}
@@ -54,3 +55,14 @@ pub record TasksAreEvents (h : Host) (k : ℕ) (p : Lifecycle) : Type 0 where
 
 abbrev pub TasksMayBeDone : Type 0
 TasksMayBeDone = (h : Host) (k : ℕ) (p : Lifecycle) → IsReachable h → IsTrueOf h k p → TasksAreEvents h k p
+
+-- A law: a label that is idle may be left out, since a scan finds no process of it. Afterwards it is what a new label is, and what other
+-- labels saw is true. A label is the same for the rule, whatever number a keeper gives it.
+pub record IsLeftOut (h : Host) (k : ℕ) : Type 0 where
+  pub may : May h (Forget k)
+  pub none : (q : ℕ) (r : Process) → h.processes q ≡ Some r → r.found ≡ true → r.label ≡ k → ⊥
+  pub new : IsTrueOf (after_event h (Forget k)) k new_lifecycle
+  pub others : (j : ℕ) (p : Lifecycle) → (j ≡ k → ⊥) → IsTrueOf h j p → IsTrueOf (after_event h (Forget k)) j p
+
+abbrev pub IdleMayBeLeftOut : Type 0
+IdleMayBeLeftOut = (h : Host) (k : ℕ) (p : Lifecycle) → IsReachable h → IsTrueOf h k p → is_idle p ≡ true → IsLeftOut h k

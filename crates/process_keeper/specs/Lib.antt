@@ -5,3 +5,4 @@ pub mod Following
 pub mod Order
 pub mod Happening
 pub mod Waking
+pub mod Renewal

@@ -1,7 +1,7 @@
 //! Laws: inputs and tasks are events of the rule.
 
 ghost use Rattle.process_keeper.specs.Following.{FollowingIsInputs};
-ghost use Rattle.process_keeper.specs.Happening.{InputsAreEvents, TasksMayBeDone, TruthStays};
+ghost use Rattle.process_keeper.specs.Happening.{IdleMayBeLeftOut, InputsAreEvents, TasksMayBeDone, TruthStays};
 
 /// Laws: each accepted input that is true is an event of the rule, and each task may be done.
 pub fn inputs_are_events()
@@ -17,4 +17,9 @@ pub fn truth_stays()
 /// A law: a label that follows RS runs what RS wants, and takes inputs that it accepts.
 pub fn following_is_inputs()
     ensures { FollowingIsInputs }
+{}
+
+/// A law: a label that isn't busy may be left out: no process that a scan has found for the label is forgotten.
+pub fn idle_labels_may_be_left_out()
+    ensures { IdleMayBeLeftOut }
 {}

@@ -5,6 +5,7 @@
 #![tactic(auto)]
 
 mod accepting;
+mod fault;
 mod following;
 mod generations;
 mod input;
@@ -14,6 +15,7 @@ mod laws;
 mod lifecycle;
 mod order;
 mod reading;
+mod renewing;
 mod scan;
 mod taking;
 mod task;
@@ -22,8 +24,9 @@ mod tasks;
 mod tests;
 mod waking;
 
+pub use fault::KeeperFault;
 pub use input::Input;
 pub use keeper::Keeper;
-pub use laws::{following_is_inputs, inputs_are_events, truth_stays};
+pub use laws::{following_is_inputs, idle_labels_may_be_left_out, inputs_are_events, truth_stays};
 pub use scan::Scan;
 pub use task::Task;

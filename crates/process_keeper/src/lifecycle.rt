@@ -1,15 +1,14 @@
 //! One label's processes.
 
 ghost use Rattle.std.specs.Prelude.{◌≡◌};
-ghost use Rattle.process_rule.specs.Supervisor.{new_service};
-ghost use Rattle.process_keeper.specs.Sight.{service};
+ghost use Rattle.process_keeper.specs.Renewal.{new_lifecycle};
 
 use crate::instance::Instance;
 
 pub(crate) const FIRST_PAUSE: u64 = 100;
 
 /// The processes of one label: an instance, a pending start, and what was seen of them.
-#[derive(Drop)]
+#[derive(Clone, Copy, Drop)]
 pub struct Lifecycle {
     pub(crate) instance: Option<Instance>,
     /// The generation of a start whose leader isn't forked yet.
@@ -35,7 +34,7 @@ pub struct Lifecycle {
 impl Lifecycle {
     // Returns the processes of a label at the beginning of a run: an earlier run may have left some.
     pub(crate) fn new() -> Lifecycle
-        ensures { service result ≡ new_service }
+        ensures { result ≡ new_lifecycle }
     {
         Lifecycle {
             instance: None,

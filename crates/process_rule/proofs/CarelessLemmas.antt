@@ -6,11 +6,15 @@ use Rattle.process_rule.specs.Supervisor.{InstanceState, Host}
 use Rattle.process_rule.specs.Events.{IsDue, leader_of, stopping}
 use Rattle.process_rule.specs.Events.Event.{Start, Stop, Shorten, Write, Begin, Report, Kill, Reap, Clear, Fork, Exit, Vanish, Restart}
 use Rattle.process_rule.specs.Witness.{new_host}
-use Rattle.process_rule.specs.Careless.{ReapsEarly, EarlyReapersMiss, BeginsUnclean, BeginsBeside, ClearsBlindly, ReapsBlindly, CarelessStartsDouble}
-use Rattle.process_rule.specs.Careless.{StartsUnwritten, WritesBack, BeginsUnasked, CarelessGenerationsRepeat, ReportsLiving, ReportsAgain, CarelessReportsLie}
-use Rattle.process_rule.specs.Careless.{KillsEarly, StopsAgain, Lengthens, CarelessKillsAreEarly, IsDouble, IsKilledEarly, IsCarelesslyReached}
+use Rattle.process_rule.specs.Careless.{ReapsEarly, EarlyReapersMiss, BeginsUnclean, BeginsBeside, ClearsBlindly, ReapsBlindly}
+use Rattle.process_rule.specs.Careless.{CarelessStartsDouble}
+use Rattle.process_rule.specs.Careless.{StartsUnwritten, WritesBack, BeginsUnasked, CarelessGenerationsRepeat, ReportsLiving, ReportsAgain}
+use Rattle.process_rule.specs.Careless.{CarelessReportsLie}
+use Rattle.process_rule.specs.Careless.{KillsEarly, StopsAgain, Lengthens, CarelessKillsAreEarly, IsDouble, IsKilledEarly}
+use Rattle.process_rule.specs.Careless.{IsCarelesslyReached}
 use Rattle.process_rule.proofs.PutLemmas.{is_none}
-use Rattle.process_rule.proofs.WitnessLemmas.{ends, only_exited, none_free, gone, gone_free, Grouped, grouped_none, grouped_put, grouped_gone, other_free}
+use Rattle.process_rule.proofs.WitnessLemmas.{ends, only_exited, none_free, gone, gone_free, Grouped, grouped_none, grouped_put}
+use Rattle.process_rule.proofs.WitnessLemmas.{grouped_gone, other_free}
 use Rattle.process_rule.proofs.WitnessLemmas.{first, exited, one, reported, begun, no_instance, not_up, reached, reached_begun}
 
 seven_is : (n : ℕ) → 7 ≡ n → n ≡ 8 ⊎ n ≡ 9 → ⊥
@@ -37,7 +41,10 @@ early_reapers_miss =
             inr (refl, refl),
             (
               inl (λ q s e f l. gone 7 (put_process 7 (Some exited) begun.processes) only_exited q s e),
-              (inl (refl, no_instance, omega arith), (inl (refl, refl, refl, gone_free 7 (put_process 7 (Some exited) begun.processes) only_exited), tt)),
+              (
+                inl (refl, no_instance, omega arith),
+                (inl (refl, refl, refl, gone_free 7 (put_process 7 (Some exited) begun.processes) only_exited), tt),
+              ),
             ),
           ),
         ),
@@ -149,15 +156,22 @@ careless_generations_repeat =
       back =
           let es = Write 65 ∷ Start 0 ∷ Write 1 ∷ Restart ∷ Write 65 ∷ Start 0 ∷ [] in (
             ends new_host es,
-            reached WritesBack es
-                (inl (omega arith), (inl (refl, no_instance, omega arith), (inr tt, (inl tt, (inl (omega arith), (inl (refl, no_instance, omega arith), tt)))))),
+            reached WritesBack es (
+              inl (omega arith),
+              (
+                inl (refl, no_instance, omega arith),
+                (inr tt, (inl tt, (inl (omega arith), (inl (refl, no_instance, omega arith), tt)))),
+              ),
+            ),
             refl,
           );
       unasked =
           let es = Clear 0 ∷ Clear 1 ∷ Begin 0 1 7 ∷ Begin 1 1 8 ∷ [] in (
             ends new_host es,
-            reached BeginsUnasked es
-                (inl (λ q s e. is_none None s refl e), (inl (λ q s e. is_none None s refl e), (inr (refl, refl, none_free 7), (inr (refl, refl, free_8), tt)))),
+            reached BeginsUnasked es (
+              inl (λ q s e. is_none None s refl e),
+              (inl (λ q s e. is_none None s refl e), (inr (refl, refl, none_free 7), (inr (refl, refl, free_8), tt))),
+            ),
             refl,
           );
     }
@@ -182,7 +196,8 @@ careless_reports_lie =
 abbrev killed : Process
 killed = record (leader_of 0 1 7 0) { killed = true }
 
-killed_early : (h : Host) (i : InstanceState) → (h.services 0).instance ≡ Some i → h.processes i.leader ≡ Some killed → (IsDue i h.now → ⊥) → IsKilledEarly h
+killed_early : (h : Host) (i : InstanceState) → (h.services 0).instance ≡ Some i → h.processes i.leader ≡ Some killed →
+    (IsDue i h.now → ⊥) → IsKilledEarly h
 killed_early h i a b d = record { instance = i; runs = a; leader = killed; there = b; killed = refl; early = d }
 
 never_due : IsDue one 0 → ⊥
@@ -204,15 +219,39 @@ careless_kills_are_early =
       again =
           let es = Stop 0 one 0 ∷ Kill 7 (first 1) ∷ Stop 0 (stopping one 0) 10 ∷ [] in (
             ends begun es,
-            reached_begun StopsAgain es
-                (inl (refl, refl), (inl (refl, (refl, inr (stopping one 0, refl, refl, record { at = 0; set = refl; passed = omega arith }))), (inr refl, tt))),
+            reached_begun StopsAgain es (
+              inl (refl, refl),
+              (
+                inl (
+                  refl,
+                  (
+                    refl,
+                    inr
+                        (stopping one 0, refl, refl, record { at = 0; set = refl; passed = omega arith }),
+                  ),
+                ),
+                (inr refl, tt),
+              ),
+            ),
             killed_early (ends begun es) (stopping one 10) refl refl later_due,
           );
       longer =
           let es = Stop 0 one 0 ∷ Kill 7 (first 1) ∷ Shorten 0 (stopping one 0) 10 ∷ [] in (
             ends begun es,
-            reached_begun Lengthens es
-                (inl (refl, refl), (inl (refl, (refl, inr (stopping one 0, refl, refl, record { at = 0; set = refl; passed = omega arith }))), (inr (refl, (0, refl)), tt))),
+            reached_begun Lengthens es (
+              inl (refl, refl),
+              (
+                inl (
+                  refl,
+                  (
+                    refl,
+                    inr
+                        (stopping one 0, refl, refl, record { at = 0; set = refl; passed = omega arith }),
+                  ),
+                ),
+                (inr (refl, (0, refl)), tt),
+              ),
+            ),
             killed_early (ends begun es) (stopping one 10) refl refl later_due,
           );
     }

@@ -3,10 +3,12 @@ use Rattle.std.proofs.Common.{◌≡◌, ℕ, true, Some, sym, ap, ◌∙◌, in
 use Rattle.process_rule.specs.Kernel.{Process}
 use Rattle.process_rule.specs.Supervisor.{InstanceState, Host}
 use Rattle.process_rule.specs.Events.{IsReachable}
-use Rattle.process_rule.specs.Events.Event.{Start, Cancel, Stop, Shorten, Write, Begin, Fail, Report, Kill, Reap, Clear, Fork, Exit, Vanish, Leave, Join, Pass, Restart}
-use Rattle.process_rule.specs.Laws.{OneInstanceAtATime, BeginsAlone, GenerationsAreWritten, SignalsAreAimed, GroupsMayBeKilled, GraceIsKept, DeathsAreTrue, OnlyStartsWait}
+use Rattle.process_rule.specs.Events.Event.{Start, Cancel, Stop, Shorten, Write, Begin, Fail, Report, Kill, Reap, Clear, Forget, Fork, Exit}
+use Rattle.process_rule.specs.Events.Event.{Vanish, Leave, Join, Pass, Restart}
+use Rattle.process_rule.specs.Laws.{OneInstanceAtATime, BeginsAlone, ForgetsNone, GenerationsAreWritten, SignalsAreAimed, GroupsMayBeKilled}
+use Rattle.process_rule.specs.Laws.{GraceIsKept, DeathsAreTrue, OnlyStartsWait}
 use Rattle.process_rule.proofs.Standing.{IsKept}
-use Rattle.process_rule.proofs.PutLemmas.{is_one, true_is_false}
+use Rattle.process_rule.proofs.PutLemmas.{is_none, is_one, true_is_false}
 use Rattle.process_rule.proofs.StepLemmas as steps
 
 pub kept : (x : Host) → IsReachable x → IsKept x
@@ -20,13 +22,19 @@ one_instance_at_a_time x path q p r s e f a b l =
 pub begins_alone : BeginsAlone
 begins_alone x path k g p m = steps.alone x k g p m (kept x path)
 
+pub forgets_none : ForgetsNone
+forgets_none x path k m q r e s a =
+    let old = ((kept x path).processes q r e).held s (ap (λ (y : ℕ). (x.services y).clean) a ∙ m.1) in
+    is_none (x.services k).instance old.0 m.0 (ap (λ (y : ℕ). (x.services y).instance) (sym a) ∙ old.1)
+
 pub generations_are_written : GenerationsAreWritten
 generations_are_written x path =
     let h = kept x path in
     record { given = λ g c. (h.below g c).1; begun = h.begun; given_once = h.given_once; begun_once = h.begun_once }
 
 -- A process in the group of an instance.
-member : (x : Host) (h : IsKept x) (k : ℕ) (i : InstanceState) → (x.services k).instance ≡ Some i → (q : ℕ) (r : Process) → x.processes q ≡ Some r →
+member : (x : Host) (h : IsKept x) (k : ℕ) (i : InstanceState) → (x.services k).instance ≡ Some i → (q : ℕ) (r : Process) →
+    x.processes q ≡ Some r →
     r.group ≡ i.leader → (r.label ≡ k) × (r.generation ≡ i.generation) × (r.found ≡ true)
 member x h k i u q r e g =
     let p = h.processes q r e in
@@ -67,6 +75,7 @@ only_starts_wait h pending file (Report k i r) e m = m
 only_starts_wait h pending file (Kill q r) e m = m
 only_starts_wait h pending file (Reap k i r) e m = m
 only_starts_wait h pending file (Clear k) e m = m
+only_starts_wait h pending file (Forget k) e m = m
 only_starts_wait h pending file (Fork q r n) e m = m
 only_starts_wait h pending file (Exit q r) e m = m
 only_starts_wait h pending file (Vanish q r) e m = m

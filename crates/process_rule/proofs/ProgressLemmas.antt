@@ -1,13 +1,16 @@
 -- The laws of progress.
-use Rattle.std.proofs.Common.{◌≡◌, ◌+◌, ◌==◌, ◌||◌, ◌⊎◌, ℕ, Bool, true, false, List, [], ◌∷◌, Option, Some, None, refl, sym, ap, ◌∙◌, subst, inl, inr, arith}
+use Rattle.std.proofs.Common.{◌≡◌, ◌+◌, ◌==◌, ◌||◌, ◌⊎◌, ℕ, Bool, true, false, List, [], ◌∷◌, Option, Some, None, refl, sym, ap, ◌∙◌, subst}
+use Rattle.std.proofs.Common.{inl, inr, arith}
 use Rattle.std.specs.List.{Contains, list_any}
 use Rattle.std.proofs.lemmas.Bool.{eqb-true}
 use Rattle.std.proofs.lemmas.Option.{same_Some}
 use Rattle.process_rule.specs.Kernel.{Process, put_process}
 use Rattle.process_rule.specs.Supervisor.{InstanceState, ServiceState, Host, replaced}
 use Rattle.process_rule.specs.Events.{Event, after_event, May, OccurAll, leader_of, stopping}
-use Rattle.process_rule.specs.Events.Event.{Start, Cancel, Stop, Shorten, Write, Begin, Fail, Report, Kill, Reap, Clear, Fork, Exit, Vanish, Leave, Join, Pass, Restart}
-use Rattle.process_rule.specs.Progress.{OnlyLeader, DeadStays, EmptyStays, KilledStays, NothingStays, cuts, GraceLasts, ends_wait, PendingStays, StartsGoOn}
+use Rattle.process_rule.specs.Events.Event.{Start, Cancel, Stop, Shorten, Write, Begin, Fail, Report, Kill, Reap, Clear, Forget, Fork, Exit}
+use Rattle.process_rule.specs.Events.Event.{Vanish, Leave, Join, Pass, Restart}
+use Rattle.process_rule.specs.Progress.{OnlyLeader, DeadStays, EmptyStays, KilledStays, NothingStays, cuts, GraceLasts, ends_wait}
+use Rattle.process_rule.specs.Progress.{PendingStays, StartsGoOn}
 use Rattle.process_rule.proofs.Standing.{IsKeptLeader, IsKept}
 use Rattle.process_rule.proofs.Members.{tail_member}
 use Rattle.process_rule.proofs.PutLemmas.{true_is_false, is_one, is_none, at_put, at_service, eqb-same}
@@ -54,7 +57,8 @@ same : (w : Host) (q : ℕ) (s : Process) → w.processes q ≡ Some s → Comes
 same w q s e = inl (record { old = s; there = e; found = λ x. x; label = refl; generation = refl; killed = λ x. x; dead = λ x. x })
 
 -- Where one process changed.
-changed : (w : Host) (n : ℕ) (o : Option Process) → ((s : Process) → o ≡ Some s → ComesFrom w n s) → (q : ℕ) (s : Process) → put_process n o w.processes q ≡ Some s →
+changed : (w : Host) (n : ℕ) (o : Option Process) → ((s : Process) → o ≡ Some s → ComesFrom w n s) → (q : ℕ) (s : Process) →
+    put_process n o w.processes q ≡ Some s →
     ComesFrom w q s
 changed w n o f = at_put (λ q s. ComesFrom w q s) n o w.processes f (λ q s d e. same w q s e)
 
@@ -86,10 +90,23 @@ comes_from w (Kill n r) m y y2 y3 =
 comes_from w (Reap k i r) m y y2 y3 =
     changed w i.leader None (λ s e. is_none None s refl e) y y2 y3
 comes_from w (Clear k) m q s e = same w q s e
+comes_from w (Forget k) m q s e = same w q s e
 comes_from w (Fork p r n) m y y2 y3 =
     changed w n (Some (record r { leads = false }))
     (λ s e. subst (λ (z : Process). ComesFrom w n z) (same_Some (record r { leads = false }) s e)
-    (inr (inl (record { free = m.3.process; number = p; parent = r; there = m.0; alive = m.1; killed = m.2; found = λ x. x; label = refl; generation = refl })))) y y2 y3
+    (inr (inl
+    (record {
+      free = m.3.process;
+      number = p;
+      parent = r;
+      there = m.0;
+      alive = m.1;
+      killed = m.2;
+      found = λ x. x;
+      label = refl;
+      generation =
+          refl;
+    })))) y y2 y3
 comes_from w (Exit n r) m y y2 y3 =
     changed w n (Some (record r { alive = false }))
     (λ s e. subst (λ (z : Process). ComesFrom w n z) (same_Some (record r { alive = false }) s e)
@@ -133,7 +150,8 @@ killed_stays w e k i instance all m q s f found label =
     elim (comes_from w e m q s f) [
       | inl c ↦ c.killed (all q c.old c.there (c.found found) (sym c.label ∙ label))
       | inr (inl c) ↦ true_is_false (sym (all c.number c.parent c.there (c.found found) (sym c.label ∙ label)) ∙ c.killed)
-      | inr (inr c) ↦ is_none (w.services k).instance i (ap (λ (y : ℕ). (w.services y).instance) (sym label ∙ c.of_label) ∙ c.instance) instance
+      | inr (inr c) ↦ is_none (w.services k).instance i
+          (ap (λ (y : ℕ). (w.services y).instance) (sym label ∙ c.of_label) ∙ c.instance) instance
     ]
 
 -- ---- nothing is on its way
@@ -156,7 +174,8 @@ nothing_stays x path k i instance all quiet =
             let p = h.processes q s e in
             let held = p.held found (ap (λ (y : ℕ). (x.services y).clean) label ∙ (h.services k).clean i instance) in
             let one = is_one (x.services k).instance held.0 i (ap (λ (y : ℕ). (x.services y).instance) (sym label) ∙ held.1) instance in
-            let generation : s.generation ≡ l.it.generation = sym held.2 ∙ ap (λ (y : InstanceState). y.generation) one ∙ sym l.generation in
+            let generation : s.generation ≡ l.it.generation =
+            sym held.2 ∙ ap (λ (y : InstanceState). y.generation) one ∙ sym l.generation in
             sym (p.leader f) ∙ ap (λ (y : ℕ). h.leaders y) generation ∙ (h.processes i.leader l.it l.there).leader l.leads
 
 -- ---- a grace lasts
@@ -185,6 +204,7 @@ begun_stays w (Report k i r) g c = c
 begun_stays w (Kill q r) g c = c
 begun_stays w (Reap k i r) g c = c
 begun_stays w (Clear k) g c = c
+begun_stays w (Forget k) g c = c
 begun_stays w (Fork q r n) g c = c
 begun_stays w (Exit q r) g c = c
 begun_stays w (Vanish q r) g c = c
@@ -199,40 +219,55 @@ none_stays w e k g h m c none q s f found label generation =
     elim (comes_from w e m q s f) [
       | inl d ↦ none q d.old d.there (d.found found) (sym d.label ∙ label) (sym d.generation ∙ generation)
       | inr (inl d) ↦ none d.number d.parent d.there (d.found found) (sym d.label ∙ label) (sym d.generation ∙ generation)
-      | inr (inr d) ↦ ((h.services d.label).pending d.number d.pending).1 (subst (λ (y : ℕ). Contains w.begun y) (sym generation ∙ d.generation) c)
+      | inr (inr d) ↦ ((h.services d.label).pending d.number d.pending).1
+          (subst (λ (y : ℕ). Contains w.begun y) (sym generation ∙ d.generation) c)
     ]
 
 -- A service at k with the same instance, or another one.
 service_has : (w : Host) (k g t j : ℕ) (service : ServiceState) → Has w k g t → (k ≡ j → service.instance ≡ (w.services k).instance) →
     (i : InstanceState) × ((replaced j service w.services k).instance ≡ Some i) × (i.generation ≡ g) × (i.deadline ≡ Some t)
-service_has w k g t j service a f =
-    (a.it, at_service (λ (x : ServiceState). x.instance ≡ Some a.it) j k service w.services (λ e. f e ∙ a.instance) (λ e. a.instance), a.generation, a.deadline)
+service_has w k g t j service a f = (
+  a.it,
+  at_service (λ (x : ServiceState). x.instance ≡ Some a.it) j k service w.services (λ e. f e ∙ a.instance) (λ e. a.instance),
+  a.generation,
+  a.deadline,
+)
 
-has : (w : Host) (k g t : ℕ) → (i : InstanceState) × ((w.services k).instance ≡ Some i) × (i.generation ≡ g) × (i.deadline ≡ Some t) → Has w k g t
+has : (w : Host) (k g t : ℕ) → (i : InstanceState) × ((w.services k).instance ≡ Some i) × (i.generation ≡ g) × (i.deadline ≡ Some t) →
+    Has w k g t
 has w k g t a = record { it = a.0; instance = a.1; generation = a.2; deadline = a.3 }
 
-no_end : {A : Type 0} (w : Host) (k g t j : ℕ) (i : InstanceState) → Has w k g t → (w.services j).instance ≡ Some i → i.deadline ≡ None → k ≡ j → A
+no_end : {A : Type 0} (w : Host) (k g t j : ℕ) (i : InstanceState) → Has w k g t → (w.services j).instance ≡ Some i → i.deadline ≡ None →
+    k ≡ j → A
 no_end w k g t j i a instance none e =
     let one = is_one (w.services k).instance a.it i a.instance (ap (λ (y : ℕ). (w.services y).instance) e ∙ instance) in
     is_none i.deadline t none (ap (λ (y : InstanceState). y.deadline) (sym one) ∙ a.deadline)
 
-has_stays : (w : Host) (e : Event) (k g t : ℕ) → IsKept w → May w e → cuts k e ≡ false → Has w k g t → Has (after_event w e) k g t ⊎ HasNone (after_event w e) k g
+has_stays : (w : Host) (e : Event) (k g t : ℕ) → IsKept w → May w e → cuts k e ≡ false → Has w k g t →
+    Has (after_event w e) k g t ⊎ HasNone (after_event w e) k g
 has_stays w (Start j) k g t h m c a =
-    inl (has (after_event w (Start j)) k g t (service_has w k g t j (record (w.services j) { pending = Some w.next }) a (λ e. ap (λ (y : ℕ). (w.services y).instance) (sym e))))
+    inl (has (after_event w (Start j)) k g t (service_has w k g t j (record (w.services j) { pending = Some w.next }) a
+    (λ e. ap (λ (y : ℕ). (w.services y).instance) (sym e))))
 has_stays w (Cancel j) k g t h m c a =
-    inl (has (after_event w (Cancel j)) k g t (service_has w k g t j (record (w.services j) { pending = None }) a (λ e. ap (λ (y : ℕ). (w.services y).instance) (sym e))))
+    inl (has (after_event w (Cancel j)) k g t
+    (service_has w k g t j (record (w.services j) { pending = None }) a (λ e. ap (λ (y : ℕ). (w.services y).instance) (sym e))))
 has_stays w (Stop j i n) k g t h m c a =
-    inl (has (after_event w (Stop j i n)) k g t (service_has w k g t j (record (w.services j) { instance = Some (stopping i (w.now + n)) }) a (λ e. no_end w k g t j i a m.0 m.1 e)))
+    inl (has (after_event w (Stop j i n)) k g t
+    (service_has w k g t j (record (w.services j) { instance = Some (stopping i (w.now + n)) }) a (λ e. no_end w k g t j i a m.0 m.1 e)))
 has_stays w (Shorten j i n) k g t h m c a =
-    inl (has (after_event w (Shorten j i n)) k g t (service_has w k g t j (record (w.services j) { instance = Some (stopping i (w.now + n)) }) a
+    inl (has (after_event w (Shorten j i n)) k g t
+    (service_has w k g t j (record (w.services j) { instance = Some (stopping i (w.now + n)) }) a
     (λ e. true_is_false (sym (eqb-same k j (sym e)) ∙ c))))
 has_stays w (Write n) k g t h m c a = inl (has (after_event w (Write n)) k g t (a.it, a.instance, a.generation, a.deadline))
 has_stays w (Begin j n p) k g t h m c a =
-    inl (has (after_event w (Begin j n p)) k g t (service_has w k g t j (record (w.services j) { instance = Some (record { generation = n; leader = p; deadline = None }); pending = None }) a
+    inl (has (after_event w (Begin j n p)) k g t
+    (service_has w k g t j (record (w.services j)
+    { instance = Some (record { generation = n; leader = p; deadline = None }); pending = None }) a
     (λ e. is_none (w.services k).instance a.it (ap (λ (y : ℕ). (w.services y).instance) e ∙ m.1) a.instance)))
 has_stays w (Fail j) k g t h m c a = inl a
 has_stays w (Report j i r) k g t h m c a =
-    inl (has (after_event w (Report j i r)) k g t (service_has w k g t j (record (w.services j) { instance = Some (stopping i w.now) }) a (λ e. no_end w k g t j i a m.0 m.1 e)))
+    inl (has (after_event w (Report j i r)) k g t
+    (service_has w k g t j (record (w.services j) { instance = Some (stopping i w.now) }) a (λ e. no_end w k g t j i a m.0 m.1 e)))
 has_stays w (Kill q r) k g t h m c a = inl (has (after_event w (Kill q r)) k g t (a.it, a.instance, a.generation, a.deadline))
 has_stays w (Reap j i r) k g t h m c a = by_test (k == j) refl
   where
@@ -245,7 +280,11 @@ has_stays w (Reap j i r) k g t h m c a = by_test (k == j) refl
         inl (has (after_event w (Reap j i r)) k g t (service_has w k g t j (record (w.services j) { instance = None }) a
         (λ z. true_is_false (sym (eqb-same j k z) ∙ e))))
 has_stays w (Clear j) k g t h m c a =
-    inl (has (after_event w (Clear j)) k g t (service_has w k g t j (record (w.services j) { clean = true }) a (λ e. ap (λ (y : ℕ). (w.services y).instance) (sym e))))
+    inl (has (after_event w (Clear j)) k g t (service_has w k g t j (record (w.services j) { clean = true }) a
+    (λ e. ap (λ (y : ℕ). (w.services y).instance) (sym e))))
+has_stays w (Forget j) k g t h m c a =
+    inl (has (after_event w (Forget j)) k g t (service_has w k g t j (record (w.services j) { pending = None; clean = false }) a
+    (λ e. is_none (w.services k).instance a.it (ap (λ (y : ℕ). (w.services y).instance) e ∙ m.0) a.instance)))
 has_stays w (Fork q r n) k g t h m c a = inl (has (after_event w (Fork q r n)) k g t (a.it, a.instance, a.generation, a.deadline))
 has_stays w (Exit q r) k g t h m c a = inl (has (after_event w (Exit q r)) k g t (a.it, a.instance, a.generation, a.deadline))
 has_stays w (Vanish q r) k g t h m c a = inl (has (after_event w (Vanish q r)) k g t (a.it, a.instance, a.generation, a.deadline))
@@ -313,21 +352,26 @@ pending_step w (Start j) k g m c u =
 pending_step w (Cancel j) k g m c u =
     same_pending w k j (record (w.services j) { pending = None }) (λ e. true_is_false (sym (eqb-same k j (sym e)) ∙ c)) ∙ u
 pending_step w (Stop j i n) k g m c u =
-    same_pending w k j (record (w.services j) { instance = Some (stopping i (w.now + n)) }) (λ e. ap (λ (y : ℕ). (w.services y).pending) (sym e)) ∙ u
+    same_pending w k j (record (w.services j) { instance = Some (stopping i (w.now + n)) })
+    (λ e. ap (λ (y : ℕ). (w.services y).pending) (sym e)) ∙ u
 pending_step w (Shorten j i n) k g m c u =
-    same_pending w k j (record (w.services j) { instance = Some (stopping i (w.now + n)) }) (λ e. ap (λ (y : ℕ). (w.services y).pending) (sym e)) ∙ u
+    same_pending w k j (record (w.services j) { instance = Some (stopping i (w.now + n)) })
+    (λ e. ap (λ (y : ℕ). (w.services y).pending) (sym e)) ∙ u
 pending_step w (Write n) k g m c u = u
 pending_step w (Begin j n p) k g m c u =
     same_pending w k j (record (w.services j) { instance = Some (record { generation = n; leader = p; deadline = None }); pending = None })
     (λ e. true_is_false (sym (eqb-same k j (sym e)) ∙ c)) ∙ u
 pending_step w (Fail j) k g m c u = u
 pending_step w (Report j i r) k g m c u =
-    same_pending w k j (record (w.services j) { instance = Some (stopping i w.now) }) (λ e. ap (λ (y : ℕ). (w.services y).pending) (sym e)) ∙ u
+    same_pending w k j (record (w.services j) { instance = Some (stopping i w.now) }) (λ e. ap (λ (y : ℕ). (w.services y).pending) (sym e))
+    ∙ u
 pending_step w (Kill q r) k g m c u = u
 pending_step w (Reap j i r) k g m c u =
     same_pending w k j (record (w.services j) { instance = None }) (λ e. ap (λ (y : ℕ). (w.services y).pending) (sym e)) ∙ u
 pending_step w (Clear j) k g m c u =
     same_pending w k j (record (w.services j) { clean = true }) (λ e. ap (λ (y : ℕ). (w.services y).pending) (sym e)) ∙ u
+pending_step w (Forget j) k g m c u =
+    same_pending w k j (record (w.services j) { pending = None; clean = false }) (λ e. true_is_false (sym (eqb-same k j (sym e)) ∙ c)) ∙ u
 pending_step w (Fork q r n) k g m c u = u
 pending_step w (Exit q r) k g m c u = u
 pending_step w (Vanish q r) k g m c u = u
@@ -340,7 +384,8 @@ pub pending_stays : PendingStays
 pending_stays w x [] k g u path c = subst (λ (y : Host). (y.services k).pending ≡ Some g) path u
 pending_stays w x (e ∷ es) k g u path c =
     pending_stays path.0 x es k g
-    (subst (λ (y : Host). (y.services k).pending ≡ Some g) path.1.1 (pending_step w e k g path.1.0 (or_left (ends_wait k e) (list_any (ends_wait k) es) c) u))
+    (subst (λ (y : Host). (y.services k).pending ≡ Some g) path.1.1
+    (pending_step w e k g path.1.0 (or_left (ends_wait k e) (list_any (ends_wait k) es) c) u))
     path.2 (or_right (ends_wait k e) (list_any (ends_wait k) es) c)
 
 pub starts_go_on : StartsGoOn

@@ -27,7 +27,8 @@ differ j k e s = true_is_false (sym (eqb-same j k s) ∙ e)
 
 -- ---- processes
 pub at_put : (P : ℕ → Process → Type 0) (n : ℕ) (o : Option Process) (processes : Processes) → ((r : Process) → o ≡ Some r → P n r) →
-    ((q : ℕ) (r : Process) → (q ≡ n → ⊥) → processes q ≡ Some r → P q r) → (q : ℕ) (r : Process) → put_process n o processes q ≡ Some r → P q r
+    ((q : ℕ) (r : Process) → (q ≡ n → ⊥) → processes q ≡ Some r → P q r) → (q : ℕ) (r : Process) → put_process n o processes q ≡ Some r →
+    P q r
 at_put P n o processes f g q r = by_test (q == n) refl
   where
     by_test : (b : Bool) → (q == n) ≡ b → cond b o (processes q) ≡ Some r → P q r
@@ -45,7 +46,8 @@ pub record Like (o : Option Process) (r : Process) : Type 0 where
   pub found : it.found ≡ r.found
 
 pub put_leader : (n : ℕ) (o : Option Process) (processes : Processes) (run k : ℕ) (i : InstanceState) → IsKeptLeader processes run k i →
-    ((r : Process) → processes n ≡ Some r → r.leads ≡ true → r.run ≡ run → r.label ≡ k → Like o r) → IsKeptLeader (put_process n o processes) run k i
+    ((r : Process) → processes n ≡ Some r → r.leads ≡ true → r.run ≡ run → r.label ≡ k → Like o r) →
+    IsKeptLeader (put_process n o processes) run k i
 put_leader n o processes run k i l f = by_test (i.leader == n) refl
   where
     by_test : (b : Bool) → (i.leader == n) ≡ b → IsKeptLeader (put_process n o processes) run k i
@@ -73,7 +75,8 @@ put_leader n o processes run k i l f = by_test (i.leader == n) refl
         }
 
 -- ---- services
-pub at_service : (P : ServiceState → Type 0) (j k : ℕ) (service : ServiceState) (services : ℕ → ServiceState) → (k ≡ j → P service) → ((k ≡ j → ⊥) → P (services k)) →
+pub at_service : (P : ServiceState → Type 0) (j k : ℕ) (service : ServiceState) (services : ℕ → ServiceState) → (k ≡ j → P service) →
+    ((k ≡ j → ⊥) → P (services k)) →
     P (replaced j service services k)
 at_service P j k service services f g = by_test (k == j) refl
   where
@@ -87,24 +90,31 @@ pub record Beside (k : ℕ) (service : ServiceState) (now : ℕ) (r : Process) :
   pub group : (i : InstanceState) → service.instance ≡ Some i → r.group ≡ i.leader → (r.label ≡ k) × (r.found ≡ true)
   pub spared : r.label ≡ k → r.found ≡ true → r.killed ≡ true → (i : InstanceState) → service.instance ≡ Some i → IsDue i now
 
-pub service_process : (services : ℕ → ServiceState) (begun reported : List ℕ) (now : ℕ) (current leaders : ℕ → ℕ) (q : ℕ) (r : Process) (k : ℕ) (service : ServiceState) →
-    IsKeptProcess services begun reported now current leaders q r → Beside k service now r → IsKeptProcess (replaced k service services) begun reported now current leaders q r
+pub service_process : (services : ℕ → ServiceState) (begun reported : List ℕ) (now : ℕ) (current leaders : ℕ → ℕ) (q : ℕ) (r : Process)
+    (k : ℕ) (service : ServiceState) →
+    IsKeptProcess services begun reported now current leaders q r → Beside k service now r →
+    IsKeptProcess (replaced k service services) begun reported now current leaders q r
 service_process services begun reported now current leaders q r k service p b =
     record {
       generation = p.generation;
       leader = p.leader;
       begins = p.begins;
       dead = p.dead;
-      held = λ s. at_service (λ (x : ServiceState). x.clean ≡ true → Holds x r.generation) k r.label service services (λ e. b.held e s) (λ e. p.held s);
-      group = λ j i. at_service (λ (x : ServiceState). x.instance ≡ Some i → r.group ≡ i.leader → (r.label ≡ j) × (r.found ≡ true)) k j service services
+      held = λ s. at_service (λ (x : ServiceState). x.clean ≡ true → Holds x r.generation) k r.label service services (λ e. b.held e s)
+          (λ e. p.held s);
+      group = λ j i. at_service (λ (x : ServiceState). x.instance ≡ Some i → r.group ≡ i.leader → (r.label ≡ j) × (r.found ≡ true)) k j
+          service services
           (λ e u v. subst (λ (z : ℕ). (r.label ≡ z) × (r.found ≡ true)) (sym e) (b.group i u v))
           (λ e. p.group j i);
-      spared = λ s d i. at_service (λ (x : ServiceState). x.instance ≡ Some i → IsDue i now) k r.label service services (λ e. b.spared e s d i) (λ e. p.spared s d i);
+      spared = λ s d i. at_service (λ (x : ServiceState). x.instance ≡ Some i → IsDue i now) k r.label service services
+          (λ e. b.spared e s d i) (λ e. p.spared s d i);
     }
 
 -- Beside a service with the same instance.
-pub beside_same : (services : ℕ → ServiceState) (begun reported : List ℕ) (now : ℕ) (current leaders : ℕ → ℕ) (q : ℕ) (r : Process) (k : ℕ) (service : ServiceState) →
-    IsKeptProcess services begun reported now current leaders q r → service.instance ≡ (services k).instance → service.clean ≡ (services k).clean → Beside k service now r
+pub beside_same : (services : ℕ → ServiceState) (begun reported : List ℕ) (now : ℕ) (current leaders : ℕ → ℕ) (q : ℕ) (r : Process) (k : ℕ)
+    (service : ServiceState) →
+    IsKeptProcess services begun reported now current leaders q r → service.instance ≡ (services k).instance →
+    service.clean ≡ (services k).clean → Beside k service now r
 beside_same services begun reported now current leaders q r k service p instance clean =
     record {
       held = λ e s c.

@@ -11,7 +11,8 @@ Holds service g = (i : InstanceState) × (service.instance ≡ Some i) × (i.gen
 
 -- What is known of a process. `current`: of which instance the processes of a label are, and `leaders`: the number of an
 -- instance's leader process.
-pub record IsKeptProcess (services : ℕ → ServiceState) (begun reported : List ℕ) (now : ℕ) (current leaders : ℕ → ℕ) (q : ℕ) (r : Process) : Type 0 where
+pub record IsKeptProcess (services : ℕ → ServiceState) (begun reported : List ℕ) (now : ℕ) (current leaders : ℕ → ℕ) (q : ℕ)
+    (r : Process) : Type 0 where
   pub generation : r.found ≡ true → current r.label ≡ r.generation
   pub leader : r.leads ≡ true → leaders r.generation ≡ q
   pub begins : r.leads ≡ true → Contains begun r.generation

@@ -1,14 +1,17 @@
 -- Each event keeps what holds of a world.
-use Rattle.std.proofs.Common.{◌≡◌, ◌<◌, ◌≤◌, ◌+◌, ◌⊎◌, ℕ, Bool, true, false, List, [], ◌∷◌, Option, Some, None, refl, sym, ap, ◌∙◌, subst, inl, inr, arith}
+use Rattle.std.proofs.Common.{◌≡◌, ◌<◌, ◌≤◌, ◌+◌, ◌⊎◌, ℕ, Bool, true, false, List, [], ◌∷◌, Option, Some, None, refl, sym, ap, ◌∙◌, subst}
+use Rattle.std.proofs.Common.{inl, inr, arith}
 use Rattle.std.specs.List.{Contains}
 use Rattle.std.proofs.lemmas.Option.{same_Some}
 use Rattle.process_rule.specs.Kernel.{Process, Processes, IsOnce, put_process}
 use Rattle.process_rule.specs.Supervisor.{InstanceState, ServiceState, Host, new_service, replaced}
 use Rattle.process_rule.specs.Events.{Event, after_event, May, OccurAll, IsNewHost, IsDue, leader_of, with_service, with_process, stopping}
-use Rattle.process_rule.specs.Events.Event.{Start, Cancel, Stop, Shorten, Write, Begin, Fail, Report, Kill, Reap, Clear, Fork, Exit, Vanish, Leave, Join, Pass, Restart}
+use Rattle.process_rule.specs.Events.Event.{Start, Cancel, Stop, Shorten, Write, Begin, Fail, Report, Kill, Reap, Clear, Forget, Fork, Exit}
+use Rattle.process_rule.specs.Events.Event.{Vanish, Leave, Join, Pass, Restart}
 use Rattle.process_rule.proofs.Standing.{IsKeptProcess, IsKeptLeader, IsKeptService, IsKept}
 use Rattle.process_rule.proofs.Members.{none_member, head_member, tail_member, member_cases}
-use Rattle.process_rule.proofs.PutLemmas.{replaced_same, put_same, set, set_same, set_other, true_is_false, is_one, is_none, at_put, Like, put_leader, at_service, Beside, service_process, beside_same}
+use Rattle.process_rule.proofs.PutLemmas.{replaced_same, put_same, set, set_same, set_other, true_is_false, is_one, is_none, at_put, Like}
+use Rattle.process_rule.proofs.PutLemmas.{put_leader, at_service, Beside, service_process, beside_same}
 
 once_none : IsOnce []
 once_none = tt
@@ -24,7 +27,8 @@ process_kept w n o h f g =
     record {
       current = h.current;
       leaders = h.leaders;
-      processes = at_put (λ q r. IsKeptProcess w.services w.begun w.reported w.now h.current h.leaders q r) n o w.processes f (λ q r d. h.processes q r);
+      processes = at_put (λ q r. IsKeptProcess w.services w.begun w.reported w.now h.current h.leaders q r) n o w.processes f
+          (λ q r d. h.processes q r);
       services = λ k. (let s = h.services k in
           record {
             leader = λ i e. put_leader n o w.processes w.run k i (s.leader i e) (λ r a b c d. g r a b c);
@@ -65,7 +69,16 @@ exit_kept : (w : Host) (q : ℕ) (r : Process) → May w (Exit q r) → IsKept w
 exit_kept w q r m h =
     let p = h.processes q r m in
     changed_kept w q r (record r { alive = false }) h m
-    (record { generation = p.generation; leader = p.leader; begins = p.begins; dead = λ l t. refl; held = p.held; group = p.group; spared = p.spared })
+    (record {
+      generation = p.generation;
+      leader = p.leader;
+      begins = p.begins;
+      dead = λ l t. refl;
+      held = p.held;
+      group = p.group;
+      spared =
+          p.spared;
+    })
     refl refl refl refl (λ l. refl)
 
 kill_kept : (w : Host) (q : ℕ) (r : Process) → May w (Kill q r) → IsKept w → IsKept (after_event w (Kill q r))
@@ -84,7 +97,8 @@ kill_kept w q r m h =
     refl refl refl refl (λ l. refl)
   where
     due : (i : InstanceState) → (w.services r.label).instance ≡ Some i →
-        ((w.services r.label).clean ≡ false) ⊎ ((j : InstanceState) × ((w.services r.label).instance ≡ Some j) × (r.generation ≡ j.generation) × IsDue j w.now) → IsDue i w.now
+        ((w.services r.label).clean ≡ false) ⊎ ((j : InstanceState) × ((w.services r.label).instance ≡ Some j) ×
+        (r.generation ≡ j.generation) × IsDue j w.now) → IsDue i w.now
     due i e (inl c) = true_is_false (sym ((h.services r.label).clean i e) ∙ c)
     due i e (inr d) = subst (λ (z : InstanceState). IsDue z w.now) (is_one (w.services r.label).instance d.0 i d.1 e) d.3
 
@@ -138,7 +152,8 @@ fork_kept w q r n m h =
     let p = h.processes q r m.0 in
     process_kept w n (Some (record r { leads = false })) h
     (λ t e.
-    subst (λ (z : Process). IsKeptProcess w.services w.begun w.reported w.now h.current h.leaders n z) (same_Some (record r { leads = false }) t e)
+    subst (λ (z : Process). IsKeptProcess w.services w.begun w.reported w.now h.current h.leaders n z)
+    (same_Some (record r { leads = false }) t e)
     (record {
       generation = p.generation;
       leader = λ l. true_is_false (sym l);
@@ -159,23 +174,41 @@ service_kept : (w : Host) (k : ℕ) (pending : Option ℕ) (clean : Bool) (next 
     ((j g : ℕ) → (j ≡ k → ⊥) → (w.services j).pending ≡ Some g → pending ≡ Some g → ⊥) →
     ((g : ℕ) → Contains given g → (g < next) × (g < file)) → IsOnce given →
     ((g : ℕ) (i : InstanceState) → pending ≡ Some g → (w.services k).instance ≡ Some i → i.deadline ≡ None → ⊥) →
-    IsKept (record w { services = replaced k (record (w.services k) { pending = pending; clean = clean }) w.services; next = next; file = file; given = given })
+    IsKept
+    (record w {
+      services = replaced k (record (w.services k) { pending = pending; clean = clean }) w.services;
+      next = next;
+      file = file;
+      given =
+          given;
+    })
 service_kept w k pending clean next file given h c b more f u below once ws =
     let service = record (w.services k) { pending = pending; clean = clean } in
     record {
       current = h.current;
       leaders = h.leaders;
-      processes = λ q r e. service_process w.services w.begun w.reported w.now h.current h.leaders q r k service (h.processes q r e) (b q r e);
+      processes = λ q r e. service_process w.services w.begun w.reported w.now h.current h.leaders q r k service (h.processes q r e)
+          (b q r e);
       services = λ j. at_service (λ (x : ServiceState). IsKeptService w.processes given w.begun w.reported w.run j x) k j service w.services
           (λ e. subst (λ (z : ℕ). IsKeptService w.processes given w.begun w.reported w.run z service) (sym e)
           (let s = h.services k in record { leader = s.leader; clean = c; pending = f; unreported = s.unreported; waits = ws }))
           (λ d.
           let s = h.services j in
-          record { leader = s.leader; clean = s.clean; pending = λ g e. (more j g (s.pending g e).0, (s.pending g e).1); unreported = s.unreported; waits = s.waits });
+          record {
+            leader = s.leader;
+            clean = s.clean;
+            pending = λ g e. (more j g (s.pending g e).0, (s.pending g e).1);
+            unreported =
+                s.unreported;
+            waits = s.waits;
+          });
       single = λ j l g.
-          at_service (λ (x : ServiceState). x.pending ≡ Some g → (replaced k service w.services l).pending ≡ Some g → j ≡ l) k j service w.services
-          (λ e a. at_service (λ (x : ServiceState). x.pending ≡ Some g → j ≡ l) k l service w.services (λ d v. e ∙ sym d) (λ d v. absurd (u l g d v a)))
-          (λ e a. at_service (λ (x : ServiceState). x.pending ≡ Some g → j ≡ l) k l service w.services (λ d v. absurd (u j g e a v)) (λ d v. h.single j l g a v));
+          at_service (λ (x : ServiceState). x.pending ≡ Some g → (replaced k service w.services l).pending ≡ Some g → j ≡ l) k j service
+          w.services
+          (λ e a. at_service (λ (x : ServiceState). x.pending ≡ Some g → j ≡ l) k l service w.services (λ d v. e ∙ sym d)
+          (λ d v. absurd (u l g d v a)))
+          (λ e a. at_service (λ (x : ServiceState). x.pending ≡ Some g → j ≡ l) k l service w.services (λ d v. absurd (u j g e a v))
+          (λ d v. h.single j l g a v));
       below = below;
       begun = λ g e. more k g (h.begun g e);
       reported = h.reported;
@@ -232,6 +265,21 @@ clear_kept w k m h =
     (λ j g d v e. d (h.single j k g v e))
     h.below h.given_once (h.services k).waits
 
+forget_kept : (w : Host) (k : ℕ) → May w (Forget k) → IsKept w → IsKept (after_event w (Forget k))
+forget_kept w k m h =
+    service_kept w k None false w.next w.file w.given h (λ i e. is_none (w.services k).instance i m.0 e)
+    (λ q r e.
+    let p = h.processes q r e in
+    record {
+      held = λ a s c. true_is_false (sym c);
+      group = p.group k;
+      spared = λ a s d i u. p.spared s d i (ap (λ (z : ℕ). (w.services z).instance) a ∙ u);
+    })
+    (λ j g c. c)
+    (λ g e. is_none None g refl e)
+    (λ j g d v e. is_none None g refl e)
+    h.below h.given_once (λ g i u. is_none None g refl u)
+
 write_kept : (w : Host) (n : ℕ) → May w (Write n) → IsKept w → IsKept (after_event w (Write n))
 write_kept w n m h =
     record {
@@ -249,7 +297,8 @@ write_kept w n m h =
     }
 
 -- ---- an instance is to end
-pending_same : (k j : ℕ) (o : Option InstanceState) (services : ℕ → ServiceState) → (replaced k (record (services k) { instance = o }) services j).pending ≡ (services j).pending
+pending_same : (k j : ℕ) (o : Option InstanceState) (services : ℕ → ServiceState) →
+    (replaced k (record (services k) { instance = o }) services j).pending ≡ (services j).pending
 pending_same k j o services =
     at_service (λ (x : ServiceState). x.pending ≡ (services j).pending) k j (record (services k) { instance = o }) services
     (λ e. ap (λ (z : ℕ). (services z).pending) (sym e))
@@ -258,7 +307,8 @@ pending_same k j o services =
 stopping_kept : (w : Host) (k : ℕ) (i : InstanceState) (t : ℕ) (reported : List ℕ) (h : IsKept w) → (w.services k).instance ≡ Some i →
     ((q : ℕ) (r : Process) → IsDue i w.now → t ≤ w.now) →
     ((g : ℕ) → Contains reported g → Contains w.begun g) →
-    ((j : ℕ) (n : InstanceState) → (j ≡ k → ⊥) → (w.services j).instance ≡ Some n → Contains reported n.generation → Contains w.reported n.generation) →
+    ((j : ℕ) (n : InstanceState) → (j ≡ k → ⊥) → (w.services j).instance ≡ Some n → Contains reported n.generation →
+    Contains w.reported n.generation) →
     ((q : ℕ) (r : Process) → w.processes q ≡ Some r → r.leads ≡ true → Contains reported r.generation → r.alive ≡ false) → IsOnce reported →
     IsKept (record (with_service w k (record (w.services k) { instance = Some (stopping i t) })) { reported = reported })
 stopping_kept w k i t reported h m due begun others dead once =
@@ -294,7 +344,16 @@ stopping_kept w k i t reported h m due begun others dead once =
           let l = s.leader i m in
           record {
             leader = λ n u. subst (λ (y : InstanceState). IsKeptLeader w.processes w.run k y) (same_Some (stopping i t) n u)
-                (record { it = l.it; there = l.there; leads = l.leads; of_run = l.of_run; label = l.label; generation = l.generation; sees = l.sees });
+                (record {
+                  it = l.it;
+                  there = l.there;
+                  leads = l.leads;
+                  of_run = l.of_run;
+                  label = l.label;
+                  generation = l.generation;
+                  sees =
+                      l.sees;
+                });
             clean = λ n u. s.clean i m;
             pending = s.pending;
             unreported = λ n u v. is_none n.deadline t v (ap (λ (y : InstanceState). y.deadline) (sym (same_Some (stopping i t) n u)));
@@ -302,8 +361,16 @@ stopping_kept w k i t reported h m due begun others dead once =
           }))
           (λ d.
           let s = h.services j in
-          record { leader = s.leader; clean = s.clean; pending = s.pending; unreported = λ n u v c. s.unreported n u v (others j n d u c); waits = s.waits });
-      single = λ j l g a v. h.single j l g (sym (pending_same k j (Some (stopping i t)) w.services) ∙ a) (sym (pending_same k l (Some (stopping i t)) w.services) ∙ v);
+          record {
+            leader = s.leader;
+            clean = s.clean;
+            pending = s.pending;
+            unreported = λ n u v c. s.unreported n u v (others j n d u c);
+            waits =
+                s.waits;
+          });
+      single = λ j l g a v. h.single j l g (sym (pending_same k j (Some (stopping i t)) w.services) ∙ a)
+          (sym (pending_same k l (Some (stopping i t)) w.services) ∙ v);
       below = h.below;
       begun = h.begun;
       reported = begun;
@@ -312,12 +379,14 @@ stopping_kept w k i t reported h m due begun others dead once =
       reported_once = once;
     }
 
-dead_stay : (w : Host) → IsKept w → (q : ℕ) (r : Process) → w.processes q ≡ Some r → r.leads ≡ true → Contains w.reported r.generation → r.alive ≡ false
+dead_stay : (w : Host) → IsKept w → (q : ℕ) (r : Process) → w.processes q ≡ Some r → r.leads ≡ true → Contains w.reported r.generation →
+    r.alive ≡ false
 dead_stay w h q r e = (h.processes q r e).dead
 
 stop_kept : (w : Host) (k : ℕ) (i : InstanceState) (n : ℕ) → May w (Stop k i n) → IsKept w → IsKept (after_event w (Stop k i n))
 stop_kept w k i n m h =
-    stopping_kept w k i (w.now + n) w.reported h m.0 (λ q r d. is_none i.deadline d.at m.1 d.set) h.reported (λ j x d u c. c) (dead_stay w h) h.reported_once
+    stopping_kept w k i (w.now + n) w.reported h m.0 (λ q r d. is_none i.deadline d.at m.1 d.set) h.reported (λ j x d u c. c)
+    (dead_stay w h) h.reported_once
 
 shorten_kept : (w : Host) (k : ℕ) (i : InstanceState) (n : ℕ) → May w (Shorten k i n) → IsKept w → IsKept (after_event w (Shorten k i n))
 shorten_kept w k i n m h =
@@ -326,7 +395,8 @@ shorten_kept w k i n m h =
     h.reported (λ j x d u c. c) (dead_stay w h) h.reported_once
 
 -- Two instances of one generation are of one label.
-same_label : (w : Host) (h : IsKept w) (j k : ℕ) (a b : InstanceState) → (w.services j).instance ≡ Some a → (w.services k).instance ≡ Some b → a.generation ≡ b.generation → j ≡ k
+same_label : (w : Host) (h : IsKept w) (j k : ℕ) (a b : InstanceState) → (w.services j).instance ≡ Some a →
+    (w.services k).instance ≡ Some b → a.generation ≡ b.generation → j ≡ k
 same_label w h j k a b u v e =
     let l = (h.services j).leader a u in
     let m = (h.services k).leader b v in
@@ -340,16 +410,19 @@ report_kept : (w : Host) (k : ℕ) (i : InstanceState) (r : Process) → May w (
 report_kept w k i r m h =
     let l = (h.services k).leader i m.0 in
     let one = is_one (w.processes i.leader) r l.it m.2 l.there in
-    let begins : Contains w.begun i.generation = subst (λ (y : ℕ). Contains w.begun y) l.generation ((h.processes i.leader l.it l.there).begins l.leads) in
+    let begins : Contains w.begun i.generation =
+    subst (λ (y : ℕ). Contains w.begun y) l.generation ((h.processes i.leader l.it l.there).begins l.leads) in
     stopping_kept w k i w.now (i.generation ∷ w.reported) h m.0 (λ q s d. is_none i.deadline d.at m.1 d.set)
-    (λ g c. elim (member_cases i.generation w.reported g c) [ inl e ↦ subst (λ (y : ℕ). Contains w.begun y) (sym e) begins | inr t ↦ h.reported g t ])
+    (λ g c. elim (member_cases i.generation w.reported g c)
+    [ inl e ↦ subst (λ (y : ℕ). Contains w.begun y) (sym e) begins | inr t ↦ h.reported g t ])
     (λ j n d u c.
     elim (member_cases i.generation w.reported n.generation c) [ inl e ↦ absurd (d (same_label w h j k n i u m.0 e)) | inr t ↦ t ])
     (λ q s e v c.
     elim (member_cases i.generation w.reported s.generation c) [
       | inl o ↦
           let number : q ≡ i.leader =
-          sym ((h.processes q s e).leader v) ∙ ap (λ (y : ℕ). h.leaders y) (o ∙ sym l.generation) ∙ (h.processes i.leader l.it l.there).leader l.leads in
+          sym ((h.processes q s e).leader v) ∙ ap (λ (y : ℕ). h.leaders y) (o ∙ sym l.generation) ∙
+          (h.processes i.leader l.it l.there).leader l.leads in
           let same = is_one (w.processes q) s r e (ap (λ (y : ℕ). w.processes y) number ∙ m.2) in
           ap (λ (y : Process). y.alive) same ∙ m.3
       | inr t ↦ (h.processes q s e).dead v t
@@ -379,7 +452,8 @@ itself w k g p m h =
       dead = λ l c. absurd (fresh w k g p m h (h.reported g c));
       held = λ s c. (begun_at g p, ap (λ (y : ServiceState). y.instance) (replaced_same k (begun_service w k g p) w.services), refl);
       group = λ j n.
-          at_service (λ (x : ServiceState). x.instance ≡ Some n → p ≡ n.leader → (k ≡ j) × (true ≡ true)) k j (begun_service w k g p) w.services
+          at_service (λ (x : ServiceState). x.instance ≡ Some n → p ≡ n.leader → (k ≡ j) × (true ≡ true)) k j (begun_service w k g p)
+          w.services
           (λ e u v. (sym e, refl))
           (λ d u v.
           let l = (h.services j).leader n u in
@@ -388,18 +462,21 @@ itself w k g p m h =
     }
 
 -- Nothing else is there of its label.
-pub alone : (w : Host) (k g p : ℕ) → May w (Begin k g p) → IsKept w → (q : ℕ) (r : Process) → w.processes q ≡ Some r → r.found ≡ true → r.label ≡ k → ⊥
+pub alone : (w : Host) (k g p : ℕ) → May w (Begin k g p) → IsKept w → (q : ℕ) (r : Process) → w.processes q ≡ Some r → r.found ≡ true →
+    r.label ≡ k → ⊥
 alone w k g p m h q r e s a =
     let old = (h.processes q r e).held s (ap (λ (y : ℕ). (w.services y).clean) a ∙ m.2) in
     is_none (w.services k).instance old.0 m.1 (ap (λ (y : ℕ). (w.services y).instance) (sym a) ∙ old.1)
 
-another : (w : Host) (k g p : ℕ) (m : May w (Begin k g p)) (h : IsKept w) (q : ℕ) (r : Process) → w.processes q ≡ Some r → BegunProcess w k g p h q r
+another : (w : Host) (k g p : ℕ) (m : May w (Begin k g p)) (h : IsKept w) (q : ℕ) (r : Process) → w.processes q ≡ Some r →
+    BegunProcess w k g p h q r
 another w k g p m h q r e =
     let old = h.processes q r e in
     service_process w.services (g ∷ w.begun) w.reported w.now (set k g h.current) (set g p h.leaders) q r k (begun_service w k g p)
     (record {
       generation = λ s. set_other k g r.label h.current (alone w k g p m h q r e s) ∙ old.generation s;
-      leader = λ l. set_other g p r.generation h.leaders (λ o. fresh w k g p m h (subst (λ (y : ℕ). Contains w.begun y) o (old.begins l))) ∙ old.leader l;
+      leader = λ l. set_other g p r.generation h.leaders (λ o. fresh w k g p m h (subst (λ (y : ℕ). Contains w.begun y) o (old.begins l)))
+          ∙ old.leader l;
       begins = λ l. tail_member g w.begun r.generation (old.begins l);
       dead = old.dead;
       held = old.held;
@@ -420,20 +497,36 @@ begin_kept w k g p m h =
       processes = at_put (λ q r. BegunProcess w k g p h q r) p (Some (leader_of k g p w.run)) w.processes
           (λ r e. subst (λ (z : Process). BegunProcess w k g p h p z) (same_Some (leader_of k g p w.run) r e) (itself w k g p m h))
           (λ q r d e. another w k g p m h q r e);
-      services = λ j. at_service (λ (x : ServiceState). IsKeptService (put_process p (Some (leader_of k g p w.run)) w.processes) w.given (g ∷ w.begun) w.reported w.run j x) k j (begun_service w k g p) w.services
-          (λ e. subst (λ (z : ℕ). IsKeptService (put_process p (Some (leader_of k g p w.run)) w.processes) w.given (g ∷ w.begun) w.reported w.run z (begun_service w k g p)) (sym e)
+      services = λ j. at_service (λ (x : ServiceState).
+          IsKeptService (put_process p (Some (leader_of k g p w.run)) w.processes) w.given (g ∷ w.begun) w.reported w.run j x) k j
+          (begun_service w k g p) w.services
+          (λ e. subst (λ (z : ℕ). IsKeptService (put_process p (Some (leader_of k g p w.run)) w.processes) w.given (g ∷ w.begun) w.reported
+          w.run z (begun_service w k g p)) (sym e)
           (record {
-            leader = λ n u. subst (λ (y : InstanceState). IsKeptLeader (put_process p (Some (leader_of k g p w.run)) w.processes) w.run k y) (same_Some (begun_at g p) n u)
-                (record { it = leader_of k g p w.run; there = put_same p (Some (leader_of k g p w.run)) w.processes; leads = refl; of_run = refl; label = refl; generation = refl; sees = refl });
+            leader = λ n u. subst (λ (y : InstanceState).
+                IsKeptLeader (put_process p (Some (leader_of k g p w.run)) w.processes) w.run k y) (same_Some (begun_at g p) n u)
+                (record {
+                  it = leader_of k g p w.run;
+                  there = put_same p (Some (leader_of k g p w.run)) w.processes;
+                  leads = refl;
+                  of_run =
+                      refl;
+                  label = refl;
+                  generation = refl;
+                  sees = refl;
+                });
             clean = λ n u. m.2;
             pending = λ n u. is_none None n refl u;
-            unreported = λ n u v c. (fresh w k g p m h) (h.reported g (subst (λ (y : ℕ). Contains w.reported y) (ap (λ (y : InstanceState). y.generation) (sym (same_Some (begun_at g p) n u))) c));
+            unreported = λ n u v c. (fresh w k g p m h)
+                (h.reported g (subst (λ (y : ℕ). Contains w.reported y)
+                (ap (λ (y : InstanceState). y.generation) (sym (same_Some (begun_at g p) n u))) c));
             waits = λ x n u. is_none None x refl u;
           }))
           (λ d.
           let s = h.services j in
           record {
-            leader = λ n u. put_leader p (Some (leader_of k g p w.run)) w.processes w.run j n (s.leader n u) (λ r e a b c. is_none (w.processes p) r m.3.process e);
+            leader = λ n u. put_leader p (Some (leader_of k g p w.run)) w.processes w.run j n (s.leader n u)
+                (λ r e a b c. is_none (w.processes p) r m.3.process e);
             clean = s.clean;
             pending = λ n u. (
               (s.pending n u).0,
@@ -446,9 +539,11 @@ begin_kept w k g p m h =
             waits = s.waits;
           });
       single = λ j l n.
-          at_service (λ (x : ServiceState). x.pending ≡ Some n → (replaced k (begun_service w k g p) w.services l).pending ≡ Some n → j ≡ l) k j (begun_service w k g p) w.services
+          at_service (λ (x : ServiceState). x.pending ≡ Some n → (replaced k (begun_service w k g p) w.services l).pending ≡ Some n →
+          j ≡ l) k j (begun_service w k g p) w.services
           (λ e a v. is_none None n refl a)
-          (λ e a. at_service (λ (x : ServiceState). x.pending ≡ Some n → j ≡ l) k l (begun_service w k g p) w.services (λ d v. is_none None n refl v) (λ d v. h.single j l n a v));
+          (λ e a. at_service (λ (x : ServiceState). x.pending ≡ Some n → j ≡ l) k l (begun_service w k g p) w.services
+          (λ d v. is_none None n refl v) (λ d v. h.single j l n a v));
       below = h.below;
       begun = λ n c. elim (member_cases g w.begun n c) [
         | inl e ↦ subst (λ (y : ℕ). Contains w.given y) (sym e) ((h.services k).pending g m.0).0
@@ -467,7 +562,8 @@ reap_kept w k i r m h =
     record {
       current = h.current;
       leaders = h.leaders;
-      processes = at_put (λ q s. IsKeptProcess (replaced k service w.services) w.begun w.reported w.now h.current h.leaders q s) i.leader None w.processes
+      processes = at_put (λ q s. IsKeptProcess (replaced k service w.services) w.begun w.reported w.now h.current h.leaders q s) i.leader
+          None w.processes
           (λ s e. is_none None s refl e)
           (λ q s d e.
           let p = h.processes q s e in
@@ -477,7 +573,8 @@ reap_kept w k i r m h =
             group = λ n u v. is_none None n refl u;
             spared = λ a v c n u. is_none None n refl u;
           }));
-      services = λ j. at_service (λ (x : ServiceState). IsKeptService (put_process i.leader None w.processes) w.given w.begun w.reported w.run j x) k j service w.services
+      services = λ j. at_service (λ (x : ServiceState).
+          IsKeptService (put_process i.leader None w.processes) w.given w.begun w.reported w.run j x) k j service w.services
           (λ e. subst (λ (z : ℕ). IsKeptService (put_process i.leader None w.processes) w.given w.begun w.reported w.run z service) (sym e)
           (record {
             leader = λ n u. is_none None n refl u;
@@ -491,7 +588,8 @@ reap_kept w k i r m h =
           let l = (h.services k).leader i m.0 in
           record {
             leader = λ n u. put_leader i.leader None w.processes w.run j n (s.leader n u)
-                (λ t e a b c. absurd (d (sym c ∙ ap (λ (y : Process). y.label) (is_one (w.processes i.leader) t l.it e l.there) ∙ l.label)));
+                (λ t e a b c. absurd (d (sym c ∙ ap (λ (y : Process). y.label) (is_one (w.processes i.leader) t l.it e l.there) ∙
+                l.label)));
             clean = s.clean;
             pending = s.pending;
             unreported = s.unreported;
@@ -532,7 +630,8 @@ pass_kept w n h =
       reported_once = h.reported_once;
     }
 
-fresh_service : (processes : Processes) (given begun reported : List ℕ) (run k : ℕ) → IsKeptService processes given begun reported run k new_service
+fresh_service : (processes : Processes) (given begun reported : List ℕ) (run k : ℕ) →
+    IsKeptService processes given begun reported run k new_service
 fresh_service processes given begun reported run k =
     record {
       leader = λ i u. is_none None i refl u;
@@ -580,6 +679,7 @@ step w (Report k i r) m h = report_kept w k i r m h
 step w (Kill q r) m h = kill_kept w q r m h
 step w (Reap k i r) m h = reap_kept w k i r m h
 step w (Clear k) m h = clear_kept w k m h
+step w (Forget k) m h = forget_kept w k m h
 step w (Fork q r n) m h = fork_kept w q r n m h
 step w (Exit q r) m h = exit_kept w q r m h
 step w (Vanish q r) m h = vanish_kept w q r m h

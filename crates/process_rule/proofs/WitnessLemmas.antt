@@ -43,7 +43,8 @@ Grouped n processes = (q : ℕ) (r : Process) → processes q ≡ Some r → r.g
 pub grouped_none : (n : ℕ) → Grouped n (λ q. None)
 grouped_none n q r e = is_none None r refl e
 
-pub grouped_put : (n p : ℕ) (s : Process) (processes : Processes) → s.group ≡ n → Grouped n processes → Grouped n (put_process p (Some s) processes)
+pub grouped_put : (n p : ℕ) (s : Process) (processes : Processes) → s.group ≡ n → Grouped n processes →
+    Grouped n (put_process p (Some s) processes)
 grouped_put n p s processes g f =
     at_put (λ q r. r.group ≡ n) p (Some s) processes (λ r e. ap (λ (y : Process). y.group) (sym (same_Some s r e)) ∙ g) (λ q r d e. f q r e)
 
@@ -94,8 +95,13 @@ module _ (careless : Host → Event → Type 0) where
   pub reached_begun : (es : List Event) → Each begun es → IsCarelesslyReached careless (ends begun es)
   unfolding ends
   reached_begun es m =
-      reached (Write 65 ∷ Clear 0 ∷ Start 0 ∷ Begin 0 1 7 ∷ es)
-      (inl (omega arith), (inl (λ q s e. is_none None s refl e), (inl (refl, no_instance, omega arith), (inl (refl, refl, refl, none_free 7), m))))
+      reached (Write 65 ∷ Clear 0 ∷ Start 0 ∷ Begin 0 1 7 ∷ es) (
+        inl (omega arith),
+        (
+          inl (λ q s e. is_none None s refl e),
+          (inl (refl, no_instance, omega arith), (inl (refl, refl, refl, none_free 7), m)),
+        ),
+      )
 
 -- ---- a number that is given again
 abbrev pub AllMay : Host → List Event → Type 0
@@ -109,7 +115,8 @@ occur_all w (e ∷ es) m = (after_event w e, (m.0, refl), occur_all (after_event
 
 abbrev events : List Event
 events =
-    Write 65 ∷ Clear 0 ∷ Start 0 ∷ Begin 0 1 7 ∷ Exit 7 (first 1) ∷ Report 0 one exited ∷ Reap 0 reported exited ∷ Start 0 ∷ Begin 0 2 7 ∷ []
+    Write 65 ∷ Clear 0 ∷ Start 0 ∷ Begin 0 1 7 ∷ Exit 7 (first 1) ∷ Report 0 one exited ∷ Reap 0 reported exited ∷ Start 0 ∷ Begin 0 2 7 ∷
+    []
 
 pub only_exited : Only 7 (put_process 7 (Some exited) begun.processes)
 only_exited = only_put 7 (Some exited) begun.processes (only_put 7 (Some (first 1)) (λ q. None) (only_none 7))
@@ -129,7 +136,19 @@ may = (
             (refl, refl, refl, refl),
             (
               (refl, (0, refl), refl, refl, λ q s e found label. only_exited q s e),
-              ((refl, no_instance, omega arith), ((refl, refl, refl, gone_free 7 (put_process 7 (Some exited) begun.processes) only_exited), tt)),
+              (
+                (refl, no_instance, omega arith),
+                (
+                  (
+                    refl,
+                    refl,
+                    refl,
+                    gone_free 7 (put_process 7 (Some exited) begun.processes)
+                        only_exited,
+                  ),
+                  tt,
+                ),
+              ),
             ),
           ),
         ),

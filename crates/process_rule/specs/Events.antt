@@ -19,6 +19,7 @@ pub data Event : Type 0 where
   Kill : ℕ → Process → Event  -- SIGKILL reaches a process, alone or as one of its group
   Reap : ℕ → InstanceState → Process → Event  -- a scan found only the instance's leader, which is reaped
   Clear : ℕ → Event  -- a scan found no leftover
+  Forget : ℕ → Event  -- a label is left out: if it comes again, leftovers are scanned for
   -- Of the kernel.
   Fork : ℕ → Process → ℕ → Event  -- with the child's number
   Exit : ℕ → Process → Event
@@ -68,6 +69,7 @@ after_event h (Reap k i r) =
       services = replaced k (record (h.services k) { instance = None }) h.services;
     }
 after_event h (Clear k) = with_service h k (record (h.services k) { clean = true })
+after_event h (Forget k) = with_service h k (record (h.services k) { pending = None; clean = false })
 after_event h (Fork q r n) = with_process h n (Some (record r { leads = false }))
 after_event h (Exit q r) = with_process h q (Some (record r { alive = false }))
 after_event h (Vanish q r) = with_process h q None
@@ -111,6 +113,8 @@ May h (Reap k i r) =
     ((h.services k).instance ≡ Some i) × ((t : ℕ) × (i.deadline ≡ Some t)) × (h.processes i.leader ≡ Some r) × (r.alive ≡ false) ×
     ((q : ℕ) (s : Process) → h.processes q ≡ Some s → s.found ≡ true → s.label ≡ k → q ≡ i.leader)
 May h (Clear k) = (q : ℕ) (s : Process) → h.processes q ≡ Some s → s.found ≡ true → s.label ≡ k → ⊥
+-- The last instance is reaped, and there is no leftover.
+May h (Forget k) = ((h.services k).instance ≡ None) × ((h.services k).clean ≡ true)
 May h (Fork q r n) = (h.processes q ≡ Some r) × (r.alive ≡ true) × (r.killed ≡ false) × IsFreeNumber h.processes n
 May h (Exit q r) = h.processes q ≡ Some r
 -- The supervisor alone reaps the leaders of its run.

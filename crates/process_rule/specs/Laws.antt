@@ -3,7 +3,7 @@ use Rattle.std.specs.Prelude.{◌≡◌, ℕ, ◌<◌, Bool, true, false, Option
 use Rattle.process_rule.specs.Kernel.{Process, IsOnce}
 use Rattle.process_rule.specs.Supervisor.{InstanceState, Host}
 use Rattle.process_rule.specs.Events.{Event, May, IsReachable, IsDue, after_event}
-use Rattle.process_rule.specs.Events.Event.{Begin, Fail, Kill, Start, Write}
+use Rattle.process_rule.specs.Events.Event.{Begin, Fail, Forget, Kill, Start, Write}
 
 -- A law: all processes of a label that a scan finds are of one instance.
 abbrev pub OneInstanceAtATime : Type 0
@@ -16,6 +16,12 @@ abbrev pub BeginsAlone : Type 0
 BeginsAlone =
     (h : Host) → IsReachable h → (k g p : ℕ) → May h (Begin k g p) → (q : ℕ) (r : Process) → h.processes q ≡ Some r →
     r.found ≡ true → r.label ≡ k → ⊥
+
+-- A law: when a label is left out, a scan finds no process of it.
+abbrev pub ForgetsNone : Type 0
+ForgetsNone =
+    (h : Host) → IsReachable h → (k : ℕ) → May h (Forget k) → (q : ℕ) (r : Process) → h.processes q ≡ Some r → r.found ≡ true →
+    r.label ≡ k → ⊥
 
 -- A law: the file is ahead of each generation that was given, and so of each that began. None is given twice, and none begins twice.
 pub record AreWritten (h : Host) : Type 0 where

@@ -4,7 +4,7 @@ use Rattle.std.specs.List.{list_any}
 use Rattle.process_rule.specs.Kernel.{Process, IsFreeNumber}
 use Rattle.process_rule.specs.Supervisor.{InstanceState, Host}
 use Rattle.process_rule.specs.Events.{Event, May, OccurAll, IsReachable, after_event}
-use Rattle.process_rule.specs.Events.Event.{Cancel, Begin, Stop, Shorten, Vanish, Reap, Restart}
+use Rattle.process_rule.specs.Events.Event.{Cancel, Begin, Stop, Shorten, Vanish, Reap, Forget, Restart}
 
 -- Whether a scan of the label finds at most the process with this number.
 abbrev pub OnlyLeader : Host → ℕ → ℕ → Type 0
@@ -61,10 +61,12 @@ GraceLasts =
 abbrev pub ends_wait : ℕ → Event → Bool
 ends_wait k (Begin j g p) = j == k
 ends_wait k (Cancel j) = j == k
+ends_wait k (Forget j) = j == k
 ends_wait k Restart = true
 ends_wait k _ = false
 
--- A law: a start stays pending, however often it fails, until its leader is forked, RS cancels it, or the supervisor is killed.
+-- A law: a start stays pending, however often it fails, until its leader is forked, RS cancels it, its label is left out, or the
+-- supervisor is killed.
 abbrev pub PendingStays : Type 0
 PendingStays =
     (h x : Host) (later : List Event) (k g : ℕ) → (h.services k).pending ≡ Some g → OccurAll h later x →

@@ -1,6 +1,6 @@
 //! The laws, each on a function without a body.
 
-ghost use Rattle.process_rule.specs.Laws.{OneInstanceAtATime, BeginsAlone, GenerationsAreWritten, SignalsAreAimed};
+ghost use Rattle.process_rule.specs.Laws.{OneInstanceAtATime, BeginsAlone, ForgetsNone, GenerationsAreWritten, SignalsAreAimed};
 ghost use Rattle.process_rule.specs.Laws.{GroupsMayBeKilled, GraceIsKept, DeathsAreTrue, FailuresChangeNothing, OnlyStartsWait};
 ghost use Rattle.process_rule.specs.Progress.{DeadStays, EmptyStays, KilledStays, NothingStays, GraceLasts, PendingStays, StartsGoOn};
 ghost use Rattle.process_rule.specs.Witness.{NumbersComeAgain};
@@ -11,6 +11,7 @@ ghost use Rattle.process_rule.specs.Careless.{CarelessReportsLie, CarelessKillsA
 pub fn processes_are_kept()
     ensures one { OneInstanceAtATime }
     ensures alone { BeginsAlone }
+    ensures left { ForgetsNone }
     ensures written { GenerationsAreWritten }
     ensures aimed { SignalsAreAimed }
     ensures group { GroupsMayBeKilled }

@@ -1,5 +1,6 @@
 -- The lines of actions and replies, in sequence.
-use Rattle.std.proofs.Common.{◌≡◌, ℕ, zero, suc, ◌+◌, List, [], ◌∷◌, ◌++◌, take, Option, Some, None, sym, ap, ◌∙◌, append_assoc, append-nil, arith}
+use Rattle.std.proofs.Common.{◌≡◌, ℕ, zero, suc, ◌+◌, List, [], ◌∷◌, ◌++◌, take, Option, Some, None, sym, ap, ◌∙◌, append_assoc, append-nil}
+use Rattle.std.proofs.Common.{arith}
 use Rattle.std.specs.List.{slice_get}
 use Rattle.ds_machine.specs.declared.reply.Reply.{Reply}
 use Rattle.rs_core.specs.declared.action.Action.{Action}
@@ -15,7 +16,8 @@ pub acted_more : (acts : List Action) (rs : List (Option Reply)) (i : ℕ) (x : 
 acted_more [] rs i x e = absurd (let none : None ≡ Some x = e in cc)
 acted_more (y ∷ acts) [] zero x e = let same : y ≡ x = cc in ap (λ (z : Action). action_line z ++ []) same
 acted_more (y ∷ acts) (r ∷ rs) zero x e =
-    let same : y ≡ x = cc in ap (λ (l : List ℕ). action_line y ++ l) (append-nil (reply_lines_if (Some r))) ∙ ap (λ (z : Action). action_line z ++ reply_lines_if (Some r)) same
+    let same : y ≡ x = cc in ap (λ (l : List ℕ). action_line y ++ l) (append-nil (reply_lines_if (Some r))) ∙
+    ap (λ (z : Action). action_line z ++ reply_lines_if (Some r)) same
 acted_more (y ∷ acts) [] (suc i) x e =
     let next : suc i + 1 ≡ suc (i + 1) = omega arith in
     ap (λ (k : ℕ). acted_lines (take k (y ∷ acts)) []) next

@@ -1,5 +1,6 @@
 -- What RS keeps, over the write of one state and of the slots.
-use Rattle.std.proofs.Common.{◌≡◌, ◌≢◌, ℕ, ◌<◌, ◌≤◌, ◌+◌, ◌-◌, ◌^◌, ◌==◌, nat_lt, Bool, true, false, cond, List, [], ◌∷◌, get_or, length, refl, sym, ◌∙◌, ap, subst, inl, inr, ◌⊎◌, lt-ltb, le-ltb, eq-eqb, ne_eqb, arith}
+use Rattle.std.proofs.Common.{◌≡◌, ◌≢◌, ℕ, ◌<◌, ◌≤◌, ◌+◌, ◌-◌, ◌^◌, ◌==◌, nat_lt, Bool, true, false, cond, List, [], ◌∷◌, get_or, length}
+use Rattle.std.proofs.Common.{refl, sym, ◌∙◌, ap, subst, inl, inr, ◌⊎◌, lt-ltb, le-ltb, eq-eqb, ne_eqb, arith}
 use Rattle.std.specs.Prelude.{count_by, ◌↔◌}
 use Rattle.std.proofs.Math.ListN.{set, length-set}
 use Rattle.std.proofs.lemmas.List.{get_or-set_same, get_or-set_other}
@@ -37,7 +38,13 @@ not_taken given key h = ap one (le-ltb key given h)
 -- one more key is taken
 taken_more : (first given key : ℕ) → one ((first + given) == (first + key)) + times_taken given key ≡ times_taken (given + 1) key
 taken_more first given key = elim (cases_eq key given) [
-  | inl same ↦ rw (eq-eqb (first + given) (first + key) (omega (arith, same)), le-ltb key given (omega (arith, same)), lt-ltb key (given + 1) (omega (arith, same))) refl
+  | inl same ↦
+      rw (
+        eq-eqb (first + given) (first + key) (omega (arith, same)),
+        le-ltb key given (omega (arith, same)),
+        lt-ltb key (given + 1)
+            (omega (arith, same)),
+      ) refl
   | inr other ↦ rw (ne_eqb (first + given) (first + key) (omega (arith, other))) (elim (cases_lt key given) [
     | inl low ↦ rw (lt-ltb key given low, lt-ltb key (given + 1) (omega (arith, low))) refl
     | inr high ↦ rw (le-ltb key given high, le-ltb key (given + 1) (omega (arith, high, other))) refl
@@ -91,7 +98,8 @@ rest_not_up GaveUp h = refl
 
 -- a state still holds when more generations were used
 stands : (first next more : ℕ) (state : State) → next ≤ more → IsState first next state → IsState first more state
-stands first next more (Up r) le h = record { valid = h.valid; given = h.given; below = omega (arith, h.below, le); slot = h.slot; failures = h.failures }
+stands first next more (Up r) le h = record
+    { valid = h.valid; given = h.given; below = omega (arith, h.below, le); slot = h.slot; failures = h.failures }
 stands first next more (Waiting p) le h = h
 stands first next more Down le h = tt
 stands first next more GaveUp le h = tt
@@ -101,7 +109,8 @@ stands first next more GaveUp le h = tt
 -- the slots change as its state does
 record Follows (first : ℕ) (freed more : List ℕ) (given now : ℕ) (before after : State) : Type 0 where
   once : (key : ℕ) →
-      times_freed key more + one (is_at first key after) + times_taken given key ≡ times_freed key freed + one (is_at first key before) + times_taken now key
+      times_freed key more + one (is_at first key after) + times_taken given key ≡ times_freed key freed + one (is_at first key before) +
+      times_taken now key
   taken : length more + one (is_up after) + given ≡ length freed + one (is_up before) + now
 
 -- it takes the next slot
@@ -121,7 +130,13 @@ takes_next first (k ∷ freed) given before r rest slot = record {
 gives_back : (first : ℕ) (freed : List ℕ) (given : ℕ) (r : Running) (after : State) → first ≤ r.endpoint.slot → is_up after ≡ false →
     Follows first freed ((r.endpoint.slot - first) ∷ freed) given given (Up r) after
 gives_back first freed given r after high rest = record {
-  once = λ key. rw (not_at first key after rest, same_key first r.endpoint.slot (r.endpoint.slot - first) key (omega (arith, high)), freed_more key (r.endpoint.slot - first) freed) (omega arith);
+  once = λ key.
+      rw (
+        not_at first key after rest,
+        same_key first r.endpoint.slot (r.endpoint.slot - first) key (omega (arith, high)),
+        freed_more key
+            (r.endpoint.slot - first) freed,
+      ) (omega arith);
   taken = rw rest (omega arith);
 }
 
@@ -140,17 +155,20 @@ has_none first freed given before after was is = record {
 
 -- ---- what RS keeps
 
-kept_slots : (old new : SlotsRecord) (states : List State) (at : ℕ) (after : State) → new.first ≡ old.first → SlotsFit old states → at < length states →
+kept_slots : (old new : SlotsRecord) (states : List State) (at : ℕ) (after : State) → new.first ≡ old.first → SlotsFit old states →
+    at < length states →
     Follows old.first old.freed new.freed old.taken new.taken (get_or states at Down) after → new.taken ≤ 64 →
     SlotsFit new (set states at after)
 kept_slots old new states at after same kept within follows few = record {
-  once = λ key. rw same (omega (arith, kept.once key, follows.once key, sum_by-set (λ s. one (is_at old.first key s)) states at after Down within));
+  once = λ key.
+      rw same (omega (arith, kept.once key, follows.once key, sum_by-set (λ s. one (is_at old.first key s)) states at after Down within));
   taken = omega (arith, kept.taken, follows.taken, sum_by-set (λ s. one (is_up s)) states at after Down within);
   few = few;
 }
 
 kept_on : (settings : SettingsRecord) (states : List State) (tick now next more : ℕ) (old new : SlotsRecord) (at : ℕ) (after : State)
-    → new.first ≡ old.first → IsRs settings states tick next old → at < length states → now ≤ 2 ^ 62 → next ≤ more → more ≤ 2097152 → IsState old.first more after
+    → new.first ≡ old.first → IsRs settings states tick next old → at < length states → now ≤ 2 ^ 62 → next ≤ more → more ≤ 2097152 →
+    IsState old.first more after
     → Follows old.first old.freed new.freed old.taken new.taken (get_or states at Down) after → new.taken ≤ 64 → new.taken ≤ settings.slots
     → IsRs settings (set states at after) now more new
 kept_on settings states tick now next more old new at after same kept within worn le spent here follows few own = record {
@@ -166,9 +184,12 @@ kept_on settings states tick now next more old new at after same kept within wor
   high = omega (arith, same, kept.high);
 }
   where
-    by_place : (i : ℕ) → i < length (set states at after) → (i ≡ at) ⊎ (i ≢ at) → IsState old.first more (get_or (set states at after) i Down)
-    by_place i l (inl e) = subst (λ k. IsState old.first more (get_or (set states at after) k Down)) (sym e) (subst (IsState old.first more) (sym (get_or-set_same states at after Down within)) here)
-    by_place i l (inr other) = subst (IsState old.first more) (sym (get_or-set_other states at i after Down other)) (stands old.first next more (get_or states i Down) le (kept.each i (subst (λ n. i < n) (length-set states at after) l)))
+    by_place : (i : ℕ) → i < length (set states at after) → (i ≡ at) ⊎ (i ≢ at) →
+        IsState old.first more (get_or (set states at after) i Down)
+    by_place i l (inl e) = subst (λ k. IsState old.first more (get_or (set states at after) k Down)) (sym e)
+        (subst (IsState old.first more) (sym (get_or-set_same states at after Down within)) here)
+    by_place i l (inr other) = subst (IsState old.first more) (sym (get_or-set_other states at i after Down other))
+        (stands old.first next more (get_or states i Down) le (kept.each i (subst (λ n. i < n) (length-set states at after) l)))
 
 -- ---- what follows of it
 
@@ -194,7 +215,13 @@ next_key_within settings states tick next slots kept =
 -- where a service isn't up, there are fewer that are than services
 pub fewer_up : (states : List State) (at : ℕ) → at < length states → is_up (get_or states at Down) ≡ false → up_count states < length states
 fewer_up states at within rest =
-    omega (arith, was, sum_by-set (λ s. one (is_up s)) states at (Up up) Down within, count_by-le-length is_up (set states at (Up up)), length-set states at (Up up))
+    omega (
+      arith,
+      was,
+      sum_by-set (λ s. one (is_up s)) states at (Up up) Down within,
+      count_by-le-length is_up (set states at (Up up)),
+      length-set states at (Up up),
+    )
   where
     up : Running
     up = record { endpoint = record { generation = 0; slot = 0 }; since = 0; beat = 0; ping = 0; failures = 0 }
@@ -231,7 +258,8 @@ taking_own settings states tick next slots kept free = by slots.freed kept.fit.t
 not_counted : (first key : ℕ) (states : List State) (i : ℕ) → i < length states → count_by (is_at first key) states ≤ 0 →
     IsNotAt first key (get_or states i Down)
 not_counted first key states i l none =
-    apart (get_or states i Down) (is_none (is_at first key (get_or states i Down)) (omega (arith, none, get_or-le-sum_by (λ s. one (is_at first key s)) states i Down l)))
+    apart (get_or states i Down) (is_none (is_at first key (get_or states i Down))
+    (omega (arith, none, get_or-le-sum_by (λ s. one (is_at first key s)) states i Down l)))
   where
     apart : (state : State) → is_at first key state ≡ false → IsNotAt first key state
     apart (Up r) h = λ (e : r.endpoint.slot ≡ first + key). differ (eq-eqb r.endpoint.slot (first + key) e) h
@@ -252,12 +280,14 @@ next_key_free slots states kept i l = not_counted slots.first (next_key slots) s
     by (k ∷ freed) once = omega (arith, once k, at_most_one slots.taken k, freed_itself k freed)
 
 -- no two instances run in one slot
-counted_twice : (first key : ℕ) (states : List State) (i j : ℕ) → i < j → j < length states → is_at first key (get_or states i Down) ≡ true →
+counted_twice : (first key : ℕ) (states : List State) (i j : ℕ) → i < j → j < length states →
+    is_at first key (get_or states i Down) ≡ true →
     is_at first key (get_or states j Down) ≡ true → 2 ≤ count_by (is_at first key) states
 counted_twice first key states i j below l p q =
     let without = set states i Down in
     let here : one (is_at first key (get_or states i Down)) ≡ 1 = ap one p in
-    let second : one (is_at first key (get_or without j Down)) ≡ 1 = ap one (ap (is_at first key) (get_or-set_other states i j Down Down apart) ∙ q) in
+    let second : one (is_at first key (get_or without j Down)) ≡ 1 =
+    ap one (ap (is_at first key) (get_or-set_other states i j Down Down apart) ∙ q) in
     omega (
       arith,
       here,
@@ -281,7 +311,8 @@ two_slots next slots states kept each i j below l = by (get_or states i Down) re
     by (Up r) e (Up q) f = λ (same : r.endpoint.slot ≡ q.endpoint.slot).
         let high : first ≤ r.endpoint.slot = (subst (IsState first next) e (each i (omega (arith, below, l)))).slot in
         let key = r.endpoint.slot - first in
-        let here : is_at first key (get_or states i Down) ≡ true = ap (is_at first key) e ∙ eq-eqb r.endpoint.slot (first + key) (omega (arith, high)) in
+        let here : is_at first key (get_or states i Down) ≡ true =
+        ap (is_at first key) e ∙ eq-eqb r.endpoint.slot (first + key) (omega (arith, high)) in
         let there : is_at first key (get_or states j Down) ≡ true =
         ap (is_at first key) f ∙ eq-eqb q.endpoint.slot (first + key) (omega (arith, high, same)) in
         omega (arith, kept.once key, at_most_one slots.taken key, counted_twice first key states i j below l here there)
@@ -317,28 +348,35 @@ pub kept_by_start : (settings : SettingsRecord) (states : List State) (tick now 
     up_count states < settings.slots → is_up (get_or states at Down) ≡ false → IsRunning slots.first (next + 1) r →
     r.endpoint.slot ≡ slots.first + next_key slots → IsRs settings (set states at (Up r)) now (next + 1) (with_next_taken slots)
 kept_by_start settings states tick now next slots at r kept within worn left free rest here slot =
-    kept_on settings states tick now next (next + 1) slots (with_next_taken slots) at (Up r) (taking_first slots.first slots.freed slots.taken) kept within worn (omega arith) (omega (arith, left)) here
+    kept_on settings states tick now next (next + 1) slots (with_next_taken slots) at (Up r)
+    (taking_first slots.first slots.freed slots.taken) kept within worn (omega arith) (omega (arith, left)) here
     (takes_next slots.first slots.freed slots.taken (get_or states at Down) r rest slot)
     (taking_few settings states tick next slots at kept within rest) (taking_own settings states tick next slots kept free)
 
 -- its instance is stopped
-pub kept_by_stop : (settings : SettingsRecord) (states : List State) (tick now next : ℕ) (slots : SlotsRecord) (at : ℕ) (r : Running) (after : State) → IsRs settings states tick next slots → at < length states → now ≤ 2 ^ 62 →
-    get_or states at Down ≡ Up r → IsAtRest after → IsRs settings (set states at after) now next (with_freed slots (r.endpoint.slot - slots.first))
+pub kept_by_stop : (settings : SettingsRecord) (states : List State) (tick now next : ℕ) (slots : SlotsRecord) (at : ℕ) (r : Running)
+    (after : State) → IsRs settings states tick next slots → at < length states → now ≤ 2 ^ 62 →
+    get_or states at Down ≡ Up r → IsAtRest after →
+    IsRs settings (set states at after) now next (with_freed slots (r.endpoint.slot - slots.first))
 kept_by_stop settings states tick now next slots at r after kept within worn up rest =
     let key = r.endpoint.slot - slots.first in
-    kept_on settings states tick now next next slots (with_freed slots key) at after refl kept within worn (omega arith) kept.spent (at_rest slots.first next after rest)
+    kept_on settings states tick now next next slots (with_freed slots key) at after refl kept within worn (omega arith) kept.spent
+    (at_rest slots.first next after rest)
     (subst (λ (z : State). Follows slots.first slots.freed (key ∷ slots.freed) slots.taken slots.taken z after) (sym up)
-    (gives_back slots.first slots.freed slots.taken r after (up_keeps settings states tick next slots at r kept within up).slot (rest_not_up after rest)))
+    (gives_back slots.first slots.freed slots.taken r after (up_keeps settings states tick next slots at r kept within up).slot
+    (rest_not_up after rest)))
     kept.fit.few kept.own
 
 -- its instance continues, or another one runs in the same slot
-pub kept_by_change : (settings : SettingsRecord) (states : List State) (tick now next more : ℕ) (slots : SlotsRecord) (at : ℕ) (r q : Running) →
+pub kept_by_change : (settings : SettingsRecord) (states : List State) (tick now next more : ℕ) (slots : SlotsRecord) (at : ℕ)
+    (r q : Running) →
     IsRs settings states tick next slots → at < length states → now ≤ 2 ^ 62 → next ≤ more → more ≤ 2097152 →
     get_or states at Down ≡ Up r → IsRunning slots.first more q → r.endpoint.slot ≡ q.endpoint.slot →
     IsRs settings (set states at (Up q)) now more slots
 kept_by_change settings states tick now next more slots at r q kept within worn le spent up here same =
     kept_on settings states tick now next more slots slots at (Up q) refl kept within worn le spent here
-    (subst (λ (z : State). Follows slots.first slots.freed slots.freed slots.taken slots.taken z (Up q)) (sym up) (keeps_slot slots.first slots.freed slots.taken r q same))
+    (subst (λ (z : State). Follows slots.first slots.freed slots.freed slots.taken slots.taken z (Up q)) (sym up)
+    (keeps_slot slots.first slots.freed slots.taken r q same))
     kept.fit.few kept.own
 
 -- a service that isn't up is left so
@@ -346,6 +384,7 @@ pub kept_at_rest : (settings : SettingsRecord) (states : List State) (tick now n
     IsRs settings states tick next slots → at < length states → now ≤ 2 ^ 62 →
     is_up (get_or states at Down) ≡ false → IsAtRest after → IsRs settings (set states at after) now next slots
 kept_at_rest settings states tick now next slots at after kept within worn was rest =
-    kept_on settings states tick now next next slots slots at after refl kept within worn (omega arith) kept.spent (at_rest slots.first next after rest)
+    kept_on settings states tick now next next slots slots at after refl kept within worn (omega arith) kept.spent
+    (at_rest slots.first next after rest)
     (has_none slots.first slots.freed slots.taken (get_or states at Down) after was (rest_not_up after rest))
     kept.fit.few kept.own

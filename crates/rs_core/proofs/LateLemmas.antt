@@ -1,5 +1,6 @@
 -- What a step of RS counts as up, and which instances it refuses.
-use Rattle.std.proofs.Common.{◌≡◌, ◌⊎◌, ◌+◌, ◌-◌, ◌*◌, ◌<◌, ◌≤◌, ◌==◌, ◌&&◌, nat_le, nat_lt, ℕ, zero, suc, Bool, true, false, cond, List, [], ◌∷◌, get_or, length, Option, Some, None, Ok, refl, sym, ap, ◌∙◌, subst, inl, inr, arith}
+use Rattle.std.proofs.Common.{◌≡◌, ◌⊎◌, ◌+◌, ◌-◌, ◌*◌, ◌<◌, ◌≤◌, ◌==◌, ◌&&◌, nat_le, nat_lt, ℕ, zero, suc, Bool, true, false, cond, List}
+use Rattle.std.proofs.Common.{[], ◌∷◌, get_or, length, Option, Some, None, Ok, refl, sym, ap, ◌∙◌, subst, inl, inr, arith}
 use Rattle.std.proofs.lemmas.Bool.{and_left, and_parts, and_right, eqb-true, lt-leb, ltb-true, false≢true, true≢false}
 use Rattle.std.proofs.lemmas.Option.{same_Some, none-some}
 use Rattle.std.proofs.Math.ListN.{set}
@@ -17,7 +18,8 @@ use Rattle.rs_core.specs.declared.state.Running.{Running}
 use Rattle.rs_core.specs.Finding.{first_sought, is_sought, service_place}
 use Rattle.rs_core.specs.Judging.{asks, takes_generation}
 use Rattle.rs_core.specs.Machine.{asked, failed, failures_left, next_after, of_instance, pause, state_after, task}
-use Rattle.rs_core.specs.Late.{endpoint_in_force, in_force, AreSingle, IsUncounted, IsLate, BeatIsNoted, BeatsAreNoted, DeadAreUncounted, HeardAreNotMissed, OtherPlansKeepNext, SingleStays, UncountedStayLate}
+use Rattle.rs_core.specs.Late.{endpoint_in_force, in_force, AreSingle, IsUncounted, IsLate, BeatIsNoted, BeatsAreNoted, DeadAreUncounted}
+use Rattle.rs_core.specs.Late.{HeardAreNotMissed, OtherPlansKeepNext, SingleStays, UncountedStayLate}
 use Rattle.rs_core.specs.Says.{Begun, begun_at, IsNextAfter, RanOrBegan, StepSays}
 use Rattle.rs_core.specs.State.{RsRecord, state_at, service_at}
 use Rattle.rs_core.specs.Step.{IsCarriedOut, RsStep}
@@ -131,7 +133,11 @@ gone_is_late s e tick h =
 
 pub gone_stays : (s t : RsRecord) (actions : List Action) (e : EndpointRecord) → StepSays s actions t → IsUncounted s e → IsUncounted t e
 gone_stays s t actions e h g =
-    record { given = omega (arith, g.given, next_grows s.next t.next h.begun h.next); none = λ k c. by k (counted_before s t actions h k e.generation c) }
+    record {
+      given = omega (arith, g.given, next_grows s.next t.next h.begun h.next);
+      none = λ k c.
+          by k (counted_before s t actions h k e.generation c);
+    }
   where
     by : (k : ℕ) → (in_force (state_at s k) ≡ Some e.generation) ⊎ BeganAs s t h.begun k e.generation → ⊥
     by k (inl c) = g.none k c
@@ -145,7 +151,8 @@ uncounted_stay_late s t (actions ∷ rest) e tick g (m, (event, at, step), run) 
 -- ---- a death
 -- The service that is found by an endpoint runs under it.
 found_runs : (e : EndpointRecord) (i : ℕ) (services : List Service) (states : List State) (j : ℕ) →
-    first_sought (sought.Instance e) i services states ≡ Some j → (k : ℕ) × (j ≡ i + k) × (in_force (get_or states k Down) ≡ Some e.generation)
+    first_sought (sought.Instance e) i services states ≡ Some j →
+    (k : ℕ) × (j ≡ i + k) × (in_force (get_or states k Down) ≡ Some e.generation)
 found_runs e i [] states j f = absurd (none-some j f)
 found_runs e i (service ∷ services) [] j f = absurd (none-some j f)
 found_runs e i (service ∷ services) (st ∷ states) j f =
@@ -186,7 +193,8 @@ failed_not_counted limit tick k g = by (nat_lt limit k)
     by true c = none-some g c
     by false c = none-some g c
 
-death_ends : (s : RsRecord) (tick cause : ℕ) (service : Service) (r : Running) (g : ℕ) → in_force (state_after s tick service (Up r) (on_death cause)) ≡ Some g → g ≡ s.next
+death_ends : (s : RsRecord) (tick cause : ℕ) (service : Service) (r : Running) (g : ℕ) → in_force
+    (state_after s tick service (Up r) (on_death cause)) ≡ Some g → g ≡ s.next
 death_ends s tick cause service r g = by (cause == 6)
   where
     by : (b : Bool) → in_force (state_after s tick service (Up r) (cond b Replace (Lose (nat_le 4 cause)))) ≡ Some g → g ≡ s.next
@@ -221,7 +229,8 @@ step_single s t actions h a =
     both : (j k : ℕ) (e f : EndpointRecord) → h.begun ≡ Some (begun_at j e) → h.begun ≡ Some (begun_at k f) → j ≡ k
     both j k e f x y = ap (λ (b : Begun). b.place) (same_Some (begun_at j e) (begun_at k f) (sym x ∙ y))
 
-    is_single : (j k g : ℕ) → (in_force (state_at s j) ≡ Some g) ⊎ BeganAs s t h.begun j g → (in_force (state_at s k) ≡ Some g) ⊎ BeganAs s t h.begun k g → j ≡ k
+    is_single : (j k g : ℕ) → (in_force (state_at s j) ≡ Some g) ⊎ BeganAs s t h.begun j g →
+        (in_force (state_at s k) ≡ Some g) ⊎ BeganAs s t h.begun k g → j ≡ k
     is_single j k g (inl c) (inl d) = a.single j k g c d
     is_single j k g (inl c) (inr y) = let b = a.below j g c in absurd (omega (arith, b, y.2))
     is_single j k g (inr x) (inl d) = let b = a.below k g d in absurd (omega (arith, b, x.2))
@@ -233,7 +242,11 @@ single_stays s t event tick actions step a = step_single s t actions (steps_say 
 death_is_final : (s t : RsRecord) (k cause tick : ℕ) (actions : List Action) (r : Running) → AreSingle s → state_at s k ≡ Up r →
     RsStep s (Death r.endpoint cause) tick actions t → IsUncounted t r.endpoint
 death_is_final s t k cause tick actions r a up (p, free, is, h) =
-    record { given = omega (arith, a.below k g here, next_grows s.next t.next says.begun says.next); none = λ j c. by j c (counted_before s t actions says j g c) }
+    record {
+      given = omega (arith, a.below k g here, next_grows s.next t.next says.begun says.next);
+      none = λ j c.
+          by j c (counted_before s t actions says j g c);
+    }
   where
     g : ℕ
     g = r.endpoint.generation
@@ -267,11 +280,13 @@ death_is_final s t k cause tick actions r a up (p, free, is, h) =
 
     ended : in_force (state_at t k) ≡ Some r.endpoint.generation → r.endpoint.generation ≡ s.next
     ended c =
-        let c1 : in_force (state_at t called.0) ≡ Some r.endpoint.generation = subst (λ (x : ℕ). in_force (state_at t x) ≡ Some r.endpoint.generation) (sym place) c in
+        let c1 : in_force (state_at t called.0) ≡ Some r.endpoint.generation =
+        subst (λ (x : ℕ). in_force (state_at t x) ≡ Some r.endpoint.generation) (sym place) c in
         let c2 : in_force after ≡ Some r.endpoint.generation = ap in_force (sym now_there) ∙ c1 in
         let was : state_at s called.0 ≡ Up r = ap (λ (x : ℕ). state_at s x) place ∙ up in
         death_ends s tick cause (service_at s called.0) r r.endpoint.generation
-        (subst (λ (z : State). in_force (state_after s tick (service_at s called.0) z (on_death cause)) ≡ Some r.endpoint.generation) was c2)
+        (subst (λ (z : State). in_force (state_after s tick (service_at s called.0) z (on_death cause)) ≡ Some r.endpoint.generation) was
+        c2)
 
     by : (j : ℕ) → in_force (state_at t j) ≡ Some r.endpoint.generation →
         (in_force (state_at s j) ≡ Some r.endpoint.generation) ⊎ BeganAs s t says.begun j r.endpoint.generation → ⊥
@@ -291,10 +306,12 @@ pub dead_are_uncounted : DeadAreUncounted
 dead_are_uncounted s t k cause tick actions e a up step =
     let u = endpoint_up (state_at s k) e up in
     subst (λ (x : EndpointRecord). IsUncounted t x) u.2
-    (death_is_final s t k cause tick actions u.0 a u.1 (subst (λ (x : EndpointRecord). RsStep s (Death x cause) tick actions t) (sym u.2) step))
+    (death_is_final s t k cause tick actions u.0 a u.1
+    (subst (λ (x : EndpointRecord). RsStep s (Death x cause) tick actions t) (sym u.2) step))
 
 -- ---- a heartbeat
-hear_same : (s : RsRecord) (tick : ℕ) (service : Service) (st : State) → endpoint_in_force (state_after s tick service st Hear) ≡ endpoint_in_force st
+hear_same : (s : RsRecord) (tick : ℕ) (service : Service) (st : State) →
+    endpoint_in_force (state_after s tick service st Hear) ≡ endpoint_in_force st
 hear_same s tick service Down = refl
 hear_same s tick service (Up r) = refl
 hear_same s tick service (Waiting p) = refl
@@ -309,7 +326,12 @@ hear_next s GaveUp = refl
 beat_is_noted : (s t : RsRecord) (k tick : ℕ) (actions : List Action) (r : Running) → AreSingle s → state_at s k ≡ Up r →
     RsStep s (Beat r.endpoint) tick actions t → BeatIsNoted s t k tick r.endpoint
 beat_is_noted s t k tick actions r a up (p, free, is, h) =
-    record { heard = (record r { beat = tick }, now_here, refl, refl); same = λ j. by j (written s.states called.0 j after); next = ap (λ (z : RsRecord). z.next) done.after ∙ hear_next s (state_at s called.0) }
+    record {
+      heard = (record r { beat = tick }, now_here, refl, refl);
+      same = λ j. by j (written s.states called.0 j after);
+      next =
+          ap (λ (z : RsRecord). z.next) done.after ∙ hear_next s (state_at s called.0);
+    }
   where
     here : in_force (state_at s k) ≡ Some r.endpoint.generation
     here = up_counted (state_at s k) r up
@@ -343,7 +365,8 @@ beat_is_noted s t k tick actions r a up (p, free, is, h) =
     now_here : state_at t k ≡ Up (record r { beat = tick })
     now_here = subst (λ (x : ℕ). state_at t x ≡ Up (record r { beat = tick })) place now_there
 
-    by : (j : ℕ) → (get_or (set s.states called.0 after) j Down ≡ get_or s.states j Down) ⊎ ((j ≡ called.0) × (get_or (set s.states called.0 after) j Down ≡ after)) →
+    by : (j : ℕ) → (get_or (set s.states called.0 after) j Down ≡ get_or s.states j Down) ⊎
+        ((j ≡ called.0) × (get_or (set s.states called.0 after) j Down ≡ after)) →
         endpoint_in_force (state_at t j) ≡ endpoint_in_force (state_at s j)
     by j (inl same) = ap (λ (z : RsRecord). endpoint_in_force (state_at z j)) done.after ∙ ap endpoint_in_force same
     by j (inr it) =
@@ -364,4 +387,5 @@ heard_are_not_missed service r tick e = by (nat_lt 0 service.period) refl
 
     by : (b : Bool) → nat_lt 0 service.period ≡ b → nat_lt 0 service.period && nat_le (2 * service.period) (tick - r.beat) ≡ false
     by false h = and_left (nat_lt 0 service.period) (nat_le (2 * service.period) (tick - r.beat)) h
-    by true h = and_right (nat_lt 0 service.period) (nat_le (2 * service.period) (tick - r.beat)) (lt-leb (2 * service.period) (tick - r.beat) (late (ltb-true 0 service.period h)))
+    by true h = and_right (nat_lt 0 service.period) (nat_le (2 * service.period) (tick - r.beat))
+        (lt-leb (2 * service.period) (tick - r.beat) (late (ltb-true 0 service.period h)))

@@ -1,5 +1,6 @@
 -- What is due, what a tick does then, and which service a step gives up.
-use Rattle.std.proofs.Common.{◌≡◌, ◌≢◌, ℕ, zero, suc, ◌+◌, ◌-◌, ◌*◌, ◌≤◌, ◌<◌, nat_lt, nat_le, Bool, true, false, ◌&&◌, cond, List, [], ◌∷◌, length, get_or, drop, Option, Some, None, Ok, Result}
+use Rattle.std.proofs.Common.{◌≡◌, ◌≢◌, ℕ, zero, suc, ◌+◌, ◌-◌, ◌*◌, ◌≤◌, ◌<◌, nat_lt, nat_le, Bool, true, false, ◌&&◌, cond, List, [], ◌∷◌}
+use Rattle.std.proofs.Common.{length, get_or, drop, Option, Some, None, Ok, Result}
 use Rattle.std.proofs.Common.{refl, sym, ap, ◌∙◌, subst, arith, inl, inr, ◌⊎◌}
 use Rattle.std.specs.Prelude.{◌||◌, is_some, option_map}
 use Rattle.std.specs.List.{slice_get}
@@ -59,8 +60,10 @@ any_due-step tick i ss ts service state h k at here =
     let s : get_or ss i service ≡ service = get_or_from_slice_get ss i service service at in
     rw (drop_more ss i service h, drop_more ts i state k, s, ← here) refl
 
-pub any_due-end : (tick i : ℕ) (ss : List Service) (ts : List State) → length ss ≤ i → length ts ≤ i → any_due tick (drop i ss) (drop i ts) ≡ false
-any_due-end tick i ss ts h k = ap (λ (l : List Service). any_due tick l (drop i ts)) (drop_all i ss h) ∙ ap (λ (l : List State). any_due tick [] l) (drop_all i ts k)
+pub any_due-end : (tick i : ℕ) (ss : List Service) (ts : List State) → length ss ≤ i → length ts ≤ i →
+    any_due tick (drop i ss) (drop i ts) ≡ false
+any_due-end tick i ss ts h k = ap (λ (l : List Service). any_due tick l (drop i ts)) (drop_all i ss h) ∙
+    ap (λ (l : List State). any_due tick [] l) (drop_all i ts k)
 
 -- ---- what is due
 
@@ -84,7 +87,8 @@ found_first what i s ss t ts = by (is_sought what s t) refl
     by false q = rw q refl
 
 found_due : (tick i : ℕ) (ss : List Service) (ts : List State)
-    → (is_found (sought.Missed tick) i ss ts || (is_found (sought.Silent tick) i ss ts || is_found (sought.Rested tick) i ss ts)) ≡ any_due tick ss ts
+    → (is_found (sought.Missed tick) i ss ts || (is_found (sought.Silent tick) i ss ts || is_found (sought.Rested tick) i ss ts)) ≡ any_due
+    tick ss ts
 found_due tick i [] ts = refl
 found_due tick i (s ∷ ss) [] = refl
 found_due tick i (s ∷ ss) (t ∷ ts) =
@@ -94,14 +98,20 @@ found_due tick i (s ∷ ss) (t ∷ ts) =
     let mm = is_found (sought.Missed tick) (i + 1) ss ts in
     let nn = is_found (sought.Silent tick) (i + 1) ss ts in
     let oo = is_found (sought.Rested tick) (i + 1) ss ts in
-    rw (found_first (sought.Missed tick) i s ss t ts, found_first (sought.Silent tick) i s ss t ts, found_first (sought.Rested tick) i s ss t ts)
+    rw (
+      found_first (sought.Missed tick) i s ss t ts,
+      found_first (sought.Silent tick) i s ss t ts,
+      found_first (sought.Rested tick) i s ss
+          t ts,
+    )
     (ap (λ (b : Bool). (m || mm) || b) (or_swap n nn o oo)
     ∙ or_swap m mm (n || o) (nn || oo)
     ∙ ap (λ (b : Bool). (m || (n || o)) || b) (found_due tick (i + 1) ss ts))
 
 pub due_is_any : (s : RsRecord) (tick : ℕ) → is_some (due s tick) ≡ any_due tick s.settings.services s.states
 due_is_any s tick =
-    some_of_three (task (Lose true)) (task Ping) (task Resume) (service_place s (sought.Missed tick)) (service_place s (sought.Silent tick)) (service_place s (sought.Rested tick))
+    some_of_three (task (Lose true)) (task Ping) (task Resume) (service_place s (sought.Missed tick))
+    (service_place s (sought.Silent tick)) (service_place s (sought.Rested tick))
     ∙ found_due tick 0 s.settings.services s.states
 
 -- ---- what a tick does
@@ -116,7 +126,8 @@ found_at what k (x ∷ xs) (y ∷ ys) i e = by (is_sought what x y) refl e (foun
     some m n q = cc
 
     by : (b : Bool) → is_sought what x y ≡ b → cond b (Some k) (first_sought what (k + 1) xs ys) ≡ Some i
-        → (first_sought what (k + 1) xs ys ≡ Some i → (j : ℕ) × (i ≡ k + 1 + j) × (is_sought what (get_or xs j no_service) (get_or ys j Down) ≡ true))
+        → (first_sought what (k + 1) xs ys ≡ Some i →
+        (j : ℕ) × (i ≡ k + 1 + j) × (is_sought what (get_or xs j no_service) (get_or ys j Down) ≡ true))
         → (j : ℕ) × (i ≡ k + j) × (is_sought what (get_or (x ∷ xs) j no_service) (get_or (y ∷ ys) j Down) ≡ true)
     by true q h rest = (0, (let n : k ≡ i = some k i h in omega arith), q)
     by false q h rest = let r = rest h in (suc r.0, (let n : i ≡ k + 1 + r.0 = r.1 in omega arith), r.2)
@@ -160,12 +171,14 @@ cons_not x xs = λ e. let n : x ∷ xs ≡ [] = e in cc
 
 lose_acts : (s : RsRecord) (tick place : ℕ) → service_place s (sought.Missed tick) ≡ Some place → ActsAt s place (Lose true)
 lose_acts s tick place e =
-    let is = runs_also (nat_lt 0 (service_at s place).period) (λ r. nat_le (2 * (service_at s place).period) (tick - r.beat)) (state_at s place) (is_there s (sought.Missed tick) place e) in
+    let is = runs_also (nat_lt 0 (service_at s place).period) (λ r. nat_le (2 * (service_at s place).period) (tick - r.beat))
+    (state_at s place) (is_there s (sought.Missed tick) place e) in
     subst (λ (z : State). actions_of s (service_at s place) z (Lose true) ≢ []) (sym is.1) (cons_not _ _)
 
 ping_acts : (s : RsRecord) (tick place : ℕ) → service_place s (sought.Silent tick) ≡ Some place → ActsAt s place Ping
 ping_acts s tick place e =
-    let is = runs_also (nat_lt 0 (service_at s place).period) (λ r. nat_le (service_at s place).period (tick - r.ping)) (state_at s place) (is_there s (sought.Silent tick) place e) in
+    let is = runs_also (nat_lt 0 (service_at s place).period) (λ r. nat_le (service_at s place).period (tick - r.ping)) (state_at s place)
+    (is_there s (sought.Silent tick) place e) in
     subst (λ (z : State). actions_of s (service_at s place) z Ping ≢ []) (sym is.1) (cons_not _ _)
 
 start_acts : (s : RsRecord) (tick place : ℕ) → service_place s (sought.Rested tick) ≡ Some place → ActsAt s place Resume
@@ -177,13 +190,16 @@ pub same_task : (p q : Task) → Some p ≡ Some q → p ≡ q
 same_task p q e = cc
 
 due_acts : (s : RsRecord) (tick : ℕ) (p : Task) → due s tick ≡ Some p → ActsAt s p.place p.deed
-due_acts s tick p e = by (service_place s (sought.Missed tick)) refl (service_place s (sought.Silent tick)) refl (service_place s (sought.Rested tick)) refl e
+due_acts s tick p e = by (service_place s (sought.Missed tick)) refl (service_place s (sought.Silent tick)) refl
+    (service_place s (sought.Rested tick)) refl e
   where
     one : (deed : Deed) (place : ℕ) → Some (task deed place) ≡ Some p → ActsAt s place deed → ActsAt s p.place p.deed
     one deed place q acts = subst (λ (z : Task). ActsAt s z.place z.deed) (same_task (task deed place) p q) acts
 
-    by : (m : Option ℕ) → service_place s (sought.Missed tick) ≡ m → (n : Option ℕ) → service_place s (sought.Silent tick) ≡ n → (o : Option ℕ) → service_place s (sought.Rested tick) ≡ o
-        → option_or (option_map (task (Lose true)) m) (option_or (option_map (task Ping) n) (option_map (task Resume) o)) ≡ Some p → ActsAt s p.place p.deed
+    by : (m : Option ℕ) → service_place s (sought.Missed tick) ≡ m → (n : Option ℕ) → service_place s (sought.Silent tick) ≡ n →
+        (o : Option ℕ) → service_place s (sought.Rested tick) ≡ o
+        → option_or (option_map (task (Lose true)) m) (option_or (option_map (task Ping) n) (option_map (task Resume) o)) ≡ Some p →
+        ActsAt s p.place p.deed
     by (Some i) f n g o h q = one (Lose true) i q (lose_acts s tick i f)
     by None f (Some i) g o h q = one Ping i q (ping_acts s tick i g)
     by None f None g (Some i) h q = one Resume i q (start_acts s tick i h)
@@ -216,7 +232,8 @@ gave_up_failed limit tick k e = by (nat_lt limit k) refl _ e
     by false q p f = absurd (let n : Waiting p ≡ GaveUp = f in cc)
 
 -- a state after a deed in which the service is given up was one before, or the deed gives it up
-gives_up_then : (s : RsRecord) (tick : ℕ) (service : Service) (state : State) (deed : Deed) → state_after s tick service state deed ≡ GaveUp → (state ≡ GaveUp) ⊎ (gives_up tick deed service state ≡ true)
+gives_up_then : (s : RsRecord) (tick : ℕ) (service : Service) (state : State) (deed : Deed) →
+    state_after s tick service state deed ≡ GaveUp → (state ≡ GaveUp) ⊎ (gives_up tick deed service state ≡ true)
 gives_up_then s tick service GaveUp deed e = inl refl
 gives_up_then s tick service Down Begin e = absurd (let n : Up _ ≡ GaveUp = e in cc)
 gives_up_then s tick service Down deed e = absurd (let n : Down ≡ GaveUp = e in cc)
@@ -231,8 +248,10 @@ gives_up_then s tick service (Up r) Halt e = absurd (let n : Down ≡ GaveUp = e
 gives_up_then s tick service (Up r) deed e = absurd (let n : Up r ≡ GaveUp = e in cc)
 
 -- the deed gives up a service whose instance runs
-gives_up_now : (s : RsRecord) (tick : ℕ) (service : Service) (state : State) (deed : Deed) → gives_up tick deed service state ≡ true → Runs state × (state_after s tick service state deed ≡ GaveUp)
-gives_up_now s tick service (Up r) (Lose kill) e = ((r, refl), failed_gives_up service.limit tick (failures_left service.forget tick r + 1) e)
+gives_up_now : (s : RsRecord) (tick : ℕ) (service : Service) (state : State) (deed : Deed) → gives_up tick deed service state ≡ true →
+    Runs state × (state_after s tick service state deed ≡ GaveUp)
+gives_up_now s tick service (Up r) (Lose kill) e =
+    ((r, refl), failed_gives_up service.limit tick (failures_left service.forget tick r + 1) e)
 gives_up_now s tick service Down (Lose kill) e = false_true e
 gives_up_now s tick service (Waiting p) (Lose kill) e = false_true e
 gives_up_now s tick service GaveUp (Lose kill) e = false_true e
@@ -253,7 +272,11 @@ up_not_given_up : (r : Running) (state : State) → state ≡ Up r → state ≢
 up_not_given_up r state e = λ f. absurd (let n : Up r ≡ GaveUp = sym e ∙ f in cc)
 
 pub steps_give_up : StepsGiveUp
-steps_give_up s t event tick actions (None, free, is, h) i = (λ e. absurd (let n : None ≡ Some i = sym (ap (given_up_in s tick) is) ∙ e in cc), λ gone. absurd (gone.1 (sym (ap (λ (z : RsRecord). state_at z i) h.after) ∙ gone.0)))
+steps_give_up s t event tick actions (None, free, is, h) i = (
+  λ e. absurd (let n : None ≡ Some i = sym (ap (given_up_in s tick) is) ∙ e in cc),
+  λ gone.
+      absurd (gone.1 (sym (ap (λ (z : RsRecord). state_at z i) h.after) ∙ gone.0)),
+)
 steps_give_up s t event tick actions (Some p, free, is, h) i = (onward, back)
   where
     service : Service
@@ -268,7 +291,8 @@ steps_give_up s t event tick actions (Some p, free, is, h) i = (onward, back)
     given : given_up s event tick ≡ cond (gives_up tick p.deed service (state_at s p.place)) (Some p.place) None
     given = ap (given_up_in s tick) is
 
-    tested : (b : Bool) → gives_up tick p.deed service (state_at s p.place) ≡ b → cond b (Some p.place) None ≡ Some i → (p.place ≡ i) × (gives_up tick p.deed service (state_at s p.place) ≡ true)
+    tested : (b : Bool) → gives_up tick p.deed service (state_at s p.place) ≡ b → cond b (Some p.place) None ≡ Some i →
+        (p.place ≡ i) × (gives_up tick p.deed service (state_at s p.place) ≡ true)
     tested true q e = (same_Some p.place i e, q)
     tested false q e = absurd (let n : None ≡ Some i = e in cc)
 
@@ -278,7 +302,8 @@ steps_give_up s t event tick actions (Some p, free, is, h) i = (onward, back)
         let now = gives_up_now s tick service (state_at s p.place) p.deed test.1 in
         let within = runs_within s.states p.place now.0.0 now.0.1 in
         let gone : state_at t p.place ≡ GaveUp = then_at p.place ∙ get_or-set_same s.states p.place after Down within ∙ now.1 in
-        subst (λ (k : ℕ). (state_at t k ≡ GaveUp) × (state_at s k ≢ GaveUp)) test.0 (gone, up_not_given_up now.0.0 (state_at s p.place) now.0.1)
+        subst (λ (k : ℕ). (state_at t k ≡ GaveUp) × (state_at s k ≢ GaveUp)) test.0
+        (gone, up_not_given_up now.0.0 (state_at s p.place) now.0.1)
 
     back : (state_at t i ≡ GaveUp) × (state_at s i ≢ GaveUp) → given_up s event tick ≡ Some i
     back gone = elim (written s.states p.place i after) [
@@ -286,6 +311,7 @@ steps_give_up s t event tick actions (Some p, free, is, h) i = (onward, back)
       | inr here ↦ by here.0 (gives_up_then s tick service (state_at s p.place) p.deed (sym here.1 ∙ sym (then_at i) ∙ gone.0))
     ]
       where
-        by : i ≡ p.place → (state_at s p.place ≡ GaveUp) ⊎ (gives_up tick p.deed service (state_at s p.place) ≡ true) → given_up s event tick ≡ Some i
+        by : i ≡ p.place → (state_at s p.place ≡ GaveUp) ⊎ (gives_up tick p.deed service (state_at s p.place) ≡ true) →
+            given_up s event tick ≡ Some i
         by e (inl was) = absurd (gone.1 (ap (state_at s) e ∙ was))
         by e (inr does) = given ∙ ap (λ (b : Bool). cond b (Some p.place) None) does ∙ ap (λ (k : ℕ). Some k) (sym e)

@@ -1,5 +1,6 @@
 -- A tick that is reported until RS has no action settles: each report serves one service, for which nothing is due then.
-use Rattle.std.proofs.Common.{◌≡◌, ◌≢◌, ℕ, zero, suc, ◌+◌, ◌-◌, ◌*◌, ◌^◌, ◌≤◌, ◌<◌, nat_lt, nat_le, Bool, true, false, ◌&&◌, cond, List, [], ◌∷◌, ◌++◌, length, get_or, Option, Some, None, Ok}
+use Rattle.std.proofs.Common.{◌≡◌, ◌≢◌, ℕ, zero, suc, ◌+◌, ◌-◌, ◌*◌, ◌^◌, ◌≤◌, ◌<◌, nat_lt, nat_le, Bool, true, false, ◌&&◌, cond, List, []}
+use Rattle.std.proofs.Common.{◌∷◌, ◌++◌, length, get_or, Option, Some, None, Ok}
 use Rattle.std.proofs.Common.{refl, sym, ap, ◌∙◌, subst, arith, inl, inr, ◌⊎◌}
 use Rattle.std.specs.Prelude.{◌||◌, is_some, option_map}
 use Rattle.std.specs.Option.{option_or}
@@ -26,11 +27,13 @@ use Rattle.rs_core.specs.State.{RsRecord, rs_of, state_at, service_at, no_servic
 use Rattle.rs_core.specs.Judging.{asks, takes_generation, takes_slot, is_full, refusal}
 use Rattle.rs_core.specs.Slots.{SlotsRecord}
 use Rattle.rs_core.specs.Finding.{is_sought, first_sought, service_place}
-use Rattle.rs_core.specs.Machine.{asked, due, failed, failures_left, new_endpoint, pause, task, started_at, state_after, actions_of, next_after, slots_after}
+use Rattle.rs_core.specs.Machine.{asked, due, failed, failures_left, new_endpoint, pause, task, started_at, state_after, actions_of}
+use Rattle.rs_core.specs.Machine.{next_after, slots_after}
 use Rattle.rs_core.specs.Reading.{is_due, any_due}
 use Rattle.rs_core.specs.Run.{AreRising, starts}
 use Rattle.rs_core.specs.Step.{RsStep, done_to}
-use Rattle.rs_core.specs.Settling.{Ticks, AllAct, ReportsSettle, service_count, due_count, start_count, IsStarted, TicksSettle, TicksCanSettle}
+use Rattle.rs_core.specs.Settling.{Ticks, AllAct, ReportsSettle, service_count, due_count, start_count, IsStarted, TicksSettle}
+use Rattle.rs_core.specs.Settling.{TicksCanSettle}
 use Rattle.rs_core.specs.Settling.{PausesAreShort, ServicesRecover}
 use Rattle.rs_core.proofs.KeptLemmas.{fewer_up}
 use Rattle.rs_core.proofs.ReadingLemmas.{false_true, due_is_any, ticks_act, same_asked, runs_also, waits_when, same_task}
@@ -62,7 +65,8 @@ pause_some k = let e : 0 < 2 ^ (k - 1) = pow_pos (k - 1) in (omega (arith, e), o
 
 -- ---- what isn't due after a deed
 
-resting : (tick : ℕ) (service : Service) (b : Bool) → b ≡ false → ((nat_lt 0 service.period && false) || ((nat_lt 0 service.period && false) || b)) ≡ false
+resting : (tick : ℕ) (service : Service) (b : Bool) → b ≡ false →
+    ((nat_lt 0 service.period && false) || ((nat_lt 0 service.period && false) || b)) ≡ false
 resting tick service b e = three_false _ _ b (and_false (nat_lt 0 service.period)) (and_false (nat_lt 0 service.period)) e
 
 pub down_quiet : (tick : ℕ) (service : Service) → is_due tick service Down ≡ false
@@ -74,7 +78,8 @@ gave_up_quiet tick service = resting tick service false refl
 waiting_quiet : (tick : ℕ) (service : Service) (p : Pause) → tick < p.until → is_due tick service (Waiting p) ≡ false
 waiting_quiet tick service p later = resting tick service (nat_le p.until tick) (lt-leb p.until tick later)
 
-started_quiet : (tick : ℕ) (service : Service) (e : EndpointRecord) (failures : ℕ) → is_due tick service (started_at e tick service.startup failures) ≡ false
+started_quiet : (tick : ℕ) (service : Service) (e : EndpointRecord) (failures : ℕ) →
+    is_due tick service (started_at e tick service.startup failures) ≡ false
 started_quiet tick service e failures = three_false _ _ false
     (in_time service.period (2 * service.period) (tick - (tick + service.startup)) (λ some. omega (arith, some)))
     (in_time service.period service.period (tick - tick) (λ some. omega (arith, some)))
@@ -82,7 +87,8 @@ started_quiet tick service e failures = three_false _ _ false
 
 pinged_quiet : (tick : ℕ) (service : Service) (r : Running) → is_sought (sought.Missed tick) service (Up r) ≡ false
     → is_due tick service (Up (record r { ping = tick })) ≡ false
-pinged_quiet tick service r e = three_false _ _ false e (in_time service.period service.period (tick - tick) (λ some. omega (arith, some))) refl
+pinged_quiet tick service r e = three_false _ _ false e (in_time service.period service.period (tick - tick) (λ some. omega (arith, some)))
+    refl
 
 failed_quiet : (tick limit k : ℕ) (service : Service) → is_due tick service (failed limit tick k) ≡ false
 failed_quiet tick limit k service = by (nat_lt limit k)
@@ -96,8 +102,10 @@ failed_quiet tick limit k service = by (nat_lt limit k)
 
 -- ---- the search
 
-found_within : (what : Sought) (k : ℕ) (services : List Service) (states : List State) (i : ℕ) → first_sought what k services states ≡ Some i
-    → (j : ℕ) × (i ≡ k + j) × (j < length services) × (j < length states) × (is_sought what (get_or services j no_service) (get_or states j Down) ≡ true)
+found_within : (what : Sought) (k : ℕ) (services : List Service) (states : List State) (i : ℕ) →
+    first_sought what k services states ≡ Some i
+    → (j : ℕ) × (i ≡ k + j) × (j < length services) × (j < length states) ×
+    (is_sought what (get_or services j no_service) (get_or states j Down) ≡ true)
 found_within what k [] states i e = absurd (let n : None ≡ Some i = e in cc)
 found_within what k (x ∷ xs) [] i e = absurd (let n : None ≡ Some i = e in cc)
 found_within what k (x ∷ xs) (y ∷ ys) i e = by (is_sought what x y) refl e (found_within what (k + 1) xs ys i)
@@ -106,10 +114,13 @@ found_within what k (x ∷ xs) (y ∷ ys) i e = by (is_sought what x y) refl e (
     some m n q = cc
 
     by : (b : Bool) → is_sought what x y ≡ b → cond b (Some k) (first_sought what (k + 1) xs ys) ≡ Some i
-        → (first_sought what (k + 1) xs ys ≡ Some i → (j : ℕ) × (i ≡ k + 1 + j) × (j < length xs) × (j < length ys) × (is_sought what (get_or xs j no_service) (get_or ys j Down) ≡ true))
-        → (j : ℕ) × (i ≡ k + j) × (j < suc (length xs)) × (j < suc (length ys)) × (is_sought what (get_or (x ∷ xs) j no_service) (get_or (y ∷ ys) j Down) ≡ true)
+        → (first_sought what (k + 1) xs ys ≡ Some i →
+        (j : ℕ) × (i ≡ k + 1 + j) × (j < length xs) × (j < length ys) × (is_sought what (get_or xs j no_service) (get_or ys j Down) ≡ true))
+        → (j : ℕ) × (i ≡ k + j) × (j < suc (length xs)) × (j < suc (length ys)) ×
+        (is_sought what (get_or (x ∷ xs) j no_service) (get_or (y ∷ ys) j Down) ≡ true)
     by true q h rest = (0, (let n : k ≡ i = some k i h in omega arith), omega arith, omega arith, q)
-    by false q h rest = let r = rest h in (suc r.0, (let n : i ≡ k + 1 + r.0 = r.1 in omega arith), omega (arith, r.2), omega (arith, r.3), r.4)
+    by false q h rest = let r = rest h in
+        (suc r.0, (let n : i ≡ k + 1 + r.0 = r.1 in omega arith), omega (arith, r.2), omega (arith, r.3), r.4)
 
 none_found : (what : Sought) (k : ℕ) (services : List Service) (states : List State) → first_sought what k services states ≡ None
     → (j : ℕ) → j < length services → j < length states → is_sought what (get_or services j no_service) (get_or states j Down) ≡ false
@@ -119,7 +130,8 @@ none_found what k (x ∷ xs) (y ∷ ys) e j h l = by (is_sought what x y) refl e
   where
     by : (b : Bool) → is_sought what x y ≡ b → cond b (Some k) (first_sought what (k + 1) xs ys) ≡ None
         → (j : ℕ) → j < suc (length xs) → j < suc (length ys)
-        → (first_sought what (k + 1) xs ys ≡ None → (i : ℕ) → i < length xs → i < length ys → is_sought what (get_or xs i no_service) (get_or ys i Down) ≡ false)
+        → (first_sought what (k + 1) xs ys ≡ None → (i : ℕ) → i < length xs → i < length ys →
+        is_sought what (get_or xs i no_service) (get_or ys i Down) ≡ false)
         → is_sought what (get_or (x ∷ xs) j no_service) (get_or (y ∷ ys) j Down) ≡ false
     by true q f j m n rest = absurd (let some : Some k ≡ None = f in cc)
     by false q f zero m n rest = q
@@ -139,7 +151,8 @@ found s what i e =
 
 -- ---- what is due for none
 
-none_due : (tick : ℕ) (ss : List Service) (ts : List State) → any_due tick ss ts ≡ false → (i : ℕ) → i < length ss → is_due tick (get_or ss i no_service) (get_or ts i Down) ≡ false
+none_due : (tick : ℕ) (ss : List Service) (ts : List State) → any_due tick ss ts ≡ false → (i : ℕ) → i < length ss →
+    is_due tick (get_or ss i no_service) (get_or ts i Down) ≡ false
 none_due tick [] ts e i h = absurd (omega (arith, h))
 none_due tick (s ∷ ss) [] e i h = down_quiet tick (get_or (s ∷ ss) i no_service)
 none_due tick (s ∷ ss) (t ∷ ts) e zero h = (or_parts (is_due tick s t) (any_due tick ss ts) e).0
@@ -169,7 +182,8 @@ count_none tick test less (s ∷ ss) (t ∷ ts) e =
     rw (less s t parts.0, rest) refl
 
 count_set : (test : Service → State → Bool) (ss : List Service) (ts : List State) (i : ℕ) (x : State) → i < length ss → i < length ts
-    → service_count test (ss) (set ts i x) + one (test (get_or ss i no_service) (get_or ts i Down)) ≡ service_count test ss ts + one (test (get_or ss i no_service) x)
+    → service_count test (ss) (set ts i x) + one (test (get_or ss i no_service) (get_or ts i Down)) ≡ service_count test ss ts + one
+    (test (get_or ss i no_service) x)
 count_set test [] ts i x h l = absurd (omega (arith, h))
 count_set test (s ∷ ss) [] i x h l = absurd (omega (arith, l))
 count_set test (s ∷ ss) (t ∷ ts) zero x h l =
@@ -185,7 +199,8 @@ count_set test (s ∷ ss) (t ∷ ts) (suc i) x h l =
 
 rested_less : (tick : ℕ) (s : Service) (t : State) → is_due tick s t ≡ false → is_sought (sought.Rested tick) s t ≡ false
 rested_less tick s t e =
-    let first = or_parts (is_sought (sought.Missed tick) s t) (is_sought (sought.Silent tick) s t || is_sought (sought.Rested tick) s t) e in
+    let first = or_parts (is_sought (sought.Missed tick) s t) (is_sought (sought.Silent tick) s t || is_sought (sought.Rested tick) s t)
+    e in
     (or_parts (is_sought (sought.Silent tick) s t) (is_sought (sought.Rested tick) s t) first.1).1
 
 due_less : (tick : ℕ) (s : Service) (t : State) → is_due tick s t ≡ false → is_due tick s t ≡ false
@@ -199,14 +214,16 @@ Turned tick low high service (Up r) after =
     ((is_sought (sought.Missed tick) service (Up r) ≡ true) × (after ≡ failed service.limit tick (failures_left service.forget tick r + 1)))
     ⊎ ((is_sought (sought.Missed tick) service (Up r) ≡ false) × (after ≡ Up (record r { ping = tick })))
 Turned tick low high service (Waiting p) after =
-    (e : EndpointRecord) × (p.until ≤ tick) × (low ≤ e.generation) × (e.generation < high) × (after ≡ started_at e tick service.startup p.failures)
+    (e : EndpointRecord) × (p.until ≤ tick) × (low ≤ e.generation) × (e.generation < high) ×
+    (after ≡ started_at e tick service.startup p.failures)
 Turned tick low high service Down after = ⊥
 Turned tick low high service GaveUp after = ⊥
 
 wider : (tick low high least most : ℕ) (service : Service) (before after : State) → least ≤ low → high ≤ most
     → Turned tick low high service before after → Turned tick least most service before after
 wider tick low high least most service (Up r) after l h turned = turned
-wider tick low high least most service (Waiting p) after l h (e, over, lower, upper, is) = (e, over, omega (arith, l, lower), omega (arith, h, upper), is)
+wider tick low high least most service (Waiting p) after l h (e, over, lower, upper, is) =
+    (e, over, omega (arith, l, lower), omega (arith, h, upper), is)
 wider tick low high least most service Down after l h turned = turned
 wider tick low high least most service GaveUp after l h turned = turned
 
@@ -224,17 +241,20 @@ record Served (tick : ℕ) (s m : RsRecord) : Type 0 where
   started : next ≡ s.next + one (is_sought (sought.Rested tick) (service_at s place) (state_at s place))
   is : m ≡ rs_of s.settings (set s.states place after) tick next slots
 
-missed_due : (tick : ℕ) (service : Service) (state : State) → is_sought (sought.Missed tick) service state ≡ true → is_due tick service state ≡ true
+missed_due : (tick : ℕ) (service : Service) (state : State) → is_sought (sought.Missed tick) service state ≡ true →
+    is_due tick service state ≡ true
 missed_due tick service state e = rw e refl
 
-silent_due : (tick : ℕ) (service : Service) (state : State) → is_sought (sought.Silent tick) service state ≡ true → is_due tick service state ≡ true
+silent_due : (tick : ℕ) (service : Service) (state : State) → is_sought (sought.Silent tick) service state ≡ true →
+    is_due tick service state ≡ true
 silent_due tick service state e = by (is_sought (sought.Missed tick) service state)
   where
     by : (b : Bool) → (b || (is_sought (sought.Silent tick) service state || is_sought (sought.Rested tick) service state)) ≡ true
     by true = refl
     by false = rw e refl
 
-rested_due : (tick : ℕ) (service : Service) (state : State) → is_sought (sought.Rested tick) service state ≡ true → is_due tick service state ≡ true
+rested_due : (tick : ℕ) (service : Service) (state : State) → is_sought (sought.Rested tick) service state ≡ true →
+    is_due tick service state ≡ true
 rested_due tick service state e = by (is_sought (sought.Missed tick) service state) (is_sought (sought.Silent tick) service state)
   where
     by : (b c : Bool) → (b || (c || is_sought (sought.Rested tick) service state)) ≡ true
@@ -243,7 +263,8 @@ rested_due tick service state e = by (is_sought (sought.Missed tick) service sta
     by false false = e
 
 -- a missed heartbeat
-serves_missed : (tick : ℕ) (s : RsRecord) (i : ℕ) → service_place s (sought.Missed tick) ≡ Some i → Served tick s (done_to s tick (task (Lose true) i))
+serves_missed : (tick : ℕ) (s : RsRecord) (i : ℕ) → service_place s (sought.Missed tick) ≡ Some i →
+    Served tick s (done_to s tick (task (Lose true) i))
 serves_missed tick s i e = by is.0 is.1
   where
     at : Found s (sought.Missed tick) i
@@ -268,11 +289,13 @@ serves_missed tick s i e = by is.0 is.1
           turned = subst (λ (z : State). Turned tick s.next s.next service z after) (sym here)
               (inl (subst (λ (z : State). is_sought (sought.Missed tick) service z ≡ true) here at.passes, refl));
           started = subst (λ (z : State). s.next ≡ s.next + one (is_sought (sought.Rested tick) service z)) (sym here) (omega arith);
-          is = ap (λ (z : State). rs_of s.settings (set s.states i (state_after s tick service z (Lose true))) tick (next_after s z (Lose true)) (slots_after s z (Lose true))) here;
+          is = ap (λ (z : State). rs_of s.settings (set s.states i (state_after s tick service z (Lose true))) tick
+              (next_after s z (Lose true)) (slots_after s z (Lose true))) here;
         }
 
 -- a ping, where no heartbeat is missed
-serves_silent : (tick : ℕ) (s : RsRecord) (i : ℕ) → service_place s (sought.Missed tick) ≡ None → service_place s (sought.Silent tick) ≡ Some i
+serves_silent : (tick : ℕ) (s : RsRecord) (i : ℕ) → service_place s (sought.Missed tick) ≡ None →
+    service_place s (sought.Silent tick) ≡ Some i
     → Served tick s (done_to s tick (task Ping i))
 serves_silent tick s i none e = by is.0 is.1
   where
@@ -288,7 +311,8 @@ serves_silent tick s i none e = by is.0 is.1
     by : (r : Running) → state_at s i ≡ Up r → Served tick s (done_to s tick (task Ping i))
     by r here =
         let service = service_at s i in
-        let in_time : is_sought (sought.Missed tick) service (Up r) ≡ false = subst (λ (z : State). is_sought (sought.Missed tick) service z ≡ false) here in_order in
+        let in_time : is_sought (sought.Missed tick) service (Up r) ≡ false =
+        subst (λ (z : State). is_sought (sought.Missed tick) service z ≡ false) here in_order in
         let after : State = Up (record r { ping = tick }) in
         record {
           place = i;
@@ -301,11 +325,13 @@ serves_silent tick s i none e = by is.0 is.1
           quiet = pinged_quiet tick service r in_time;
           turned = subst (λ (z : State). Turned tick s.next s.next service z after) (sym here) (inr (in_time, refl));
           started = subst (λ (z : State). s.next ≡ s.next + one (is_sought (sought.Rested tick) service z)) (sym here) (omega arith);
-          is = ap (λ (z : State). rs_of s.settings (set s.states i (state_after s tick service z Ping)) tick (next_after s z Ping) (slots_after s z Ping)) here;
+          is = ap (λ (z : State). rs_of s.settings (set s.states i (state_after s tick service z Ping)) tick (next_after s z Ping)
+              (slots_after s z Ping)) here;
         }
 
 -- a start after a wait
-serves_rested : (tick : ℕ) (s : RsRecord) (i : ℕ) → service_place s (sought.Rested tick) ≡ Some i → Served tick s (done_to s tick (task Resume i))
+serves_rested : (tick : ℕ) (s : RsRecord) (i : ℕ) → service_place s (sought.Rested tick) ≡ Some i →
+    Served tick s (done_to s tick (task Resume i))
 serves_rested tick s i e = by is.0 is.1
   where
     at : Found s (sought.Rested tick) i
@@ -328,19 +354,26 @@ serves_rested tick s i e = by is.0 is.1
           a_state = at.a_state;
           was_due = rested_due tick service (state_at s i) at.passes;
           quiet = started_quiet tick service (new_endpoint s) p.failures;
-          turned = subst (λ (z : State). Turned tick s.next (s.next + 1) service z after) (sym here) (new_endpoint s, leb-true p.until tick over, omega arith, omega arith, refl);
-          started = subst (λ (z : State). s.next + 1 ≡ s.next + one (is_sought (sought.Rested tick) service z)) (sym here) (rw over (omega arith));
-          is = ap (λ (z : State). rs_of s.settings (set s.states i (state_after s tick service z Resume)) tick (next_after s z Resume) (slots_after s z Resume)) here;
+          turned = subst (λ (z : State). Turned tick s.next (s.next + 1) service z after) (sym here)
+              (new_endpoint s, leb-true p.until tick over, omega arith, omega arith, refl);
+          started = subst (λ (z : State). s.next + 1 ≡ s.next + one (is_sought (sought.Rested tick) service z)) (sym here)
+              (rw over (omega arith));
+          is = ap (λ (z : State). rs_of s.settings (set s.states i (state_after s tick service z Resume)) tick (next_after s z Resume)
+              (slots_after s z Resume)) here;
         }
 
 serves_due : (tick : ℕ) (s : RsRecord) (p : Task) → due s tick ≡ Some p → Served tick s (done_to s tick p)
-serves_due tick s p e = by (service_place s (sought.Missed tick)) refl (service_place s (sought.Silent tick)) refl (service_place s (sought.Rested tick)) refl e
+serves_due tick s p e = by (service_place s (sought.Missed tick)) refl (service_place s (sought.Silent tick)) refl
+    (service_place s (sought.Rested tick)) refl e
   where
-    of : (deed : Deed) (place : ℕ) → Some (task deed place) ≡ Some p → Served tick s (done_to s tick (task deed place)) → Served tick s (done_to s tick p)
+    of : (deed : Deed) (place : ℕ) → Some (task deed place) ≡ Some p → Served tick s (done_to s tick (task deed place)) →
+        Served tick s (done_to s tick p)
     of deed place q served = subst (λ (z : Task). Served tick s (done_to s tick z)) (same_task (task deed place) p q) served
 
-    by : (m : Option ℕ) → service_place s (sought.Missed tick) ≡ m → (n : Option ℕ) → service_place s (sought.Silent tick) ≡ n → (o : Option ℕ) → service_place s (sought.Rested tick) ≡ o
-        → option_or (option_map (task (Lose true)) m) (option_or (option_map (task Ping) n) (option_map (task Resume) o)) ≡ Some p → Served tick s (done_to s tick p)
+    by : (m : Option ℕ) → service_place s (sought.Missed tick) ≡ m → (n : Option ℕ) → service_place s (sought.Silent tick) ≡ n →
+        (o : Option ℕ) → service_place s (sought.Rested tick) ≡ o
+        → option_or (option_map (task (Lose true)) m) (option_or (option_map (task Ping) n) (option_map (task Resume) o)) ≡ Some p →
+        Served tick s (done_to s tick p)
     by (Some i) f n g o h q = of (Lose true) i q (serves_missed tick s i f)
     by None f (Some i) g o h q = of Ping i q (serves_silent tick s i f g)
     by None f None g (Some i) h q = of Resume i q (serves_rested tick s i h)
@@ -350,11 +383,13 @@ serves_due tick s p e = by (service_place s (sought.Missed tick)) refl (service_
 acting : (tick : ℕ) (s m : RsRecord) (actions : List Action) → RsStep s Tick tick actions m → actions ≢ [] → Served tick s m
 acting tick s m actions (None, free, is, h) some = absurd (some h.done)
 acting tick s m actions (Some p, free, is, h) some =
-    subst (λ (z : RsRecord). Served tick s z) (sym h.after) (serves_due tick s p (same_asked (due s tick) (Some p) (asked s Tick tick) refl is))
+    subst (λ (z : RsRecord). Served tick s z) (sym h.after)
+    (serves_due tick s p (same_asked (due s tick) (Some p) (asked s Tick tick) refl is))
 
 -- one service less has something due
 served_count : (tick : ℕ) (s m : RsRecord) (given : Served tick s m)
-    → service_count (is_due tick) s.settings.services (set s.states given.place given.after) + 1 ≡ service_count (is_due tick) s.settings.services s.states
+    → service_count (is_due tick) s.settings.services (set s.states given.place given.after) + 1 ≡ service_count (is_due tick)
+    s.settings.services s.states
 served_count tick s m given =
     let e = count_set (is_due tick) s.settings.services s.states given.place given.after given.a_service given.a_state in
     let f = ap one given.was_due in
@@ -363,7 +398,8 @@ served_count tick s m given =
 
 -- and one wait less is over, if it was a start
 served_starts : (tick : ℕ) (s m : RsRecord) (given : Served tick s m)
-    → service_count (is_sought (sought.Rested tick)) s.settings.services (set s.states given.place given.after) + one (is_sought (sought.Rested tick) (service_at s given.place) (state_at s given.place))
+    → service_count (is_sought (sought.Rested tick)) s.settings.services (set s.states given.place given.after) + one
+    (is_sought (sought.Rested tick) (service_at s given.place) (state_at s given.place))
     ≡ service_count (is_sought (sought.Rested tick)) s.settings.services s.states
 served_starts tick s m given =
     let e = count_set (is_sought (sought.Rested tick)) s.settings.services s.states given.place given.after given.a_service given.a_state in
@@ -376,9 +412,11 @@ record Idle (tick : ℕ) (s t : RsRecord) : Type 0 where
   is : t ≡ record s { tick = tick }
 
 idling : (tick : ℕ) (s t : RsRecord) → RsStep s Tick tick [] t → Idle tick s t
-idling tick s t (None, free, is, h) = record { quiet = sym (due_is_any s tick) ∙ ap is_some (same_asked (due s tick) None (asked s Tick tick) refl is); is = h.after }
+idling tick s t (None, free, is, h) = record
+    { quiet = sym (due_is_any s tick) ∙ ap is_some (same_asked (due s tick) None (asked s Tick tick) refl is); is = h.after }
 idling tick s t (Some p, free, is, h) =
-    absurd ((ticks_act s t tick [] (Some p, free, is, h)).0 (ap is_some (same_asked (due s tick) (Some p) (asked s Tick tick) refl is)) refl)
+    absurd ((ticks_act s t tick [] (Some p, free, is, h)).0 (ap is_some (same_asked (due s tick) (Some p) (asked s Tick tick) refl is))
+    refl)
 
 -- ---- all reports
 
@@ -387,7 +425,8 @@ abbrev Midway : ℕ → ℕ → ℕ → Service → State → State → Type 0
 Midway tick low high service before now = (now ≡ before) ⊎ (Turned tick low high service before now × (is_due tick service now ≡ false))
 
 -- what the reports leave
-record Left (tick : ℕ) (settings : SettingsRecord) (origin : List State) (low : ℕ) (states : List State) (next : ℕ) (steps : List (List Action)) (t : RsRecord) : Type 0 where
+record Left (tick : ℕ) (settings : SettingsRecord) (origin : List State) (low : ℕ) (states : List State) (next : ℕ)
+    (steps : List (List Action)) (t : RsRecord) : Type 0 where
   same : t.settings ≡ settings
   at : t.tick ≡ tick
   each : (k : ℕ) → Midway tick low t.next (get_or settings.services k no_service) (get_or origin k Down) (get_or t.states k Down)
@@ -400,7 +439,8 @@ module _ (tick : ℕ) (settings : SettingsRecord) (origin : List State) (low : �
   Each states next = (k : ℕ) → Midway tick low next (get_or settings.services k no_service) (get_or origin k Down) (get_or states k Down)
 
   -- one more report
-  served_each : (s m : RsRecord) (given : Served tick s m) → s.settings ≡ settings → low ≤ s.next → Each s.states s.next → Each (set s.states given.place given.after) given.next
+  served_each : (s m : RsRecord) (given : Served tick s m) → s.settings ≡ settings → low ≤ s.next → Each s.states s.next →
+      Each (set s.states given.place given.after) given.next
   served_each s m given same lower each k = elim (written s.states given.place k given.after) [
     | inl unchanged ↦ subst (λ (z : State). Midway tick low given.next service before z) (sym unchanged) (elim (each k) [
       | inl still ↦ inl still
@@ -408,7 +448,8 @@ module _ (tick : ℕ) (settings : SettingsRecord) (origin : List State) (low : �
     ])
     | inr here ↦ subst (λ (z : State). Midway tick low given.next service before z) (sym here.1) (elim (each k) [
       | inl still ↦ inr (
-        wider tick s.next given.next low given.next service before given.after lower (omega arith) (subst (λ (z : State). Turned tick s.next given.next service z given.after) (at here.0 ∙ still) (turned here.0)),
+        wider tick s.next given.next low given.next service before given.after lower (omega arith)
+            (subst (λ (z : State). Turned tick s.next given.next service z given.after) (at here.0 ∙ still) (turned here.0)),
         quiet here.0,
       )
       | inr done ↦ absurd (let no : true ≡ false = sym (was_due here.0) ∙ done.1 in cc)
@@ -437,9 +478,11 @@ module _ (tick : ℕ) (settings : SettingsRecord) (origin : List State) (low : �
       quiet e = subst (λ (z : Service). is_due tick z given.after ≡ false) (of e) given.quiet
 
       was_due : k ≡ given.place → is_due tick service (get_or s.states k Down) ≡ true
-      was_due e = subst (λ (z : Service). is_due tick z (get_or s.states k Down) ≡ true) (of e) (subst (λ (z : State). is_due tick (service_at s given.place) z ≡ true) (at e) given.was_due)
+      was_due e = subst (λ (z : Service). is_due tick z (get_or s.states k Down) ≡ true) (of e)
+          (subst (λ (z : State). is_due tick (service_at s given.place) z ≡ true) (at e) given.was_due)
 
-  left : (t : RsRecord) (steps : List (List Action)) (states : List State) (now next : ℕ) (slots : SlotsRecord) → low ≤ next → Each states next → AllAct steps
+  left : (t : RsRecord) (steps : List (List Action)) (states : List State) (now next : ℕ) (slots : SlotsRecord) → low ≤ next →
+      Each states next → AllAct steps
       → Ticks tick (rs_of settings states now next slots) (steps ++ [] ∷ []) t → Left tick settings origin low states next steps t
   left t [] states now next slots lower each acted (m, step, end) =
       subst (λ (z : RsRecord). Left tick settings origin low states next [] z) (sym idle.is ∙ end) (record {
@@ -448,13 +491,15 @@ module _ (tick : ℕ) (settings : SettingsRecord) (origin : List State) (low : �
         each = each;
         quiet = idle.quiet;
         count = sym (count_none tick (is_due tick) (due_less tick) settings.services states idle.quiet);
-        starts = let none = count_none tick (is_sought (sought.Rested tick)) (rested_less tick) settings.services states idle.quiet in omega (arith, none);
+        starts = let none = count_none tick (is_sought (sought.Rested tick)) (rested_less tick) settings.services states idle.quiet in
+            omega (arith, none);
       })
     where
       idle : Idle tick (rs_of settings states now next slots) m
       idle = idling tick (rs_of settings states now next slots) m step
   left t (actions ∷ rest) states now next slots lower each acted (m, step, run) =
-      more (left t rest (set states given.place given.after) tick given.next given.slots (omega (arith, lower, given.started)) (served_each s m given refl lower each) acted.1
+      more (left t rest (set states given.place given.after) tick given.next given.slots (omega (arith, lower, given.started))
+      (served_each s m given refl lower each) acted.1
       (subst (λ (z : RsRecord). Ticks tick z (rest ++ [] ∷ []) t) given.is run))
     where
       s : RsRecord
@@ -463,7 +508,8 @@ module _ (tick : ℕ) (settings : SettingsRecord) (origin : List State) (low : �
       given : Served tick s m
       given = acting tick s m actions step acted.0
 
-      more : Left tick settings origin low (set states given.place given.after) given.next rest t → Left tick settings origin low states next (actions ∷ rest) t
+      more : Left tick settings origin low (set states given.place given.after) given.next rest t →
+          Left tick settings origin low states next (actions ∷ rest) t
       more after = record {
         same = after.same;
         at = after.at;
@@ -485,19 +531,23 @@ after_now tick service p e = elim (cases_lt tick p.until) [
 module _ (tick low high : ℕ) (service : Service) (now : State) (quiet : is_due tick service now ≡ false) where
   wait_ends : (p : Pause) → p.until ≤ tick → Midway tick low high service (Waiting p) now
       → (e : EndpointRecord) × (low ≤ e.generation) × (e.generation < high) × (now ≡ started_at e tick service.startup p.failures)
-  wait_ends p over (inl still) = let later = after_now tick service p (subst (λ (z : State). is_due tick service z ≡ false) still quiet) in absurd (omega (arith, later, over))
+  wait_ends p over (inl still) = let later = after_now tick service p (subst (λ (z : State). is_due tick service z ≡ false) still quiet) in
+      absurd (omega (arith, later, over))
   wait_ends p over (inr ((e, before, lower, upper, is), done)) = (e, lower, upper, is)
 
-  missed_ends : (r : Running) → is_sought (sought.Missed tick) service (Up r) ≡ true → Midway tick low high service (Up r) now → now ≡ failed service.limit tick (failures_left service.forget tick r + 1)
+  missed_ends : (r : Running) → is_sought (sought.Missed tick) service (Up r) ≡ true → Midway tick low high service (Up r) now →
+      now ≡ failed service.limit tick (failures_left service.forget tick r + 1)
   missed_ends r missed (inl still) = false_true (sym quiet ∙ ap (is_due tick service) still ∙ missed_due tick service (Up r) missed)
   missed_ends r missed (inr (inl (was, is), done)) = is
   missed_ends r missed (inr (inr (not, is), done)) = false_true (sym not ∙ missed)
 
-wait_lasts : (tick low high : ℕ) (service : Service) (now : State) (p : Pause) → tick < p.until → Midway tick low high service (Waiting p) now → now ≡ Waiting p
+wait_lasts : (tick low high : ℕ) (service : Service) (now : State) (p : Pause) → tick < p.until →
+    Midway tick low high service (Waiting p) now → now ≡ Waiting p
 wait_lasts tick low high service now p later (inl still) = still
 wait_lasts tick low high service now p later (inr ((e, over, lower, upper, is), done)) = absurd (omega (arith, later, over))
 
-runs_on : (tick low high : ℕ) (service : Service) (now : State) (r : Running) → is_sought (sought.Missed tick) service (Up r) ≡ false → Midway tick low high service (Up r) now
+runs_on : (tick low high : ℕ) (service : Service) (now : State) (r : Running) → is_sought (sought.Missed tick) service (Up r) ≡ false →
+    Midway tick low high service (Up r) now
     → (q : Running) × (now ≡ Up q) × (q ≡ record r { ping = q.ping })
 runs_on tick low high service now r met (inl still) = (r, still, refl)
 runs_on tick low high service now r met (inr (inl (was, is), done)) = false_true (sym met ∙ was)
@@ -512,7 +562,8 @@ stays_given_up tick low high service now (inl still) = still
 stays_given_up tick low high service now (inr (none, done)) = absurd none
 
 started : (tick : ℕ) (s t : RsRecord) (service : Service) (i : ℕ) (p : Pause)
-    → (e : EndpointRecord) × (s.next ≤ e.generation) × (e.generation < t.next) × (state_at t i ≡ started_at e tick service.startup p.failures)
+    → (e : EndpointRecord) × (s.next ≤ e.generation) × (e.generation < t.next) ×
+    (state_at t i ≡ started_at e tick service.startup p.failures)
     → (r : Running) × (state_at t i ≡ Up r) × IsStarted tick s t p r
 started tick s t service i p (e, lower, upper, is) = (_, is, record { newer = lower; used = upper; since = refl; failures = refl })
 
@@ -526,7 +577,8 @@ ticks_settle s t tick steps settles = (
     quiet = quiet;
     later = λ i p h e. after_now tick (service_at s i) p (subst (λ (z : State). is_due tick (service_at s i) z ≡ false) e (quiet i h));
     starts = all.starts;
-    started = λ i p h e over. started tick s t (service_at s i) i p (wait_ends tick s.next t.next (service_at s i) (state_at t i) (quiet i h) p over (from i (Waiting p) e));
+    started = λ i p h e over. started tick s t (service_at s i) i p
+        (wait_ends tick s.next t.next (service_at s i) (state_at t i) (quiet i h) p over (from i (Waiting p) e));
     waits = λ i p e later. wait_lasts tick s.next t.next (service_at s i) (state_at t i) p later (from i (Waiting p) e);
     failures = λ i r h e missed. missed_ends tick s.next t.next (service_at s i) (state_at t i) (quiet i h) r missed (from i (Up r) e);
     kept = λ i r e met. runs_on tick s.next t.next (service_at s i) (state_at t i) r met (from i (Up r) e);
@@ -536,7 +588,8 @@ ticks_settle s t tick steps settles = (
 )
   where
     all : Left tick s.settings s.states s.next s.states s.next steps t
-    all = left tick s.settings s.states s.next t steps s.states s.tick s.next s.slots (omega arith) (λ k. inl refl) settles.acted settles.reports
+    all = left tick s.settings s.states s.next t steps s.states s.tick s.next s.slots (omega arith) (λ k. inl refl) settles.acted
+        settles.reports
 
     quiet : (i : ℕ) → i < length s.settings.services → is_due tick (service_at s i) (state_at t i) ≡ false
     quiet i h = none_due tick s.settings.services t.states all.quiet i h
@@ -546,7 +599,8 @@ ticks_settle s t tick steps settles = (
 
 -- ---- ticks that aren't refused
 
-allowed : (s : RsRecord) (tick : ℕ) → nat_lt tick s.tick ≡ false → nat_lt (2 ^ 62) tick ≡ false → (asks takes_generation (Ok (due s tick)) && nat_lt 2097151 s.next) ≡ false
+allowed : (s : RsRecord) (tick : ℕ) → nat_lt tick s.tick ≡ false → nat_lt (2 ^ 62) tick ≡ false →
+    (asks takes_generation (Ok (due s tick)) && nat_lt 2097151 s.next) ≡ false
     → (asks takes_slot (Ok (due s tick)) && is_full s) ≡ false → refusal s Tick tick ≡ None
 allowed s tick back worn generations slots = rw (back, worn, generations, slots) refl
 
@@ -557,7 +611,8 @@ record Enough (tick : ℕ) (s : RsRecord) : Type 0 where
   slots : length s.settings.services ≤ s.settings.slots
   left : s.next + start_count tick s ≤ 2097152
 
-count_some : (test : Service → State → Bool) (ss : List Service) (ts : List State) (i : ℕ) → i < length ss → i < length ts → test (get_or ss i no_service) (get_or ts i Down) ≡ true → 1 ≤ service_count test ss ts
+count_some : (test : Service → State → Bool) (ss : List Service) (ts : List State) (i : ℕ) → i < length ss → i < length ts →
+    test (get_or ss i no_service) (get_or ts i Down) ≡ true → 1 ≤ service_count test ss ts
 count_some test [] ts i h l e = absurd (omega (arith, h))
 count_some test (s ∷ ss) [] i h l e = absurd (omega (arith, l))
 count_some test (s ∷ ss) (t ∷ ts) zero h l e = omega (arith, ap one e)
@@ -568,17 +623,21 @@ abbrev due_of : Option ℕ → Option ℕ → Option ℕ → Option Task
 due_of m n o = option_or (option_map (task (Lose true)) m) (option_or (option_map (task Ping) n) (option_map (task Resume) o))
 
 never_refused : (tick : ℕ) (s : RsRecord) → tick ≤ 2 ^ 62 → Enough tick s → refusal s Tick tick ≡ None
-never_refused tick s early enough = by (service_place s (sought.Missed tick)) refl (service_place s (sought.Silent tick)) refl (service_place s (sought.Rested tick)) refl
+never_refused tick s early enough = by (service_place s (sought.Missed tick)) refl (service_place s (sought.Silent tick)) refl
+    (service_place s (sought.Rested tick)) refl
   where
-    of : (o : Option Task) → due s tick ≡ o → (asks takes_generation (Ok o) && nat_lt 2097151 s.next) ≡ false → (asks takes_slot (Ok o) && is_full s) ≡ false → refusal s Tick tick ≡ None
+    of : (o : Option Task) → due s tick ≡ o → (asks takes_generation (Ok o) && nat_lt 2097151 s.next) ≡ false →
+        (asks takes_slot (Ok o) && is_full s) ≡ false → refusal s Tick tick ≡ None
     of o e g n = allowed s tick (le-ltb tick s.tick enough.now) (le-ltb (2 ^ 62) tick early)
         (subst (λ (z : Option Task). (asks takes_generation (Ok z) && nat_lt 2097151 s.next) ≡ false) (sym e) g)
         (subst (λ (z : Option Task). (asks takes_slot (Ok z) && is_full s) ≡ false) (sym e) n)
 
-    is : (m n o : Option ℕ) → service_place s (sought.Missed tick) ≡ m → service_place s (sought.Silent tick) ≡ n → service_place s (sought.Rested tick) ≡ o → due s tick ≡ due_of m n o
+    is : (m n o : Option ℕ) → service_place s (sought.Missed tick) ≡ m → service_place s (sought.Silent tick) ≡ n →
+        service_place s (sought.Rested tick) ≡ o → due s tick ≡ due_of m n o
     is m n o f g h = rw (f, g, h) refl
 
-    by : (m : Option ℕ) → service_place s (sought.Missed tick) ≡ m → (n : Option ℕ) → service_place s (sought.Silent tick) ≡ n → (o : Option ℕ) → service_place s (sought.Rested tick) ≡ o → refusal s Tick tick ≡ None
+    by : (m : Option ℕ) → service_place s (sought.Missed tick) ≡ m → (n : Option ℕ) → service_place s (sought.Silent tick) ≡ n →
+        (o : Option ℕ) → service_place s (sought.Rested tick) ≡ o → refusal s Tick tick ≡ None
     by (Some i) f n g o h = of (Some (task (Lose true) i)) (is (Some i) n o f g h) refl refl
     by None f (Some i) g o h = of (Some (task Ping i)) (is None (Some i) o f g h) refl refl
     by None f None g (Some i) h = of (Some (task Resume i)) (is None None (Some i) f g h)
@@ -614,28 +673,45 @@ one_less : (tick : ℕ) (s m : RsRecord) (given : Served tick s m) → due_count
 one_less tick s m given = ap (λ (z : RsRecord). due_count tick z + 1) given.is ∙ served_count tick s m given
 
 -- the next report, and those after it
-reported : (tick : ℕ) (s : RsRecord) → tick ≤ 2 ^ 62 → Enough tick s → ((m : RsRecord) → Enough tick m → due_count tick m + 1 ≡ due_count tick s → Settling tick m) → Settling tick s
+reported : (tick : ℕ) (s : RsRecord) → tick ≤ 2 ^ 62 → Enough tick s →
+    ((m : RsRecord) → Enough tick m → due_count tick m + 1 ≡ due_count tick s → Settling tick m) → Settling tick s
 reported tick s early enough then = by (due s tick) refl
   where
     free : refusal s Tick tick ≡ None
     free = never_refused tick s early enough
 
     by : (o : Option Task) → due s tick ≡ o → Settling tick s
-    by None e = ([], record s { tick = tick }, record { acted = tt; reports = (record s { tick = tick }, (None, free, ap (λ (z : Option Task). Ok z) e, record { done = refl; after = refl }), refl) })
+    by None e = (
+      [],
+      record s { tick = tick },
+      record {
+        acted = tt;
+        reports =
+            (record s { tick = tick }, (None, free, ap (λ (z : Option Task). Ok z) e, record { done = refl; after = refl }), refl);
+      },
+    )
     by (Some p) e =
         let m = done_to s tick p in
         let actions = actions_of s (service_at s p.place) (state_at s p.place) p.deed in
         let step : RsStep s Tick tick actions m = (Some p, free, ap (λ (z : Option Task). Ok z) e, record { done = refl; after = refl }) in
         let given = serves_due tick s p e in
-        let rest = then m (enough_after tick s m enough given) (one_less tick s m given) in
-        (actions ∷ rest.0, rest.1, record { acted = ((ticks_act s m tick actions step).0 (ap is_some e), rest.2.acted); reports = (m, step, rest.2.reports) })
+        let rest = then m (enough_after tick s m enough given) (one_less tick s m given) in (
+          actions ∷ rest.0,
+          rest.1,
+          record {
+            acted = ((ticks_act s m tick actions step).0 (ap is_some e), rest.2.acted);
+            reports =
+                (m, step, rest.2.reports);
+          },
+        )
 
 settling : (n tick : ℕ) (s : RsRecord) → tick ≤ 2 ^ 62 → Enough tick s → due_count tick s ≡ n → Settling tick s
 settling zero tick s early enough e = reported tick s early enough (λ m h f. absurd (omega (arith, e, f)))
 settling (suc n) tick s early enough e = reported tick s early enough (λ m h f. settling n tick m early h (omega (arith, e, f)))
 
 pub ticks_can_settle : TicksCanSettle
-ticks_can_settle s tick now early count slots left = settling (due_count tick s) tick s early (record { now = now; count = count; slots = slots; left = left }) refl
+ticks_can_settle s tick now early count slots left =
+    settling (due_count tick s) tick s early (record { now = now; count = count; slots = slots; left = left }) refl
 
 -- ---- recovery
 
@@ -649,7 +725,8 @@ failed_until limit tick k p e = by (nat_lt limit k) e
     by true f = absurd (let n : GaveUp ≡ Waiting p = f in cc)
     by false f = sym (of (record { until = tick + pause k; failures = k }) f)
 
-waits_then : (s : RsRecord) (tick : ℕ) (service : Service) (r : Running) (deed : Deed) (p : Pause) → state_after s tick service (Up r) deed ≡ Waiting p → (k : ℕ) × (p.until ≡ tick + pause k)
+waits_then : (s : RsRecord) (tick : ℕ) (service : Service) (r : Running) (deed : Deed) (p : Pause) →
+    state_after s tick service (Up r) deed ≡ Waiting p → (k : ℕ) × (p.until ≡ tick + pause k)
 waits_then s tick service r (Lose kill) p e = (_, failed_until service.limit tick (failures_left service.forget tick r + 1) p e)
 waits_then s tick service r Halt p e = absurd (let n : Down ≡ Waiting p = e in cc)
 waits_then s tick service r Replace p e = absurd (let n : Up _ ≡ Waiting p = e in cc)
@@ -662,13 +739,16 @@ waits_then s tick service r Forget p e = absurd (let n : Up r ≡ Waiting p = e 
 running_waits : {P : Type 0} (r : Running) (p : Pause) (state : State) → state ≡ Up r → state ≡ Waiting p → P
 running_waits r p state e f = absurd (let n : Up r ≡ Waiting p = sym e ∙ f in cc)
 
-failing_until : (s u : RsRecord) (event : Event) (tick : ℕ) (actions : List Action) (i : ℕ) (r : Running) (p : Pause) → state_at s i ≡ Up r → RsStep s event tick actions u → state_at u i ≡ Waiting p
+failing_until : (s u : RsRecord) (event : Event) (tick : ℕ) (actions : List Action) (i : ℕ) (r : Running) (p : Pause) →
+    state_at s i ≡ Up r → RsStep s event tick actions u → state_at u i ≡ Waiting p
     → (k : ℕ) × (p.until ≡ tick + pause k)
-failing_until s u event tick actions i r p ran (None, free, is, h) waits = running_waits r p (state_at s i) ran (sym (ap (λ (z : RsRecord). state_at z i) h.after) ∙ waits)
+failing_until s u event tick actions i r p ran (None, free, is, h) waits =
+    running_waits r p (state_at s i) ran (sym (ap (λ (z : RsRecord). state_at z i) h.after) ∙ waits)
 failing_until s u event tick actions i r p ran (Some q, free, is, h) waits = elim (written s.states q.place i after) [
   | inl same ↦ running_waits r p (state_at s i) ran (sym same ∙ now)
   | inr here ↦ waits_then s tick (service_at s q.place) r q.deed p
-      (subst (λ (z : State). state_after s tick (service_at s q.place) z q.deed ≡ Waiting p) (ap (λ (n : ℕ). state_at s n) (sym here.0) ∙ ran) (sym here.1 ∙ now))
+      (subst (λ (z : State). state_after s tick (service_at s q.place) z q.deed ≡ Waiting p)
+      (ap (λ (n : ℕ). state_at s n) (sym here.0) ∙ ran) (sym here.1 ∙ now))
 ]
   where
     after : State
@@ -691,5 +771,6 @@ pub services_recover : ServicesRecover
 services_recover s u m t event fell tick actions i r p between steps within used fails run waits over settles =
     let all = ticks_settle m t tick steps settles in
     let up = all.2.started i p within waits over in
-    let low = rises s.next m.next (flat_map starts (actions ∷ between)) (runs.starts_rise s m (actions ∷ between) (u, (event, fell, fails.step), run)) in
+    let low = rises s.next m.next (flat_map starts (actions ∷ between))
+    (runs.starts_rise s m (actions ∷ between) (u, (event, fell, fails.step), run)) in
     (up.0, up.1, omega (arith, used, low, up.2.newer))

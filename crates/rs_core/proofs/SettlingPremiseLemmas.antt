@@ -18,7 +18,8 @@ use Rattle.rs_core.specs.Judging.{refusal}
 use Rattle.rs_core.specs.Machine.{task, actions_of}
 use Rattle.rs_core.specs.Step.{RsStep, done_to}
 use Rattle.rs_core.specs.Settling.{Ticks, ReportsSettle, IsFailure}
-use Rattle.rs_core.specs.SettlingPremises.{RunsInstance, RunsNewer, CanSettle, SettlingNeeds, ExistenceNeeds, RecoveryNeeds, RecoveryHappens}
+use Rattle.rs_core.specs.SettlingPremises.{RunsInstance, RunsNewer, CanSettle, SettlingNeeds, ExistenceNeeds, RecoveryNeeds}
+use Rattle.rs_core.specs.SettlingPremises.{RecoveryHappens}
 
 -- ---- states
 
@@ -79,8 +80,10 @@ not_waiting p t i e (r, up) = let n : Waiting p ≡ Up r = sym e ∙ up in cc
 not_down : (r : Running) (t : RsRecord) (i : ℕ) → state_at t i ≡ Down → RunsNewer t i r → ⊥
 not_down r t i e (q, up, newer) = let n : Down ≡ Up q = sym e ∙ up in cc
 
-falls : (generation next : ℕ) → RsStep (running generation next) (Death (endpoint_of generation 16) 1) 0 (stopped generation next) (fallen generation next)
-    → IsFailure (running generation next) (Death (endpoint_of generation 16) 1) 0 (stopped generation next) (fallen generation next) 0 (instance generation) (pause_to 1)
+falls : (generation next : ℕ) → RsStep (running generation next) (Death (endpoint_of generation 16) 1) 0 (stopped generation next)
+    (fallen generation next)
+    → IsFailure (running generation next) (Death (endpoint_of generation 16) 1) 0 (stopped generation next) (fallen generation next) 0
+    (instance generation) (pause_to 1)
 falls generation next step = record { ran = refl; step = step; waits = refl }
 
 first_falls : RsStep (running 1 2) (Death (endpoint_of 1 16) 1) 0 (stopped 1 2) (fallen 1 2)
@@ -105,9 +108,11 @@ fifth_idles = (None, refl, refl, record { done = refl; after = refl })
 acts : (x : Action) (xs : List Action) → x ∷ xs ≢ []
 acts x xs = λ e. let n : x ∷ xs ≡ [] = e in cc
 
-rises : (generation next : ℕ) → RsStep (fallen generation next) Tick 1 (started generation next) (risen generation next) → RsStep (risen generation next) Tick 1 [] (risen generation next)
+rises : (generation next : ℕ) → RsStep (fallen generation next) Tick 1 (started generation next) (risen generation next) →
+    RsStep (risen generation next) Tick 1 [] (risen generation next)
     → ReportsSettle 1 (fallen generation next) (started generation next ∷ []) (risen generation next)
-rises generation next step last = record { acted = (acts _ _, tt); reports = (risen generation next, step, (risen generation next, last, refl)) }
+rises generation next step last =
+    record { acted = (acts _ _, tt); reports = (risen generation next, step, (risen generation next, last, refl)) }
 
 -- ---- settling
 
@@ -121,11 +126,13 @@ bare_idles = (None, refl, refl, record { done = refl; after = refl })
 pub settling_needs : SettlingNeeds
 settling_needs = record {
   acted = λ law. let e : 1 ≤ 0 = law bare bare 0 ([] ∷ []) (bare, bare_idles, (bare, bare_idles, refl)) in omega (arith, e);
-  ended = λ law. not_waiting (pause_to 0) (waiting one_service 0) 0 refl (law (waiting one_service 0) (waiting one_service 0) 0 0 (pause_to 0) [] tt refl (omega arith) refl (omega arith));
+  ended = λ law. not_waiting (pause_to 0) (waiting one_service 0) 0 refl
+      (law (waiting one_service 0) (waiting one_service 0) 0 0 (pause_to 0) [] tt refl (omega arith) refl (omega arith));
   over = λ law. not_waiting (pause_to 1) (waiting one_service 1) 0 refl
       (law (waiting one_service 1) (waiting one_service 1) 0 0 (pause_to 1) [] (idles (waiting one_service 1) 0 early) (omega arith) refl);
   within = λ law. not_waiting (pause_to 0) (waiting (settings 1 []) 0) 0 refl
-      (law (waiting (settings 1 []) 0) (waiting (settings 1 []) 0) 0 0 (pause_to 0) [] (idles (waiting (settings 1 []) 0) 0 outside) refl (omega arith));
+      (law (waiting (settings 1 []) 0) (waiting (settings 1 []) 0) 0 0 (pause_to 0) [] (idles (waiting (settings 1 []) 0) 0 outside) refl
+      (omega arith));
 }
   where
     early : RsStep (waiting one_service 1) Tick 0 [] (waiting one_service 1)
@@ -161,8 +168,10 @@ pub existence_needs : ExistenceNeeds
 existence_needs = record {
   later = λ law. refused ticked 0 TickBack refl (law ticked 0 (omega arith) refl (omega arith) (omega arith));
   most = λ law. refused bare (2 ^ 62 + 1) Worn refl (law bare (2 ^ 62 + 1) (omega arith) refl (omega arith) (omega arith));
-  count = λ law. refused (crowded one_service) 0 NoSlot refl (law (crowded one_service) 0 (omega arith) (omega arith) (omega arith) (omega arith));
-  slots = λ law. refused (crowded (settings 1 (service ∷ service ∷ []))) 0 NoSlot refl (law (crowded (settings 1 (service ∷ service ∷ []))) 0 (omega arith) (omega arith) refl (omega arith));
+  count = λ law. refused (crowded one_service) 0 NoSlot refl
+      (law (crowded one_service) 0 (omega arith) (omega arith) (omega arith) (omega arith));
+  slots = λ law. refused (crowded (settings 1 (service ∷ service ∷ []))) 0 NoSlot refl
+      (law (crowded (settings 1 (service ∷ service ∷ []))) 0 (omega arith) (omega arith) refl (omega arith));
   generations = λ law. refused spent 0 GenerationsSpent refl (law spent 0 (omega arith) (omega arith) refl (omega arith));
 }
 
@@ -180,10 +189,12 @@ halted_idles = (None, refl, refl, record { done = refl; after = refl })
 
 pub recovery_needs : RecoveryNeeds
 recovery_needs = record {
-  given = λ law. older (law (running 5 1) (fallen 5 1) (fallen 5 1) (risen 5 1) (Death (endpoint_of 5 16) 1) 0 1 (stopped 5 1) 0 (instance 5) (pause_to 1) [] (started 5 1 ∷ [])
+  given = λ law. older (law (running 5 1) (fallen 5 1) (fallen 5 1) (risen 5 1) (Death (endpoint_of 5 16) 1) 0 1 (stopped 5 1) 0
+      (instance 5) (pause_to 1) [] (started 5 1 ∷ [])
       (omega arith) (falls 5 1 fifth_falls) refl refl (omega arith) (rises 5 1 fifth_rises fifth_idles));
   waits = λ law. not_down (instance 1) (record halted { tick = 1 }) 0 refl
-      (law (running 1 2) (fallen 1 2) halted (record halted { tick = 1 }) (Death (endpoint_of 1 16) 1) 0 1 (stopped 1 2) 0 (instance 1) (pause_to 1) ([] ∷ []) []
+      (law (running 1 2) (fallen 1 2) halted (record halted { tick = 1 }) (Death (endpoint_of 1 16) 1) 0 1 (stopped 1 2) 0 (instance 1)
+      (pause_to 1) ([] ∷ []) []
       (omega arith) (omega arith) (falls 1 2 first_falls) (halted, (Stop [], 0, halts), refl) (omega arith) (idles halted 1 halted_idles));
 }
   where

@@ -1,5 +1,6 @@
 -- A document without a field `format` is read alike as of format 1 and as of any format.
-use Rattle.std.proofs.Common.{◌≡◌, ℕ, ◌&&◌, ◌||◌, Bool, false, not, cond, List, Option, Some, None, Err, Ordering, Less, Equal, Greater, nat_cmp, is_eq, refl, ap, ◌∙◌, codes}
+use Rattle.std.proofs.Common.{◌≡◌, ℕ, ◌&&◌, ◌||◌, Bool, false, not, cond, List, Option, Some, None, Err, Ordering, Less, Equal, Greater}
+use Rattle.std.proofs.Common.{nat_cmp, is_eq, refl, ap, ◌∙◌, codes}
 use Rattle.std.specs.Ordering.{ordering_reverse, match_ordering}
 use Rattle.std.specs.Cmp.Lexicographic.{slice_cmp}
 use Rattle.std.proofs.lemmas.Cmp.{nat_list_cmp_total}
@@ -28,5 +29,6 @@ keys_agree (member key value rest) h =
 
 pub formats_agree : FormatsAgree
 formats_agree doc h =
-    ap (λ (b : Bool). cond (not b) (Err (at_top UnknownField)) (settings_by_any (format_in (get_member (codes "format") doc)) doc)) (keys_agree doc h)
+    ap (λ (b : Bool). cond (not b) (Err (at_top UnknownField)) (settings_by_any (format_in (get_member (codes "format") doc)) doc))
+    (keys_agree doc h)
     ∙ ap (λ (o : Option Data). cond (not (keys_pass is_top_field doc)) (Err (at_top UnknownField)) (settings_by_any (format_in o) doc)) h

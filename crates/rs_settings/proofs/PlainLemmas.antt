@@ -1,5 +1,6 @@
 -- Services of format 1 have nothing of format 2.
-use Rattle.std.proofs.Common.{◌≡◌, ℕ, Bool, true, false, not, cond, List, [], ◌∷◌, ◌++◌, length, Option, Some, None, option_map, Ok, Err, Ordering, Less, Equal, Greater, nat_cmp, refl, sym, ap, subst, ◌∙◌, codes, arith}
+use Rattle.std.proofs.Common.{◌≡◌, ℕ, Bool, true, false, not, cond, List, [], ◌∷◌, ◌++◌, length, Option, Some, None, option_map, Ok, Err}
+use Rattle.std.proofs.Common.{Ordering, Less, Equal, Greater, nat_cmp, refl, sym, ap, subst, ◌∙◌, codes, arith}
 use Rattle.std.specs.Prelude.{Result, ok_or}
 use Rattle.std.specs.Option.{option_and_then}
 use Rattle.std.specs.List.{All}
@@ -87,7 +88,8 @@ module _ (fields : Members) (s : Service) where
       let e : looked_up (get_member (codes "complains") fields) (get_member (codes "connects") fields) (get_member (codes "forget") fields)
       (get_member (codes "startup") fields) ≡ Some s = by_lack (lacks_field fields) _ rest in
       plain_of _ _ _ _ _ _ s
-      (sym (ap (λ o. looked_up o (get_member (codes "connects") fields) (get_member (codes "forget") fields) (get_member (codes "startup") fields)) (none (codes "complains") refl)
+      (sym (ap (λ o. looked_up o (get_member (codes "connects") fields) (get_member (codes "forget") fields)
+      (get_member (codes "startup") fields)) (none (codes "complains") refl)
       ∙ ap (λ o. looked_up None o (get_member (codes "forget") fields) (get_member (codes "startup") fields)) (none (codes "connects") refl)
       ∙ ap (λ o. looked_up None None o (get_member (codes "startup") fields)) (none (codes "forget") refl)
       ∙ ap (λ o. looked_up None None None o) (none (codes "startup") refl)) ∙ e)
@@ -102,36 +104,43 @@ plain_from index (Some fields) s h = plain_service fields s (unindexed (service_
 
 -- ---- all services
 
-plain_services : (before after : List Service) (items : Items) → All HasFirstFieldsAlone before → services_in First before items ≡ Ok after → All HasFirstFieldsAlone after
+plain_services : (before after : List Service) (items : Items) → All HasFirstFieldsAlone before →
+    services_in First before items ≡ Ok after → All HasFirstFieldsAlone after
 plain_services before after no_items all h = subst (λ l. All HasFirstFieldsAlone l) (let e : before ≡ after = cc in e) all
 plain_services before after (item value rest) all h =
     by_first (service_from First (length before) (as_table value)) refl h (λ s more l. plain_services (before ++ s ∷ []) after rest more l)
   where
     by_first : (r : Result Service SettingsFault) → service_from First (length before) (as_table value) ≡ r →
         go_on (λ s. services_in First (before ++ s ∷ []) rest) r ≡ Ok after →
-        ((s : Service) → All HasFirstFieldsAlone (before ++ s ∷ []) → services_in First (before ++ s ∷ []) rest ≡ Ok after → All HasFirstFieldsAlone after) →
+        ((s : Service) → All HasFirstFieldsAlone (before ++ s ∷ []) → services_in First (before ++ s ∷ []) rest ≡ Ok after →
+        All HasFirstFieldsAlone after) →
         All HasFirstFieldsAlone after
     by_first (Ok s) e g others =
         others s (each-last HasFirstFieldsAlone before (before ++ s ∷ []) s refl all (plain_from (length before) (as_table value) s e)) g
     by_first (Err f) e g others = absurd (cc)
 
-plain_top : (slots : Option ℕ) (tables : Option Items) (s : SettingsRecord) → with_top First slots tables ≡ Ok s → All HasFirstFieldsAlone s.services
+plain_top : (slots : Option ℕ) (tables : Option Items) (s : SettingsRecord) → with_top First slots tables ≡ Ok s →
+    All HasFirstFieldsAlone s.services
 plain_top None tables s h = absurd (cc)
 plain_top (Some n) None s h = absurd (cc)
 plain_top (Some n) (Some items) s h = by_services (services_in First [] items) refl h
   where
-    by_shared : (services : List Service) (o : Option SettingsFault) → All HasFirstFieldsAlone services → unless_shared n services o ≡ Ok s → All HasFirstFieldsAlone s.services
+    by_shared : (services : List Service) (o : Option SettingsFault) → All HasFirstFieldsAlone services →
+        unless_shared n services o ≡ Ok s → All HasFirstFieldsAlone s.services
     by_shared services None all g =
         let e : settings n services ≡ s = cc in
         subst (λ (z : SettingsRecord). All HasFirstFieldsAlone z.services) e all
     by_shared services (Some f) all g = absurd (cc)
 
-    by_services : (r : Result (List Service) SettingsFault) → services_in First [] items ≡ r → with_services n r ≡ Ok s → All HasFirstFieldsAlone s.services
-    by_services (Ok services) e g = by_shared services (shared_fault services) (plain_services [] services items (λ k d l. absurd (omega arith)) e) g
+    by_services : (r : Result (List Service) SettingsFault) → services_in First [] items ≡ r → with_services n r ≡ Ok s →
+        All HasFirstFieldsAlone s.services
+    by_services (Ok services) e g = by_shared services (shared_fault services)
+        (plain_services [] services items (λ k d l. absurd (omega arith)) e) g
     by_services (Err f) e g = absurd (cc)
 
 pub first_is_plain : FirstIsPlain
-first_is_plain doc s h = plain_top (number_or 64 1 1008 (get_member (codes "slots") doc)) (tables_or (get_member (codes "service") doc)) s (by_keys (keys_pass is_top_field doc) _ h)
+first_is_plain doc s h = plain_top (number_or 64 1 1008 (get_member (codes "slots") doc)) (tables_or (get_member (codes "service") doc)) s
+    (by_keys (keys_pass is_top_field doc) _ h)
   where
     by_keys : (b : Bool) (r : Result SettingsRecord SettingsFault) → cond (not b) (Err (at_top UnknownField)) r ≡ Ok s → r ≡ Ok s
     by_keys true r g = g

@@ -1,5 +1,6 @@
 -- The tables of a document, in order.
-use Rattle.std.proofs.Common.{◌≡◌, ◌≢◌, ℕ, ◌<◌, ◌≤◌, ◌&&◌, true, false, nat_le, List, [], ◌∷◌, ◌++◌, length, get_or, drop, ◌+◌, map, Some, None, refl, sym, subst, ap, ◌∙◌, arith, inl, inr, zero, suc, length-append}
+use Rattle.std.proofs.Common.{◌≡◌, ◌≢◌, ℕ, ◌<◌, ◌≤◌, ◌&&◌, true, false, nat_le, List, [], ◌∷◌, ◌++◌, length, get_or, drop, ◌+◌, map, Some}
+use Rattle.std.proofs.Common.{None, refl, sym, subst, ap, ◌∙◌, arith, inl, inr, zero, suc, length-append}
 use Rattle.std.specs.List.{All, list_all}
 use Rattle.std.proofs.lemmas.List.Elements.{All-append}
 use Rattle.std.proofs.lemmas.List.{drop_all, map-append}
@@ -30,18 +31,22 @@ services_in-step : (format : Format) (before : List Service) (vs : List Value) (
 services_in-step format before vs i d h = rw (items_view-drop vs i d h)
 
 -- past the last table
-pub services_in-end : (format : Format) (before : List Service) (vs : List Value) (i : ℕ) → length vs ≤ i → services_in format before (items_view (drop i vs)) ≡ Ok before
+pub services_in-end : (format : Format) (before : List Service) (vs : List Value) (i : ℕ) → length vs ≤ i →
+    services_in format before (items_view (drop i vs)) ≡ Ok before
 services_in-end format before vs i h = rw (drop_all i vs h)
 
 -- one more table that is a service
-pub services_in-more : (format : Format) (before : List Service) (vs : List Value) (i : ℕ) (d : Value) (s : Service) (r : Result (List Service) SettingsFault) → i < length vs →
+pub services_in-more : (format : Format) (before : List Service) (vs : List Value) (i : ℕ) (d : Value) (s : Service)
+    (r : Result (List Service) SettingsFault) → i < length vs →
     services_in format before (items_view (drop i vs)) ≡ r → service_from format (length before) (as_table (view (get_or vs i d))) ≡ Ok s →
     services_in format (before ++ s ∷ []) (items_view (drop (i + 1) vs)) ≡ r
 services_in-more format before vs i d s r l so e = sym (services_in-step format before vs i d l ∙ rw e refl) ∙ so
 
 -- a table that has a fault
-pub services_in-fault : (format : Format) (before : List Service) (vs : List Value) (i : ℕ) (d : Value) (f : SettingsFault) (r : Result (List Service) SettingsFault) → i < length vs →
-    services_in format before (items_view (drop i vs)) ≡ r → service_from format (length before) (as_table (view (get_or vs i d))) ≡ Err f → r ≡ Err f
+pub services_in-fault : (format : Format) (before : List Service) (vs : List Value) (i : ℕ) (d : Value) (f : SettingsFault)
+    (r : Result (List Service) SettingsFault) → i < length vs →
+    services_in format before (items_view (drop i vs)) ≡ r →
+    service_from format (length before) (as_table (view (get_or vs i d))) ≡ Err f → r ≡ Err f
 services_in-fault format before vs i d f r l so e = sym so ∙ services_in-step format before vs i d l ∙ rw e refl
 
 table_first : (d : Data) (ds : Items) → is_some (as_table d) && are_tables ds ≡ are_tables (item d ds)
@@ -93,7 +98,8 @@ moved : {X : Type 0} (Q : X → Type 0) (y x : X) → x ≡ y → Q y → Q x
 moved Q y x e h = subst Q (sym e) h
 
 -- a fact of each element's image, at one of them
-pub each-at : {X Y : Type 0} (P : Y → Type 0) (f : X → Y) (xs : List X) (k : ℕ) (x : X) → All P (map f xs) → k < length xs → x ≡ get_or xs k x → P (f x)
+pub each-at : {X Y : Type 0} (P : Y → Type 0) (f : X → Y) (xs : List X) (k : ℕ) (x : X) → All P (map f xs) → k < length xs →
+    x ≡ get_or xs k x → P (f x)
 each-at P f [] k x all l e = absurd (omega arith)
 each-at P f (y ∷ ys) zero x all l e = moved (λ z. P (f z)) y x e (all zero (f x) (omega arith))
 each-at P f (y ∷ ys) (suc k) x all l e = each-at P f ys k x (λ j d m. all (suc j) d (omega arith)) (omega arith) e
@@ -123,7 +129,8 @@ parsed-of text doc e = elim (cases_Bool (is_utf8 text)) [
 ]
 
 -- a document whose settings take memory isn't empty
-pub may-take : (read : Members → Result SettingsRecord SettingsFault) (text : List ℕ) (doc : Members) → (TakesMemory (read no_members) → ⊥) →
+pub may-take : (read : Members → Result SettingsRecord SettingsFault) (text : List ℕ) (doc : Members) →
+    (TakesMemory (read no_members) → ⊥) →
     document text ≡ Some doc → TakesMemory (read doc) → MayTakeMemory text
 may-take read text doc empty e takes =
     let (utf8, parsed) = parsed-of text doc e in

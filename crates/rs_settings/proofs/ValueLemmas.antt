@@ -1,5 +1,6 @@
 -- A table's keys, and names as a test.
-use Rattle.std.proofs.Common.{◌≡◌, ℕ, ◌<◌, ◌≤◌, ◌&&◌, Bool, true, false, nat_le, List, [], ◌∷◌, length, map, cond, Option, Some, None, option_map, unwrap_or, All, string_bytes, refl, ap, arith, inl, inr, zero, suc}
+use Rattle.std.proofs.Common.{◌≡◌, ℕ, ◌<◌, ◌≤◌, ◌&&◌, Bool, true, false, nat_le, List, [], ◌∷◌, length, map, cond, Option, Some, None}
+use Rattle.std.proofs.Common.{option_map, unwrap_or, All, string_bytes, refl, ap, arith, inl, inr, zero, suc}
 use Rattle.std.specs.List.{list_all}
 use Rattle.std.specs.Map.{keys_of}
 use Rattle.std.specs.Option.{is_some, option_and_then}
@@ -15,7 +16,8 @@ use Rattle.rs_settings.specs.Draft.{text_in_value}
 use Rattle.ds_names.proofs.Tests.{none_from}
 
 -- the keys of a table pass a test where those of its members do
-pub keys_pass-view : (test : List ℕ → Bool) (es : List Entry) → list_all (λ k. test (string_bytes k)) (keys_of es) ≡ keys_pass test (members_view es)
+pub keys_pass-view : (test : List ℕ → Bool) (es : List Entry) →
+    list_all (λ k. test (string_bytes k)) (keys_of es) ≡ keys_pass test (members_view es)
 keys_pass-view test [] = refl
 keys_pass-view test (e ∷ es) = ap (λ b. test (string_bytes e.0) && b) (keys_pass-view test es)
 
@@ -54,7 +56,8 @@ name_of-some bytes h = elim (cases_Bool (is_name bytes)) [
   | inr f ↦ (let bad : false ≡ true = rw f at h in absurd (false≢true bad))
 ]
 
-text_of-some : (o : Option (List ℕ)) → is_some (option_and_then name_read o) ≡ true → (option_and_then name_read o ≡ Some (unwrap_or o [])) × IsName (unwrap_or o [])
+text_of-some : (o : Option (List ℕ)) → is_some (option_and_then name_read o) ≡ true →
+    (option_and_then name_read o ≡ Some (unwrap_or o [])) × IsName (unwrap_or o [])
 text_of-some None h = absurd (false≢true h)
 text_of-some (Some s) h = name_of-some s h
 
@@ -62,21 +65,25 @@ pub name_in-text : (v : Value) → is_some (name_in (view v)) ≡ true → (name
 name_in-text v h = text_of-some (as_str (view v)) h
 
 -- the names of values that are all names, and of others
-pub each_of-names : (vs : List Value) → each_of name_in (items_view vs) ≡ cond (list_all (λ v. is_some (name_in (view v))) vs) (Some (map text_in_value vs)) None
+pub each_of-names : (vs : List Value) → each_of name_in (items_view vs) ≡ cond (list_all (λ v. is_some (name_in (view v))) vs)
+    (Some (map text_in_value vs)) None
 each_of-names [] = refl
 each_of-names (v ∷ vs) = elim (cases_Bool (is_some (name_in (view v)))) [
   | inl t ↦ rw ((name_in-text v t).0, each_of-names vs) (by_rest (list_all (λ w. is_some (name_in (view w))) vs))
   | inr f ↦ rw (none_from (name_in (view v)) f) refl
 ]
   where
-    by_rest : (b : Bool) → option_map (λ past. text_in_value v ∷ past) (cond b (Some (map text_in_value vs)) None) ≡ cond b (Some (text_in_value v ∷ map text_in_value vs)) None
+    by_rest : (b : Bool) → option_map (λ past. text_in_value v ∷ past) (cond b (Some (map text_in_value vs)) None) ≡ cond b
+        (Some (text_in_value v ∷ map text_in_value vs)) None
     by_rest true = refl
     by_rest false = refl
 
 pub all-names : (vs : List Value) → list_all (λ v. is_some (name_in (view v))) vs ≡ true → All IsName (map text_in_value vs)
 all-names [] h k d l = absurd (omega arith)
-all-names (v ∷ vs) h zero d l = (name_in-text v (and_parts (is_some (name_in (view v))) (list_all (λ w. is_some (name_in (view w))) vs) h).0).1
-all-names (v ∷ vs) h (suc k) d l = all-names vs (and_parts (is_some (name_in (view v))) (list_all (λ w. is_some (name_in (view w))) vs) h).1 k d (omega arith)
+all-names (v ∷ vs) h zero d l = (name_in-text v
+    (and_parts (is_some (name_in (view v))) (list_all (λ w. is_some (name_in (view w))) vs) h).0).1
+all-names (v ∷ vs) h (suc k) d l = all-names vs
+    (and_parts (is_some (name_in (view v))) (list_all (λ w. is_some (name_in (view w))) vs) h).1 k d (omega arith)
 
 pub names_of-long : (vs : List Value) → 64 < length vs → names_of (items_view vs) ≡ None
 names_of-long vs long =

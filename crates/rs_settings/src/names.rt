@@ -1,6 +1,6 @@
 //! Lists of names that a service may publish.
 
-ghost use Rattle.std.specs.Prelude.{◌≡◌, ◌++◌, ◌∷◌, [], length, slice_get, OnOk, IfErr, OnErr, IfOk};
+ghost use Rattle.std.specs.Prelude.{◌≡◌, ◌≢◌, ◌++◌, ◌∷◌, [], length, slice_get, OnOk, IfErr, OnErr, IfOk};
 ghost use Rattle.std.specs.Option.{option_copied};
 ghost use Rattle.rs_settings.specs.Shared.{has_name};
 
@@ -67,10 +67,14 @@ impl Names {
         false
     }
 
-    /// Returns a copy. Fails only if memory runs out.
+    /// Returns a copy. Fails only if memory runs out; the copy of an empty list takes none.
     pub fn copy(&self, alloc: Global) -> Result<Names, NoRoom>
-        ensures { IfOk result (λ names. names ≡ self.now) }
+        ensures same { IfOk result (λ names. names ≡ self.now) }
+        ensures room { OnErr result (self.now ≢ []) }
     {
+        if self.names.is_empty() {
+            return Ok(Names::new(alloc));
+        }
         Ok(Names {
             names: self.names.as_slice().to_vec(alloc)?,
         })

@@ -1,6 +1,6 @@
 //! Services of the settings.
-ghost use Rattle.std.specs.Prelude.{◌≡◌, IfOk};
-ghost use Rattle.rs_settings.specs.Dealing.{is_declared, is_listed, may_complain, may_connect};
+ghost use Rattle.std.specs.Prelude.{◌≡◌, ◌≢◌, ◌⊎◌, [], IfOk, OnErr};
+ghost use Rattle.rs_settings.specs.Dealing.{HasNames, is_declared, is_listed, may_complain, may_connect};
 
 use crate::class::Class;
 use crate::names::Names;
@@ -57,9 +57,10 @@ impl Service {
         is_listed(true, &self.connects, &other.label)
     }
 
-    /// Returns a copy. Fails only if memory runs out.
+    /// Returns a copy. Fails only if memory runs out; only the names in its lists take memory.
     pub fn copy(&self, alloc: Global) -> Result<Service, NoRoom>
-        ensures { IfOk result (λ service. service ≡ self.now) }
+        ensures same { IfOk result (λ service. service ≡ self.now) }
+        ensures room { OnErr result ((self.now.publishes ≢ []) ⊎ (HasNames self.now.complains ⊎ HasNames self.now.connects)) }
     {
         Ok(Service {
             label: self.label,
@@ -88,7 +89,8 @@ fn is_listed(unlisted: bool, labels: &Option<Names>, label: &Name) -> bool
 
 // Returns a copy of a list, if there is one.
 fn copy_if(alloc: Global, labels: &Option<Names>) -> Result<Option<Names>, NoRoom>
-    ensures { IfOk result (λ copy. copy ≡ labels.now) }
+    ensures same { IfOk result (λ copy. copy ≡ labels.now) }
+    ensures room { OnErr result (HasNames labels.now) }
 {
     match labels {
         Some(labels) => Ok(Some(labels.copy(alloc)?)),

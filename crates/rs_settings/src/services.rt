@@ -1,6 +1,6 @@
 //! Lists of services of the settings.
 
-ghost use Rattle.std.specs.Prelude.{◌≡◌, ◌++◌, ◌∷◌, [], length, slice_get, OnOk, IfErr, OnErr, IfOk};
+ghost use Rattle.std.specs.Prelude.{◌≡◌, ◌≢◌, ◌++◌, ◌∷◌, [], length, slice_get, OnOk, IfErr, OnErr, IfOk};
 ghost use Rattle.std.specs.Option.{option_copied};
 
 use crate::service::Service;
@@ -56,9 +56,10 @@ impl Services {
         self.services.get(index)
     }
 
-    /// Returns a copy, in the same order. Fails only if memory runs out.
+    /// Returns a copy, in the same order. Fails only if memory runs out; the copy of an empty list takes none.
     pub fn copy(&self, alloc: Global) -> Result<Services, NoRoom>
-        ensures { IfOk result (λ services. services ≡ self.now) }
+        ensures same { IfOk result (λ services. services ≡ self.now) }
+        ensures room { OnErr result (self.now ≢ []) }
     {
         let mut services = Vec::new(alloc);
         for service in &self.services {

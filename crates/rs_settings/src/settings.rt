@@ -73,9 +73,10 @@ impl Settings {
         &self.services
     }
 
-    /// Returns a copy. Fails only if memory runs out.
+    /// Returns a copy. Fails only if memory runs out; the copy of settings without a service takes none.
     pub fn copy(&self, alloc: Global) -> Result<Settings, NoRoom>
-        ensures { IfOk result (λ settings. settings ≡ self.now) }
+        ensures same { IfOk result (λ settings. settings ≡ self.now) }
+        ensures room { OnErr result (self.now.services ≢ []) }
     {
         Ok(Settings {
             slots: self.slots,

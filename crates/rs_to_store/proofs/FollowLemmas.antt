@@ -1,5 +1,6 @@
 -- How a driver table follows a map, label by label.
-use Rattle.std.proofs.Common.{◌≡◌, ◌≢◌, ℕ, zero, suc, ◌+◌, ◌≤◌, ◌||◌, Bool, true, false, List, [], ◌∷◌, ◌++◌, length, take, drop, Option, Some, None, Result, Ok, Err, refl, ap, sym, ◌∙◌, subst, inl, inr, arith, append_assoc, append-nil}
+use Rattle.std.proofs.Common.{◌≡◌, ◌≢◌, ℕ, zero, suc, ◌+◌, ◌≤◌, ◌||◌, Bool, true, false, List, [], ◌∷◌, ◌++◌, length, take, drop, Option}
+use Rattle.std.proofs.Common.{Some, None, Result, Ok, Err, refl, ap, sym, ◌∙◌, subst, inl, inr, arith, append_assoc, append-nil}
 use Rattle.std.proofs.Common.{cond}
 use Rattle.std.specs.List.{slice_get, AllByRecursion}
 use Rattle.std.specs.Option.{option_map}
@@ -77,7 +78,8 @@ taking_keeps t label (Some state) = by (changing t label state) (units_kept t la
     by (Err fault, u) k = (refl, refl)
 
 -- some unit has the label at an index
-has_label_at : (units : List (ℕ × Driver)) (index : ℕ) (label : List ℕ) → option_map (λ (u : ℕ × Driver). u.1.label) (slice_get units index) ≡ Some label → has_label units label ≡ true
+has_label_at : (units : List (ℕ × Driver)) (index : ℕ) (label : List ℕ) →
+    option_map (λ (u : ℕ × Driver). u.1.label) (slice_get units index) ≡ Some label → has_label units label ≡ true
 has_label_at [] index label e = absurd (let n : None ≡ Some label = e in cc)
 has_label_at (u ∷ units) zero label e =
     let same : u.1.label ≡ label = (let q : Some u.1.label ≡ Some label = e in cc) in
@@ -92,30 +94,41 @@ has_label_at (u ∷ units) (suc index) label e = by (is_same_name label u.1.labe
 module _ (t : DriverTable) (label : List ℕ) (state : Option EndpointRecord) (has : has_label t.units label ≡ true) where
   -- an old state is refused as OldEndpoint
   old_refused : is_old (newest t.states label) (endpoint_now t.states label) state ≡ true → changing t label state ≡ (Err OldEndpoint, t)
-  old_refused old = ap (λ (b : Bool). changed_so t label state b (is_old (newest t.states label) (endpoint_now t.states label) state) (is_same_state (endpoint_now t.states label) state)) has
+  old_refused old = ap (λ (b : Bool). changed_so t label state b (is_old (newest t.states label) (endpoint_now t.states label) state)
+      (is_same_state (endpoint_now t.states label) state)) has
       ∙ ap (λ (b : Bool). changed_so t label state true b (is_same_state (endpoint_now t.states label) state)) old
 
   -- another state is accepted
-  new_taken : is_old (newest t.states label) (endpoint_now t.states label) state ≡ false → (moves : List Move) × (u : DriverTable) × (changing t label state ≡ (Ok moves, u))
+  new_taken : is_old (newest t.states label) (endpoint_now t.states label) state ≡ false →
+      (moves : List Move) × (u : DriverTable) × (changing t label state ≡ (Ok moves, u))
   new_taken new = (
     _,
     _,
-    ap (λ (b : Bool). changed_so t label state b (is_old (newest t.states label) (endpoint_now t.states label) state) (is_same_state (endpoint_now t.states label) state)) has
+    ap (λ (b : Bool). changed_so t label state b (is_old (newest t.states label) (endpoint_now t.states label) state)
+        (is_same_state (endpoint_now t.states label) state)) has
         ∙ ap (λ (b : Bool). changed_so t label state true b (is_same_state (endpoint_now t.states label) state)) new,
   )
 
 -- ---- follows in sequence
-pub follows_on : (held : List Item) (front back : List (List ℕ)) (t mid u : DriverTable) (done later : List (List Move)) (fault : Option TableFault) → Follows held front t done None mid → Follows held back mid later fault u
+pub follows_on : (held : List Item) (front back : List (List ℕ)) (t mid u : DriverTable) (done later : List (List Move))
+    (fault : Option TableFault) → Follows held front t done None mid → Follows held back mid later fault u
     → Follows held (front ++ back) t (done ++ later) fault u
 follows_on held [] back t mid u done later fault f g =
-    subst (λ (z : List (List Move)). Follows held back t (z ++ later) fault u) (sym f.0) (subst (λ (z : DriverTable). Follows held back z later fault u) f.2 g)
+    subst (λ (z : List (List Move)). Follows held back t (z ++ later) fault u) (sym f.0)
+    (subst (λ (z : DriverTable). Follows held back z later fault u) f.2 g)
 follows_on held (label ∷ front) back t mid u done later fault (inl (rest, e, f)) g =
     let round = (taking t label (news_of held t label)).0 in
-    inl (rest ++ later, ap (λ (z : List (List Move)). z ++ later) e ∙ append_assoc round rest later, follows_on held front back (taking t label (news_of held t label)).1 mid u rest later fault f g)
+    inl (
+      rest ++ later,
+      ap (λ (z : List (List Move)). z ++ later) e ∙
+          append_assoc round rest later,
+      follows_on held front back (taking t label (news_of held t label)).1 mid u rest later fault f g,
+    )
 follows_on held (label ∷ front) back t mid u done later fault (inr ends) g = absurd (let n : None ≡ Some NoRoom = ends.fault_is in cc)
 
 -- one label, followed by its round
-one_label : (held : List Item) (t : DriverTable) (label : List ℕ) → Follows held (label ∷ []) t (taking t label (news_of held t label)).0 None (taking t label (news_of held t label)).1
+one_label : (held : List Item) (t : DriverTable) (label : List ℕ) →
+    Follows held (label ∷ []) t (taking t label (news_of held t label)).0 None (taking t label (news_of held t label)).1
 one_label held t label = inl ([], sym (append-nil _), (refl, refl, refl))
 
 -- ---- the laws
@@ -125,19 +138,33 @@ follows_keep_units held (label ∷ labels) t u rounds fault (inl (later, e, f)) 
     let kept = taking_keeps t label (news_of held t label) in
     let rest = follows_keep_units held labels (taking t label (news_of held t label)).1 u later fault f in
     (rest.0 ∙ kept.0, rest.1 ∙ kept.1)
-follows_keep_units held (label ∷ labels) t u rounds fault (inr ends) = (ap (λ (x : DriverTable). x.units) ends.table_is, ap (λ (x : DriverTable). x.requests) ends.table_is)
+follows_keep_units held (label ∷ labels) t u rounds fault (inr ends) =
+    (ap (λ (x : DriverTable). x.units) ends.table_is, ap (λ (x : DriverTable). x.requests) ends.table_is)
 
-more_labels : (label : List ℕ) (labels : List (List ℕ)) (entries : List Entry) → AllByRecursion (IsOfLabels labels) entries → AllByRecursion (IsOfLabels (label ∷ labels)) entries
+more_labels : (label : List ℕ) (labels : List (List ℕ)) (entries : List Entry) → AllByRecursion (IsOfLabels labels) entries →
+    AllByRecursion (IsOfLabels (label ∷ labels)) entries
 more_labels label labels [] all = tt
-more_labels label labels (entry ∷ entries) ((name, state, there, is), all) = ((name, state, Contains-tail label labels name there, is), more_labels label labels entries all)
+more_labels label labels (entry ∷ entries) ((name, state, there, is), all) =
+    ((name, state, Contains-tail label labels name there, is), more_labels label labels entries all)
 
 -- a label that is passed over, and one with a round, before a run
-before_run : (label : List ℕ) (labels : List (List ℕ)) (t u : DriverTable) (state : Option EndpointRecord) (later : List (List Move)) (out : Result (List Move) TableFault × DriverTable) → changing t label state ≡ out
+before_run : (label : List ℕ) (labels : List (List ℕ)) (t u : DriverTable) (state : Option EndpointRecord) (later : List (List Move))
+    (out : Result (List Move) TableFault × DriverTable) → changing t label state ≡ out
     → IsRunOf labels (as_round t out).1 later u → IsRunOf (label ∷ labels) t ((as_round t out).0 ++ later) u
-before_run label labels t u state later (Err fault, mid) is r = record { entries = r.entries; run = r.run; rounds_are = r.rounds_are; of_labels = more_labels label labels r.entries r.of_labels }
+before_run label labels t u state later (Err fault, mid) is r =
+    record { entries = r.entries; run = r.run; rounds_are = r.rounds_are; of_labels = more_labels label labels r.entries r.of_labels }
 before_run label labels t u state later (Ok moves, mid) is r = record {
   entries = entry ∷ r.entries;
-  run = (mid, record { answer_is = sym (ap (λ (p : Result (List Move) TableFault × DriverTable). p.0) is); after = sym (ap (λ (p : Result (List Move) TableFault × DriverTable). p.1) is); unchanged = tt }, r.run);
+  run = (
+    mid,
+    record {
+      answer_is = sym (ap (λ (p : Result (List Move) TableFault × DriverTable). p.0) is);
+      after =
+          sym (ap (λ (p : Result (List Move) TableFault × DriverTable). p.1) is);
+      unchanged = tt;
+    },
+    r.run,
+  );
   rounds_are = ap (λ (z : List (List Move)). moves ∷ z) r.rounds_are;
   of_labels = ((label, state, Contains-head label labels, refl), more_labels label labels r.entries r.of_labels);
 }
@@ -148,12 +175,16 @@ before_run label labels t u state later (Ok moves, mid) is r = record {
 pub follows_are_runs : FollowsAreRuns
 follows_are_runs held [] t u rounds fault f = record { entries = []; run = sym f.2; rounds_are = f.0; of_labels = tt }
 follows_are_runs held (label ∷ labels) t u rounds fault (inl (later, e, f)) =
-    subst (λ (z : List (List Move)). IsRunOf (label ∷ labels) t z u) (sym e) (by (news_of held t label) (follows_are_runs held labels (taking t label (news_of held t label)).1 u later fault f))
+    subst (λ (z : List (List Move)). IsRunOf (label ∷ labels) t z u) (sym e)
+    (by (news_of held t label) (follows_are_runs held labels (taking t label (news_of held t label)).1 u later fault f))
   where
-    by : (news : Option (Option EndpointRecord)) → IsRunOf labels (taking t label news).1 later u → IsRunOf (label ∷ labels) t ((taking t label news).0 ++ later) u
-    by None r = record { entries = r.entries; run = r.run; rounds_are = r.rounds_are; of_labels = more_labels label labels r.entries r.of_labels }
+    by : (news : Option (Option EndpointRecord)) → IsRunOf labels (taking t label news).1 later u →
+        IsRunOf (label ∷ labels) t ((taking t label news).0 ++ later) u
+    by None r =
+        record { entries = r.entries; run = r.run; rounds_are = r.rounds_are; of_labels = more_labels label labels r.entries r.of_labels }
     by (Some state) r = before_run label labels t u state later (changing t label state) refl r
-follows_are_runs held (label ∷ labels) t u rounds fault (inr ends) = record { entries = []; run = sym ends.table_is; rounds_are = ends.rounds_are; of_labels = tt }
+follows_are_runs held (label ∷ labels) t u rounds fault (inr ends) =
+    record { entries = []; run = sym ends.table_is; rounds_are = ends.rounds_are; of_labels = tt }
 
 pub follows_end_for_room : FollowsEndForRoom
 follows_end_for_room held [] t u rounds fault f = absurd (let n : Some fault ≡ None = f.1 in cc)
@@ -191,7 +222,8 @@ told_so c newest = ap (λ (b : Bool). cond b None (Some (endpoint_in c.body))) (
 
 -- ---- the walk
 -- the labels before the index were followed, with their rounds appended, to a table that the value stands for now
-pub record Walked (held : List Item) (t : DriverTable) (before : List (List Move)) (index : ℕ) (now : TableRecord) (rounds : List (List Move)) : Type 0 where
+pub record Walked (held : List Item) (t : DriverTable) (before : List (List Move)) (index : ℕ) (now : TableRecord)
+    (rounds : List (List Move)) : Type 0 where
   pub at : DriverTable
   pub done : List (List Move)
   pub rounds_are : rounds ≡ before ++ done
@@ -203,25 +235,36 @@ AllWalked held old before index now rounds = (t : DriverTable) → TableStands o
 
 -- the result of the walk
 abbrev pub Reaches : List Item → DriverTable → List (List Move) → TableRecord → List (List Move) → Option TableFault → Type 0
-Reaches held t before now rounds fault = (u : DriverTable) × (later : List (List Move)) × (rounds ≡ before ++ later) × Follows held (labels_of t) t later fault u × TableStands now u
+Reaches held t before now rounds fault = (u : DriverTable) × (later : List (List Move)) × (rounds ≡ before ++ later) ×
+    Follows held (labels_of t) t later fault u × TableStands now u
 
 pub walk_begins : (held : List Item) (old : TableRecord) (before : List (List Move)) → AllWalked held old before 0 old before
-walk_begins held old before t st = record { at = t; done = []; rounds_are = sym (append-nil before); followed = (refl, refl, refl); stands = st }
+walk_begins held old before t st =
+    record { at = t; done = []; rounds_are = sym (append-nil before); followed = (refl, refl, refl); stands = st }
 
-module _ (held : List Item) (t : DriverTable) (before : List (List Move)) (index : ℕ) (now : TableRecord) (rounds : List (List Move)) (w : Walked held t before index now rounds) where
+module _ (held : List Item) (t : DriverTable) (before : List (List Move)) (index : ℕ) (now : TableRecord) (rounds : List (List Move))
+    (w : Walked held t before index now rounds) where
   pub units_still : w.at.units ≡ t.units
   units_still = (follows_keep_units held (take index (labels_of t)) t w.at w.done None w.followed).0
 
   -- the walk ends: all labels were followed
   pub walk_ends : length t.units ≤ index → Reaches held t before now rounds None
-  walk_ends l = (w.at, w.done, w.rounds_are, subst (λ (z : List (List ℕ)). Follows held z t w.done None w.at) (take_all index (labels_of t) many) w.followed, w.stands)
+  walk_ends l = (
+    w.at,
+    w.done,
+    w.rounds_are,
+    subst (λ (z : List (List ℕ)). Follows held z t w.done None w.at) (take_all index (labels_of t) many)
+        w.followed,
+    w.stands,
+  )
     where
       many : length (labels_of t) ≤ index
       many = let e : length (labels_of t) ≡ length t.units = length-map t.units (λ (u : ℕ × Driver). u.1.label) in omega arith
 
   -- no label is at the index
   pub none_there : None ≡ option_map (λ (u : ℕ × Driver). u.1.label) (slice_get w.at.units index) → length t.units ≤ index
-  none_there e = past t.units index (sym (ap (λ (l : List (ℕ × Driver)). option_map (λ (u : ℕ × Driver). u.1.label) (slice_get l index)) (sym units_still) ∙ sym e))
+  none_there e = past t.units index (sym (ap (λ (l : List (ℕ × Driver)). option_map (λ (u : ℕ × Driver). u.1.label) (slice_get l index))
+      (sym units_still) ∙ sym e))
     where
       past : (units : List (ℕ × Driver)) (i : ℕ) → None ≡ option_map (λ (u : ℕ × Driver). u.1.label) (slice_get units i) → length units ≤ i
       past [] i q = omega arith
@@ -233,19 +276,24 @@ module _ (held : List Item) (t : DriverTable) (before : List (List Move)) (index
     news = news_of held w.at label
 
     there : slice_get (labels_of t) index ≡ Some label
-    there = slice_get-map (λ (u : ℕ × Driver). u.1.label) t.units index ∙ (ap (λ (l : List (ℕ × Driver)). option_map (λ (u : ℕ × Driver). u.1.label) (slice_get l index)) (sym units_still) ∙ sym at)
+    there = slice_get-map (λ (u : ℕ × Driver). u.1.label) t.units index ∙
+        (ap (λ (l : List (ℕ × Driver)). option_map (λ (u : ℕ × Driver). u.1.label) (slice_get l index)) (sym units_still) ∙ sym at)
 
     has : has_label w.at.units label ≡ true
     has = has_label_at w.at.units index label (sym at)
 
     -- the walk continues after the label's round
-    goes_on : (next : TableRecord) (after : List (List Move)) → after ≡ rounds ++ (taking w.at label news).0 → TableStands next (taking w.at label news).1 → Walked held t before (index + 1) next after
+    goes_on : (next : TableRecord) (after : List (List Move)) → after ≡ rounds ++ (taking w.at label news).0 →
+        TableStands next (taking w.at label news).1 → Walked held t before (index + 1) next after
     goes_on next after e st = record {
       at = (taking w.at label news).1;
       done = w.done ++ (taking w.at label news).0;
-      rounds_are = e ∙ (ap (λ (z : List (List Move)). z ++ (taking w.at label news).0) w.rounds_are ∙ append_assoc before w.done (taking w.at label news).0);
-      followed = subst (λ (z : List (List ℕ)). Follows held z t (w.done ++ (taking w.at label news).0) None (taking w.at label news).1) (sym (take_at_get (labels_of t) index label there))
-          (follows_on held (take index (labels_of t)) (label ∷ []) t w.at (taking w.at label news).1 w.done (taking w.at label news).0 None w.followed (one_label held w.at label));
+      rounds_are = e ∙ (ap (λ (z : List (List Move)). z ++ (taking w.at label news).0) w.rounds_are ∙
+          append_assoc before w.done (taking w.at label news).0);
+      followed = subst (λ (z : List (List ℕ)). Follows held z t (w.done ++ (taking w.at label news).0) None (taking w.at label news).1)
+          (sym (take_at_get (labels_of t) index label there))
+          (follows_on held (take index (labels_of t)) (label ∷ []) t w.at (taking w.at label news).1 w.done (taking w.at label news).0 None
+          w.followed (one_label held w.at label));
       stands = st;
     }
 
@@ -255,16 +303,21 @@ module _ (held : List Item) (t : DriverTable) (before : List (List Move)) (index
       w.at,
       w.done,
       w.rounds_are,
-      subst (λ (z : List (List ℕ)). Follows held z t w.done (Some NoRoom) w.at) (ap (λ (z : List (List ℕ)). take index (labels_of t) ++ z) (sym (drop_at_get (labels_of t) index label there)) ∙ take-append-drop index (labels_of t))
-          (subst (λ (z : List (List Move)). Follows held (take index (labels_of t) ++ label ∷ drop (index + 1) (labels_of t)) t z (Some NoRoom) w.at) (append-nil w.done)
-          (follows_on held (take index (labels_of t)) (label ∷ drop (index + 1) (labels_of t)) t w.at w.at w.done [] (Some NoRoom) w.followed (inr (record { some = some; rounds_are = refl; fault_is = refl; table_is = refl })))),
+      subst (λ (z : List (List ℕ)). Follows held z t w.done (Some NoRoom) w.at)
+          (ap (λ (z : List (List ℕ)). take index (labels_of t) ++ z) (sym (drop_at_get (labels_of t) index label there)) ∙
+          take-append-drop index (labels_of t))
+          (subst (λ (z : List (List Move)). Follows held (take index (labels_of t) ++ label ∷ drop (index + 1) (labels_of t)) t z
+          (Some NoRoom) w.at) (append-nil w.done)
+          (follows_on held (take index (labels_of t)) (label ∷ drop (index + 1) (labels_of t)) t w.at w.at w.done [] (Some NoRoom)
+          w.followed (inr (record { some = some; rounds_are = refl; fault_is = refl; table_is = refl })))),
       w.stands,
     )
 
     -- ---- the same, by what the code has
     module _ (r : Option (Option EndpointRecord)) (is : r ≡ news) where
       pub nothing_told : r ≡ None → Walked held t before (index + 1) now rounds
-      nothing_told e = goes_on now rounds (sym (append-nil rounds) ∙ ap (λ (n : Option (Option EndpointRecord)). rounds ++ (taking w.at label n).0) none)
+      nothing_told e = goes_on now rounds (sym (append-nil rounds) ∙
+          ap (λ (n : Option (Option EndpointRecord)). rounds ++ (taking w.at label n).0) none)
           (subst (λ (n : Option (Option EndpointRecord)). TableStands now (taking w.at label n).1) none w.stands)
         where
           none : None ≡ news
@@ -274,25 +327,32 @@ module _ (held : List Item) (t : DriverTable) (before : List (List Move)) (index
         some : Some state ≡ news
         some = sym e ∙ is
 
-        by_answer : (out : Result (List Move) TableFault × DriverTable) → changing w.at label state ≡ out → as_round w.at out ≡ taking w.at label news
+        by_answer : (out : Result (List Move) TableFault × DriverTable) → changing w.at label state ≡ out →
+            as_round w.at out ≡ taking w.at label news
         by_answer out q = ap (as_round w.at) (sym q) ∙ ap (taking w.at label) some
 
         -- an old state is passed over
-        pub old_passed : (next : TableRecord) (after : List (List Move)) → next ≡ now → after ≡ rounds → Err OldEndpoint ≡ (changing w.at label state).0 → Walked held t before (index + 1) next after
+        pub old_passed : (next : TableRecord) (after : List (List Move)) → next ≡ now → after ≡ rounds →
+            Err OldEndpoint ≡ (changing w.at label state).0 → Walked held t before (index + 1) next after
         old_passed next after v e a = by (changing w.at label state) refl a
           where
-            by : (out : Result (List Move) TableFault × DriverTable) → changing w.at label state ≡ out → Err OldEndpoint ≡ out.0 → Walked held t before (index + 1) next after
+            by : (out : Result (List Move) TableFault × DriverTable) → changing w.at label state ≡ out → Err OldEndpoint ≡ out.0 →
+                Walked held t before (index + 1) next after
             by (Ok moves, u) q a = absurd (let n : Err OldEndpoint ≡ Ok moves = a in cc)
             by (Err fault, u) q a =
                 let p = by_answer (Err fault, u) q in
                 goes_on next after (e ∙ (sym (append-nil rounds) ∙ ap (λ (p : List (List Move) × DriverTable). rounds ++ p.0) p))
-                (subst (λ (p : List (List Move) × DriverTable). TableStands next p.1) p (subst (λ (x : TableRecord). TableStands x w.at) (sym v) w.stands))
+                (subst (λ (p : List (List Move) × DriverTable). TableStands next p.1) p
+                (subst (λ (x : TableRecord). TableStands x w.at) (sym v) w.stands))
 
-        pub old_told : true ≡ is_old (newest w.at.states label) (endpoint_now w.at.states label) state → Walked held t before (index + 1) now rounds
-        old_told old = old_passed now rounds refl refl (sym (ap (λ (p : Result (List Move) TableFault × DriverTable). p.0) (old_refused w.at label state has (sym old))))
+        pub old_told : true ≡ is_old (newest w.at.states label) (endpoint_now w.at.states label) state →
+            Walked held t before (index + 1) now rounds
+        old_told old = old_passed now rounds refl refl
+            (sym (ap (λ (p : Result (List Move) TableFault × DriverTable). p.0) (old_refused w.at label state has (sym old))))
 
         -- a state that is refused for another cause isn't old
-        not_old : (fault : TableFault) → fault ≢ OldEndpoint → IsAnswer (changing w.at label state).0 (Err fault) → false ≡ is_old (newest w.at.states label) (endpoint_now w.at.states label) state
+        not_old : (fault : TableFault) → fault ≢ OldEndpoint → IsAnswer (changing w.at label state).0 (Err fault) →
+            false ≡ is_old (newest w.at.states label) (endpoint_now w.at.states label) state
         not_old fault other a = by (is_old (newest w.at.states label) (endpoint_now w.at.states label) state) refl
           where
             no : (f : TableFault) → f ≢ OldEndpoint → IsAnswer {A = List Move} (Err OldEndpoint) (Err f) → ⊥
@@ -303,20 +363,27 @@ module _ (held : List Item) (t : DriverTable) (before : List (List Move)) (index
             no faults.NoDevice n h = cc
             no faults.NotPending n h = cc
 
-            by : (o : Bool) → is_old (newest w.at.states label) (endpoint_now w.at.states label) state ≡ o → false ≡ is_old (newest w.at.states label) (endpoint_now w.at.states label) state
+            by : (o : Bool) → is_old (newest w.at.states label) (endpoint_now w.at.states label) state ≡ o →
+                false ≡ is_old (newest w.at.states label) (endpoint_now w.at.states label) state
             by false e = sym e
-            by true e = absurd (no fault other (subst (λ (p : Result (List Move) TableFault × DriverTable). IsAnswer p.0 (Err fault)) (old_refused w.at label state has e) a))
+            by true e = absurd (no fault other (subst (λ (p : Result (List Move) TableFault × DriverTable). IsAnswer p.0 (Err fault))
+                (old_refused w.at label state has e) a))
 
-        pub state_taken : (moves : List Move) (next : TableRecord) (after : List (List Move)) → IsAnswer (changing w.at label state).0 (Ok moves) → TableStands next (changing w.at label state).1 → after ≡ rounds ++ moves ∷ []
+        pub state_taken : (moves : List Move) (next : TableRecord) (after : List (List Move)) →
+            IsAnswer (changing w.at label state).0 (Ok moves) → TableStands next (changing w.at label state).1 →
+            after ≡ rounds ++ moves ∷ []
             → Walked held t before (index + 1) next after
         state_taken moves next after a st f = by (changing w.at label state) refl a st
           where
-            by : (out : Result (List Move) TableFault × DriverTable) → changing w.at label state ≡ out → IsAnswer out.0 (Ok moves) → TableStands next out.1 → Walked held t before (index + 1) next after
+            by : (out : Result (List Move) TableFault × DriverTable) → changing w.at label state ≡ out → IsAnswer out.0 (Ok moves) →
+                TableStands next out.1 → Walked held t before (index + 1) next after
             by (Err fault, u) q a st = absurd (cc)
             by (Ok other, u) q a st =
                 let same : moves ≡ other = (let n : Ok moves ≡ Ok other = a in cc) in
                 let p = by_answer (Ok other, u) q in
-                goes_on next after (f ∙ (ap (λ (m : List Move). rounds ++ m ∷ []) same ∙ ap (λ (p : List (List Move) × DriverTable). rounds ++ p.0) p)) (subst (λ (p : List (List Move) × DriverTable). TableStands next p.1) p st)
+                goes_on next after (f ∙ (ap (λ (m : List Move). rounds ++ m ∷ []) same ∙
+                ap (λ (p : List (List Move) × DriverTable). rounds ++ p.0) p))
+                (subst (λ (p : List (List Move) × DriverTable). TableStands next p.1) p st)
 
         -- ---- a state that isn't old
         module _ (new : false ≡ is_old (newest w.at.states label) (endpoint_now w.at.states label) state) where
@@ -324,12 +391,15 @@ module _ (held : List Item) (t : DriverTable) (before : List (List Move)) (index
           taken = new_taken w.at label state has (sym new)
 
           -- memory ran out for the state
-          pub wants_room : (next : TableRecord) (after : List (List Move)) (fault : TableFault) → next ≡ now → after ≡ rounds → fault ≡ NoRoom → Reaches held t before next after (Some fault)
-          wants_room next after fault v e f = subst (λ (x : TableFault). Reaches held t before next after (Some x)) (sym f) (subst (λ (x : List (List Move)). Reaches held t before next x (Some NoRoom)) (sym e)
+          pub wants_room : (next : TableRecord) (after : List (List Move)) (fault : TableFault) → next ≡ now → after ≡ rounds →
+              fault ≡ NoRoom → Reaches held t before next after (Some fault)
+          wants_room next after fault v e f = subst (λ (x : TableFault). Reaches held t before next after (Some x)) (sym f)
+              (subst (λ (x : List (List Move)). Reaches held t before next x (Some NoRoom)) (sym e)
               (subst (λ (x : TableRecord). Reaches held t before x rounds (Some NoRoom)) (sym v) (stops round)))
             where
               round : (taking w.at label news).0 ≢ []
-              round = subst (λ (p : List (List Move) × DriverTable). p.0 ≢ []) (by_answer (Ok taken.0, taken.1) taken.2) (λ n. absurd (let k : taken.0 ∷ [] ≡ [] = n in cc))
+              round = subst (λ (p : List (List Move) × DriverTable). p.0 ≢ []) (by_answer (Ok taken.0, taken.1) taken.2)
+                  (λ n. absurd (let k : taken.0 ∷ [] ≡ [] = n in cc))
 
           -- no other fault is possible
           only_room : (fault : TableFault) → IsAnswer (changing w.at label state).0 (Err fault) → fault ≡ NoRoom
@@ -344,6 +414,8 @@ module _ (held : List Item) (t : DriverTable) (before : List (List Move)) (index
               by faults.NotPending h = absurd (cc)
 
         -- the table refused the state
-        pub refused : (next : TableRecord) (after : List (List Move)) (fault : TableFault) → next ≡ now → after ≡ rounds → fault ≢ OldEndpoint → IsAnswer (changing w.at label state).0 (Err fault)
+        pub refused : (next : TableRecord) (after : List (List Move)) (fault : TableFault) → next ≡ now → after ≡ rounds →
+            fault ≢ OldEndpoint → IsAnswer (changing w.at label state).0 (Err fault)
             → Reaches held t before next after (Some fault)
-        refused next after fault v e other a = let new = not_old fault other a in wants_room new next after fault v e (only_room new fault a)
+        refused next after fault v e other a = let new = not_old fault other a in
+            wants_room new next after fault v e (only_room new fault a)

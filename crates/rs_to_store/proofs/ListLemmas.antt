@@ -9,4 +9,5 @@ less_taken xs i = let e : length (take i xs) ≡ min i (length xs) = length-take
 
 -- the elements before an index, and the one at it
 pub next_taken : {X : Type 0} (xs : List X) (i : ℕ) (x : X) → slice_get xs i ≡ Some x → take i xs ++ x ∷ [] ≡ take (i + 1) xs
-next_taken {X} xs i x e = sym (take_more xs i x (slice_get_within xs i x e) ∙ ap (λ (y : X). take i xs ++ y ∷ []) (get_or_from_slice_get xs i x x e))
+next_taken {X} xs i x e = sym (take_more xs i x (slice_get_within xs i x e) ∙
+    ap (λ (y : X). take i xs ++ y ∷ []) (get_or_from_slice_get xs i x x e))

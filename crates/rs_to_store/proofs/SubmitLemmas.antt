@@ -18,14 +18,18 @@ use Rattle.rs_to_store.proofs.ListLemmas.{next_taken}
 pub ended_before : (held : List Item) (id unit : ℕ) (old new : TableRecord) (before after : List (List Move)) (fault : TableFault)
     → HasFollowed held old new before after (Some fault) → FollowedAndTaken held id unit old new before after (Err fault)
 ended_before held id unit old new before after fault followed t stands =
-    let f = followed t stands in (f.0, f.1, f.2, record { mid = f.0; stop = Some fault; follows = f.3; takes = (refl, refl); room = tt }, f.4)
+    let f = followed t stands in
+    (f.0, f.1, f.2, record { mid = f.0; stop = Some fault; follows = f.3; takes = (refl, refl); room = tt }, f.4)
 
-pub taken_after : (held : List Item) (id unit : ℕ) (old mid new : TableRecord) (before after : List (List Move)) (own : Result (List Move) TableFault) → HasFollowed held old mid before after None
+pub taken_after : (held : List Item) (id unit : ℕ) (old mid new : TableRecord) (before after : List (List Move))
+    (own : Result (List Move) TableFault) → HasFollowed held old mid before after None
     → ((t : DriverTable) → TableStands mid t → (u : DriverTable) × TableStep t (Submit id unit) own u × TableStands new u)
-    → ((t : DriverTable) → TableStands mid t → LacksOnlyWhere (RequestTakesMemory t id unit) own) → FollowedAndTaken held id unit old new before after own
+    → ((t : DriverTable) → TableStands mid t → LacksOnlyWhere (RequestTakesMemory t id unit) own) →
+    FollowedAndTaken held id unit old new before after own
 taken_after held id unit old mid new before after own followed takes lacks t stands =
     let f = followed t stands in
-    let done = takes f.0 f.4 in (done.0, f.1, f.2, record { mid = f.0; stop = None; follows = f.3; takes = done.1; room = lacks f.0 f.4 }, done.2)
+    let done = takes f.0 f.4 in
+    (done.0, f.1, f.2, record { mid = f.0; stop = None; follows = f.3; takes = done.1; room = lacks f.0 f.4 }, done.2)
 
 -- memory ran out for a move only where it does for the list of it
 pub one_lacks : (takes : Type 0) (answer : Result Move TableFault) → LacksOnlyWhere takes answer → LacksOnlyWhere takes (one_move answer)
@@ -38,6 +42,8 @@ one_lacks takes (Err NotPending) h = tt
 one_lacks takes (Err OldEndpoint) h = tt
 
 -- one more round
-pub all_more : (rounds : List (List Move)) (i : ℕ) (round : List Move) → slice_get rounds i ≡ Some round → all_in (take (i + 1) rounds) ≡ all_in (take i rounds) ++ round
+pub all_more : (rounds : List (List Move)) (i : ℕ) (round : List Move) → slice_get rounds i ≡ Some round →
+    all_in (take (i + 1) rounds) ≡ all_in (take i rounds) ++ round
 all_more rounds i round at =
-    ap all_in (sym (next_taken rounds i round at)) ∙ flat_map-append (λ (l : List Move). l) (take i rounds) (round ∷ []) ∙ ap (λ (l : List Move). all_in (take i rounds) ++ l) (append-nil round)
+    ap all_in (sym (next_taken rounds i round at)) ∙ flat_map-append (λ (l : List Move). l) (take i rounds) (round ∷ []) ∙
+    ap (λ (l : List Move). all_in (take i rounds) ++ l) (append-nil round)

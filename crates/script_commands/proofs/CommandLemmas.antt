@@ -1,6 +1,7 @@
 -- A command's line: its word, and what follows it.
 use Rattle.std.specs.Prelude.{◌==◌, ◌&&◌, if◌then◌else◌}
-use Rattle.std.proofs.Common.{◌≡◌, ◌≢◌, ℕ, suc, ◌+◌, ◌-◌, ◌≤◌, Bool, true, false, List, [], ◌∷◌, ◌++◌, length, refl, sym, ap, subst, ◌∙◌, arith, append_assoc, append-nil, length-append}
+use Rattle.std.proofs.Common.{◌≡◌, ◌≢◌, ℕ, suc, ◌+◌, ◌-◌, ◌≤◌, Bool, true, false, List, [], ◌∷◌, ◌++◌, length, refl, sym, ap, subst, ◌∙◌}
+use Rattle.std.proofs.Common.{arith, append_assoc, append-nil, length-append}
 use Rattle.std.specs.List.{All, list_all}
 use Rattle.std.specs.Char.{is_ascii_alphanumeric}
 use Rattle.std.proofs.lemmas.List.Elements.{All-head, All-tail}
@@ -76,7 +77,8 @@ command_ends command is =
 -- ---- the line can't be read
 
 -- no command's word is at the front
-pub unknown_word : (line : List ℕ) → ((w : CommandWord) (rest : List ℕ) → ¬ Begins is_ascii_alphanumeric line (text_of w) rest) → IsCommandFault line 0
+pub unknown_word : (line : List ℕ) → ((w : CommandWord) (rest : List ℕ) → ¬ Begins is_ascii_alphanumeric line (text_of w) rest) →
+    IsCommandFault line 0
 unknown_word line other =
     record {
       none = λ command can text. other (command_word command) (texts (after_word command)) (word_begins command line text);
@@ -160,7 +162,8 @@ whole_line line rest after w command ends begins found =
     let is = stand_texts (after_word command) rest after found.front in
     let last = after_ends command found.can.0 in
     let spread : line ≡ (word ++ last.front) ++ 10 ∷ after =
-    begins.parts ∙ ap (λ (t : List ℕ). word ++ t) (is ∙ ap (λ (t : List ℕ). t ++ after) last.parts ∙ append_assoc last.front (10 ∷ []) after)
+    begins.parts ∙ ap (λ (t : List ℕ). word ++ t)
+    (is ∙ ap (λ (t : List ℕ). t ++ after) last.parts ∙ append_assoc last.front (10 ∷ []) after)
     ∙ sym (append_assoc word last.front (10 ∷ after)) in
     let none : after ≡ [] = one_newline (word ++ last.front) after ends.front ends.none (sym ends.parts ∙ spread) in
     let all = texts (after_word command) in (

@@ -70,33 +70,41 @@ device_server_stops stop bytes room s =
     view_stops served a_device device_view stop bytes (first_stops a_server device_rest 2 stop bytes server_fixed device_goes room s)
 
 -- what has to follow a server is missing
-after_server : (server : Server) (stop : PartFault) (bytes r : List ℕ) → Found a_server server bytes r → StopsIn (device_rest server) stop r → StopsIn a_device stop bytes
+after_server : (server : Server) (stop : PartFault) (bytes r : List ℕ) → Found a_server server bytes r →
+    StopsIn (device_rest server) stop r → StopsIn a_device stop bytes
 after_server server stop bytes r found s =
-    view_stops served a_device device_view stop bytes (then_stops a_server device_rest 2 stop server bytes r server_fixed server_one found s)
+    view_stops served a_device device_view stop bytes
+    (then_stops a_server device_rest 2 stop server bytes r server_fixed server_one found s)
 
 -- the major number is missing
-pub device_major_stops : (stop : PartFault) (bytes r : List ℕ) → Found a_server File bytes r → stop ≢ NoRoom → StopsIn a_unit stop r → StopsIn a_device stop bytes
+pub device_major_stops : (stop : PartFault) (bytes r : List ℕ) → Found a_server File bytes r → stop ≢ NoRoom → StopsIn a_unit stop r →
+    StopsIn a_device stop bytes
 device_major_stops stop bytes r found room s =
     after_server File stop bytes r found (first_stops a_unit (λ _. a_class) 2 stop r unit_fixed (λ n can. (Block, tt)) room s)
 
 -- the class is missing
-pub device_class_stops : (major : ℕ) (stop : PartFault) (bytes r t : List ℕ) → Found a_server File bytes r → Found a_unit major r t → StopsIn a_class stop t → StopsIn a_device stop bytes
+pub device_class_stops : (major : ℕ) (stop : PartFault) (bytes r t : List ℕ) → Found a_server File bytes r → Found a_unit major r t →
+    StopsIn a_class stop t → StopsIn a_device stop bytes
 device_class_stops major stop bytes r t found number s =
     after_server File stop bytes r found (then_stops a_unit (λ _. a_class) 2 stop major r t unit_fixed unit_one number s)
 
 -- the port is missing
-pub device_port_stops : (stop : PartFault) (bytes r : List ℕ) → Found a_server Net bytes r → StopsIn a_unit stop r → StopsIn a_device stop bytes
+pub device_port_stops : (stop : PartFault) (bytes r : List ℕ) → Found a_server Net bytes r → StopsIn a_unit stop r →
+    StopsIn a_device stop bytes
 device_port_stops stop bytes r found s = after_server Net stop bytes r found s
 
 -- ---- a device is read
 
-pub device_file_found : (major : ℕ) (class : FileClass) (bytes r t rest : List ℕ) → Found a_server File bytes r → Found a_unit major r t → Found a_class class t rest → Found a_device (devices.File major class) bytes rest
+pub device_file_found : (major : ℕ) (class : FileClass) (bytes r t rest : List ℕ) → Found a_server File bytes r → Found a_unit major r t →
+    Found a_class class t rest → Found a_device (devices.File major class) bytes rest
 unfolding device_of
 device_file_found major class bytes r t rest server number f =
     view_found served a_device device_view (File, (major, class)) bytes rest
-    (both_found a_server device_rest File (major, class) bytes r rest server (both_found a_unit (λ _. a_class) major class r t rest number f))
+    (both_found a_server device_rest File (major, class) bytes r rest server
+    (both_found a_unit (λ _. a_class) major class r t rest number f))
 
-pub device_net_found : (port : ℕ) (bytes r rest : List ℕ) → Found a_server Net bytes r → Found a_unit port r rest → Found a_device (devices.Net port) bytes rest
+pub device_net_found : (port : ℕ) (bytes r rest : List ℕ) → Found a_server Net bytes r → Found a_unit port r rest →
+    Found a_device (devices.Net port) bytes rest
 unfolding device_of
 device_net_found port bytes r rest server number =
     view_found served a_device device_view (Net, port) bytes rest (both_found a_server device_rest Net port bytes r rest server number)
@@ -113,7 +121,8 @@ no_two : (bytes r s : List ℕ) → Found a_server Net bytes r → ¬ Found a_se
 no_two bytes r s net file = let same : File ≡ Net = (server_one Net File bytes r s net file).0 in absurd (cc)
 
 devices_apart : (a b : Device) (bytes r after : List ℕ) → Found a_device a bytes r → IsDevice b
-    → length (space ∷ device_parts a) < length (space ∷ device_parts b) → Stand (suc (length (space ∷ device_parts a))) (space ∷ device_parts b) bytes after → ⊥
+    → length (space ∷ device_parts a) < length (space ∷ device_parts b) →
+    Stand (suc (length (space ∷ device_parts a))) (space ∷ device_parts b) bytes after → ⊥
 devices_apart (devices.File major class) (devices.File other kind) bytes r after f can lt h = omega (arith, lt)
 devices_apart (devices.File major class) (devices.Net port) bytes r after f can lt h = omega (arith, lt)
 devices_apart (devices.Net port) (devices.Net other) bytes r after f can lt h = omega (arith, lt)

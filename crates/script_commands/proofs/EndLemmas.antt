@@ -16,7 +16,8 @@ use Rattle.line_io.specs.Lines.{EndsLine}
 use Rattle.ds_line.proofs.QuoteLemmas.{shape}
 use Rattle.ds_line.proofs.OpeningLemmas.{word_is_word}
 use Rattle.ds_line.proofs.ItemLemmas.{item_ends}
-use Rattle.ds_line.proofs.NewlineLemmas.{Unbroken, unbroken_endpoint, unbroken_name, unbroken_decimal, unbroken_one, unbroken_run, unbroken_value, ends_then, ends_after_space, newline_ends}
+use Rattle.ds_line.proofs.NewlineLemmas.{Unbroken, unbroken_endpoint, unbroken_name, unbroken_decimal, unbroken_one, unbroken_run}
+use Rattle.ds_line.proofs.NewlineLemmas.{unbroken_value, ends_then, ends_after_space, newline_ends}
 use Rattle.ds_machine.specs.declared.command.Scope.{Scope}
 use Rattle.ds_machine.specs.declared.command.Scope.TheVariants.{All as AllKeys, Under}
 use Rattle.ds_replica.specs.declared.event.Holder.{Holder}
@@ -109,8 +110,13 @@ scope_unbroken (Under q) can = (blank, (unbroken_quoted q.text can.text, number 
 
 range_unbroken : (after : Option Key) (max : ℕ) → IsAfter after → max < 2 ^ 32 → AreUnbroken (space ∷ range_parts after max)
 range_unbroken None max can few = (blank, (one_byte 45 (λ same. omega (arith, same)), number max (omega (arith, few))))
-range_unbroken (Some key) max can few =
-    (blank, (unbroken_name key.name can.allowed, (blank, (unbroken_word (kind_word key.kind) (word_is_word key.kind), number max (omega (arith, few))))))
+range_unbroken (Some key) max can few = (
+  blank,
+  (
+    unbroken_name key.name can.allowed,
+    (blank, (unbroken_word (kind_word key.kind) (word_is_word key.kind), number max (omega (arith, few)))),
+  ),
+)
 
 device_unbroken : (device : Device) → IsDevice device → AreUnbroken (space ∷ device_parts device)
 device_unbroken (File major class) can =
@@ -120,7 +126,8 @@ device_unbroken (Net port) can = (blank, (unbroken_word (server_word servers.Net
 
 text_unbroken : (text : List ℕ) → Unbroken text → AreUnbroken (text_parts text)
 text_unbroken [] can = tt
-text_unbroken (b ∷ text) can = (one_byte b (All-head (λ (x : ℕ). x ≢ 10) b text can), text_unbroken text (All-tail (λ (x : ℕ). x ≢ 10) b text can))
+text_unbroken (b ∷ text) can =
+    (one_byte b (All-head (λ (x : ℕ). x ≢ 10) b text can), text_unbroken text (All-tail (λ (x : ℕ). x ≢ 10) b text can))
 
 -- the contents of a slot before others
 slot_unbroken : (k : Kind) (s : Slot) (x : (piece_of k s).Of) → IsInner s → (piece_of k s).Can x → AreUnbroken ((piece_of k s).parts x)
@@ -160,7 +167,8 @@ last_ends : (k : Kind) (s : Slot) (x : (piece_of k s).Of) → IsLast s → (piec
 last_ends k slots.Item i last can = ends_after_space (item_parts i) (item_ends i can)
 last_ends k slots.Value v last can =
     let value = one (value_part v).text (unbroken_value v can.valid) in
-    ends_after (space ∷ byte 61 ∷ space ∷ value_part v ∷ []) (newline ∷ []) (blank, (one_byte 61 (λ same. omega (arith, same)), value)) newline_ends
+    ends_after (space ∷ byte 61 ∷ space ∷ value_part v ∷ []) (newline ∷ []) (blank, (one_byte 61 (λ same. omega (arith, same)), value))
+    newline_ends
 last_ends k slots.Text text last can = ends_after (space ∷ text_parts text) (newline ∷ []) (blank, text_unbroken text can) newline_ends
 last_ends k slots.End x last can = newline_ends
 last_ends k s x last can = absurd last

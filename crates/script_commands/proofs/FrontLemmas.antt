@@ -42,7 +42,8 @@ pub front_later : (w : CommandWord) (line bytes : List ℕ) (result : Result Scr
     → Begins is_ascii_alphanumeric line (text_of w) bytes → ReadsCommand line result → ReadsLater line result
 front_later w line bytes result other front reads =
     reads_later line result
-    (λ after ring. other (same_word w words.Ring (part_one Word line (text_of w) (text_of words.Ring) bytes after (text_is w) refl front ring).0))
+    (λ after ring. other (same_word w words.Ring
+    (part_one Word line (text_of w) (text_of words.Ring) bytes after (text_is w) refl front ring).0))
     reads
 
 -- ---- or it can't be read

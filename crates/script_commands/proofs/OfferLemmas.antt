@@ -1,5 +1,6 @@
 -- Lines with an item after their word.
-use Rattle.std.proofs.Common.{◌≡◌, ◌≢◌, ℕ, ◌-◌, ◌≤◌, List, ◌∷◌, ◌++◌, length, take, drop, Option, None, Some, Ok, Err, refl, sym, ap, subst, ◌∙◌, arith, take-append-drop}
+use Rattle.std.proofs.Common.{◌≡◌, ◌≢◌, ℕ, ◌-◌, ◌≤◌, List, ◌∷◌, ◌++◌, length, take, drop, Option, None, Some, Ok, Err, refl, sym, ap, subst}
+use Rattle.std.proofs.Common.{◌∙◌, arith, take-append-drop}
 use Rattle.ds_entry.specs.Item.{IsItem}
 use Rattle.ds_entry.specs.declared.item.Item.{Item}
 use Rattle.ds_entry.specs.declared.item.Item.TheVariants.{Change as Changed, Floor as Floored}
@@ -48,12 +49,14 @@ offer_stops bytes stop room s = (Err stop, bytes, misses an_item bytes bytes roo
 pub offer_no_space : (stop : PartFault) (bytes : List ℕ) → stop ≡ BadPart (length bytes) → ((rest : List ℕ) → bytes ≢ 32 ∷ rest)
     → TakesRow words.Offer bytes (Err stop)
 offer_no_space stop bytes at none =
-    offer_stops bytes stop (λ room. absurd (no_want stop (length bytes) at room)) (no_byte 32 item_rest some_item stop bytes some_item_is at none)
+    offer_stops bytes stop (λ room. absurd (no_want stop (length bytes) at room))
+    (no_byte 32 item_rest some_item stop bytes some_item_is at none)
 
 pub offer_no_item : (bytes text : List ℕ) (place : ℕ) → bytes ≡ 32 ∷ text → IsItemFault text place
     → TakesRow words.Offer bytes (Err (BadPart (length text - place)))
 offer_no_item bytes text place space fault =
-    offer_stops bytes (BadPart (length text - place)) (λ room. absurd (no_want (BadPart (length text - place)) (length text - place) refl room))
+    offer_stops bytes (BadPart (length text - place))
+    (λ room. absurd (no_want (BadPart (length text - place)) (length text - place) refl room))
     (no_item bytes text place space fault)
 
 pub place_fits : (text : List ℕ) (place : ℕ) → IsItemFault text place → place ≤ length text
@@ -78,7 +81,8 @@ pub offer_found : (bytes text : List ℕ) (i : Item) (n : ℕ) → bytes ≡ 32 
     → TakesRow words.Offer bytes (Ok (Offer i))
 unfolding TakesRow
 offer_found bytes text i n space line is =
-    let found = item_found bytes text (drop n text) i space line (sym (take-append-drop n text) ∙ ap (λ (t : List ℕ). t ++ drop n text) is) in
+    let found = item_found bytes text (drop n text) i space line
+    (sym (take-append-drop n text) ∙ ap (λ (t : List ℕ). t ++ drop n text) is) in
     (Ok i, drop n text, finds (ItemTakesMemory bytes) found, refl)
 
 -- memory runs out for the item

@@ -15,7 +15,8 @@ use Rattle.script_commands.specs.declared.fault.CommandFault.{CommandFault}
 use Rattle.script_commands.specs.declared.word.Word.TheVariants as words
 use Rattle.script_commands.proofs.FrontLemmas.{front_later, reads_front}
 
-pub offer_line : (line bytes : List ℕ) (placed : Option Item) → EndsLine line → Begins is_ascii_alphanumeric line (text_of words.Offer) bytes
+pub offer_line : (line bytes : List ℕ) (placed : Option Item) → EndsLine line →
+    Begins is_ascii_alphanumeric line (text_of words.Offer) bytes
     → OfPlaced PartFault (TakesRow words.Offer bytes) (Ok tt) placed → OfPlaced CommandFault (ReadsCommand line) (Ok tt) placed
 offer_line line bytes (Some i) ends front h = reads_front words.Offer line bytes (Offer i) ends front h
 offer_line line bytes None ends front h = absurd h

@@ -1,6 +1,7 @@
 -- Patterns in quotes, read byte by byte.
 use Rattle.std.specs.Prelude.{◌==◌}
-use Rattle.std.proofs.Common.{Ok, ◌≡◌, ◌≢◌, ℕ, ◌+◌, ◌<◌, inl, inr, List, [], ◌∷◌, ◌++◌, length, drop, refl, sym, ap, subst, ◌∙◌, append_assoc, append-nil, length-append, arith}
+use Rattle.std.proofs.Common.{Ok, ◌≡◌, ◌≢◌, ℕ, ◌+◌, ◌<◌, inl, inr, List, [], ◌∷◌, ◌++◌, length, drop, refl, sym, ap, subst, ◌∙◌}
+use Rattle.std.proofs.Common.{append_assoc, append-nil, length-append, arith}
 use Rattle.std.proofs.lemmas.Bool.{cond-false, ne_eqb}
 use Rattle.std.proofs.lemmas.List.Elements.{All-head, All-tail}
 use Rattle.std.proofs.lemmas.List.Concat.{flat_map-append}
@@ -25,7 +26,8 @@ use Rattle.script_commands.proofs.ReadsLemmas.{finds}
 
 unbroken_end : (front : List ℕ) (b : ℕ) → IsUnbroken front → b ≢ 10 → IsUnbroken (front ++ b ∷ [])
 unbroken_end [] b is other = unbroken_more b [] other unbroken_none
-unbroken_end (f ∷ front) b is other = unbroken_more f (front ++ b ∷ []) (All-head (λ (x : ℕ). x ≢ 10) f front is) (unbroken_end front b (All-tail (λ (x : ℕ). x ≢ 10) f front is) other)
+unbroken_end (f ∷ front) b is other = unbroken_more f (front ++ b ∷ []) (All-head (λ (x : ℕ). x ≢ 10) f front is)
+    (unbroken_end front b (All-tail (λ (x : ℕ). x ≢ 10) f front is) other)
 
 unbroken_at : (front more : List ℕ) (b : ℕ) → IsUnbroken (front ++ b ∷ more) → b ≢ 10
 unbroken_at [] more b is = All-head (λ (x : ℕ). x ≢ 10) b more is
@@ -52,21 +54,25 @@ pub begun_more : (written rest past : List ℕ) (b : ℕ) → IsBegun written re
 begun_more written rest past b begun is other = (
   begun.0 ++ b ∷ [],
   unbroken_end begun.0 b begun.1 other,
-  begun.2 ∙ ap (λ (t : List ℕ). escaped begun.0 ++ t) is ∙ sym (append_assoc (escaped begun.0) (escaped_byte b) past) ∙ ap (λ (t : List ℕ). t ++ past) (sym (escaped_end begun.0 b)),
+  begun.2 ∙ ap (λ (t : List ℕ). escaped begun.0 ++ t) is ∙ sym (append_assoc (escaped begun.0) (escaped_byte b) past) ∙
+      ap (λ (t : List ℕ). t ++ past) (sym (escaped_end begun.0 b)),
 )
 
 pub rest_fits : (written rest : List ℕ) → IsBegun written rest → length rest < length written + 1
 rest_fits written rest begun = omega (arith, ap length begun.2, length-append (escaped begun.0) rest)
 
 -- no quote opens
-pub no_opening : (bytes : List ℕ) → ((rest : List ℕ) → bytes ≢ 34 ∷ rest) → (text rest : List ℕ) → IsUnbroken text → bytes ≢ quoted text ++ rest
+pub no_opening : (bytes : List ℕ) → ((rest : List ℕ) → bytes ≢ 34 ∷ rest) → (text rest : List ℕ) → IsUnbroken text →
+    bytes ≢ quoted text ++ rest
 no_opening bytes none text rest is same = none (escaped text ++ 34 ∷ rest) (same ∙ unquoted text rest)
 
 -- neither the closing quote nor another byte follows what is read
-pub no_closing : (bytes written rest : List ℕ) → bytes ≡ 34 ∷ written → IsBegun written rest → ((b : ℕ) (s : List ℕ) → b ≢ 10 → rest ≢ escaped_byte b ++ s) → ((s : List ℕ) → rest ≢ 34 ∷ s)
+pub no_closing : (bytes written rest : List ℕ) → bytes ≡ 34 ∷ written → IsBegun written rest →
+    ((b : ℕ) (s : List ℕ) → b ≢ 10 → rest ≢ escaped_byte b ++ s) → ((s : List ℕ) → rest ≢ 34 ∷ s)
     → (text after : List ℕ) → IsUnbroken text → bytes ≢ quoted text ++ after
 no_closing bytes written rest opens begun no_byte no_quote text after is same =
-    let both : 34 ∷ (escaped begun.0 ++ rest) ≡ 34 ∷ (escaped text ++ 34 ∷ after) = ap (λ (t : List ℕ). 34 ∷ t) (sym begun.2) ∙ sym opens ∙ same ∙ unquoted text after in
+    let both : 34 ∷ (escaped begun.0 ++ rest) ≡ 34 ∷ (escaped text ++ 34 ∷ after) =
+    ap (λ (t : List ℕ). 34 ∷ t) (sym begun.2) ∙ sym opens ∙ same ∙ unquoted text after in
     elim (goes_on begun.0 text rest after (ap (drop 1) both)) [
       | inl x ↦ no_quote after x.1
       | inr y ↦ no_byte y.0 (escaped y.1 ++ 34 ∷ after) (unbroken_at begun.0 y.1 y.0 (subst IsUnbroken y.2 is)) y.3
@@ -78,20 +84,29 @@ no_closing bytes written rest opens begun no_byte no_quote text after is same =
 abbrev pub IsLeft : List ℕ → List ℕ → List ℕ → Type 0
 IsLeft written text rest = (left : List ℕ) × IsUnbroken left × (rest ≡ escaped left) × (written ≡ escaped (text ++ left))
 
-left_step : (left written text rest past : List ℕ) (b : ℕ) → IsUnbroken left → rest ≡ escaped left → written ≡ escaped (text ++ left) → rest ≡ escaped_byte b ++ past → IsLeft written (text ++ b ∷ []) past
+left_step : (left written text rest past : List ℕ) (b : ℕ) → IsUnbroken left → rest ≡ escaped left → written ≡ escaped (text ++ left) →
+    rest ≡ escaped_byte b ++ past → IsLeft written (text ++ b ∷ []) past
 left_step [] written text rest past b is e w h = absurd (omega (arith, byte_shorter b rest past h, ap length e))
 left_step (c ∷ more) written text rest past b is e w h =
-    let one = byte_one b c past (escaped more) (sym h ∙ e) in
-    (more, All-tail (λ (x : ℕ). x ≢ 10) c more is, one.1, w ∙ ap (λ (x : ℕ). escaped (text ++ x ∷ more)) (sym one.0) ∙ ap escaped (sym (append_assoc text (b ∷ []) more)))
+    let one = byte_one b c past (escaped more) (sym h ∙ e) in (
+      more,
+      All-tail (λ (x : ℕ). x ≢ 10) c more is,
+      one.1,
+      w ∙ ap (λ (x : ℕ). escaped (text ++ x ∷ more)) (sym one.0) ∙
+          ap escaped (sym (append_assoc text (b ∷ []) more)),
+    )
 
-pub left_more : (written text rest past : List ℕ) (b : ℕ) → IsLeft written text rest → rest ≡ escaped_byte b ++ past → IsLeft written (text ++ b ∷ []) past
+pub left_more : (written text rest past : List ℕ) (b : ℕ) → IsLeft written text rest → rest ≡ escaped_byte b ++ past →
+    IsLeft written (text ++ b ∷ []) past
 left_more written text rest past b left h = left_step left.0 written text rest past b left.1 left.2 left.3 h
 
-left_ends : (left written text rest : List ℕ) → IsUnbroken left → rest ≡ escaped left → written ≡ escaped (text ++ left) → ((b : ℕ) (s : List ℕ) → b ≢ 10 → rest ≢ escaped_byte b ++ s) → written ≡ escaped text
+left_ends : (left written text rest : List ℕ) → IsUnbroken left → rest ≡ escaped left → written ≡ escaped (text ++ left) →
+    ((b : ℕ) (s : List ℕ) → b ≢ 10 → rest ≢ escaped_byte b ++ s) → written ≡ escaped text
 left_ends [] written text rest is e w none = w ∙ ap escaped (append-nil text)
 left_ends (c ∷ more) written text rest is e w none = absurd (none c (escaped more) (All-head (λ (x : ℕ). x ≢ 10) c more is) e)
 
-pub left_last : (written text rest : List ℕ) → IsLeft written text rest → ((b : ℕ) (s : List ℕ) → b ≢ 10 → rest ≢ escaped_byte b ++ s) → written ≡ escaped text
+pub left_last : (written text rest : List ℕ) → IsLeft written text rest → ((b : ℕ) (s : List ℕ) → b ≢ 10 → rest ≢ escaped_byte b ++ s) →
+    written ≡ escaped text
 left_last written text rest left none = left_ends left.0 written text rest left.1 left.2 left.3 none
 
 plain_first : (b : ℕ) (written : List ℕ) → b ≢ 92 → unescaped (b ∷ written) ≡ b ∷ unescaped written
@@ -125,10 +140,13 @@ quote_ends : (rest : List ℕ) → Ends (run_of Quoted) rest
 quote_ends [] = tt
 quote_ends (b ∷ rest) = refl
 
-pub no_pattern : (stop : PartFault) (bytes r : List ℕ) → bytes ≡ 32 ∷ r → stop ≡ BadPart (length r) → ((text rest : List ℕ) → IsUnbroken text → r ≢ quoted text ++ rest) → StopsIn a_pattern stop bytes
-no_pattern stop bytes r is at none = no_part 32 (List ℕ) IsUnbroken pattern_part [] stop bytes r unbroken_none is at (λ text rest can begins. none text rest can begins.parts)
+pub no_pattern : (stop : PartFault) (bytes r : List ℕ) → bytes ≡ 32 ∷ r → stop ≡ BadPart (length r) →
+    ((text rest : List ℕ) → IsUnbroken text → r ≢ quoted text ++ rest) → StopsIn a_pattern stop bytes
+no_pattern stop bytes r is at none = no_part 32 (List ℕ) IsUnbroken pattern_part [] stop bytes r unbroken_none is at
+    (λ text rest can begins. none text rest can begins.parts)
 
-pub pattern_found : (written bytes r rest : List ℕ) → bytes ≡ 32 ∷ r → (text : List ℕ) × IsUnbroken text × (written ≡ escaped text) × (r ≡ quoted text ++ rest) → FindsPattern written bytes rest
+pub pattern_found : (written bytes r rest : List ℕ) → bytes ≡ 32 ∷ r →
+    (text : List ℕ) × IsUnbroken text × (written ≡ escaped text) × (r ≡ quoted text ++ rest) → FindsPattern written bytes rest
 pattern_found written bytes r rest is found = (
   (found.0, found.1, found.2),
   subst (λ (t : List ℕ). Reads a_pattern bytes (Ok t) rest) (sym (unescaped_is written found.0 found.2)) (finds _
@@ -140,4 +158,5 @@ pub pattern_fixed : Fixed a_pattern 2
 pattern_fixed text = refl
 
 pub pattern_one : One a_pattern
-pattern_one = one_by a_pattern (λ a b is_a is_b. (refl, λ _. (refl, λ _. tt))) (λ a is. (refl, ((a, refl), tt))) (λ a b is_a is_b same. (quoted_one a b [] [] (ap (λ (t : List ℕ). t ++ []) (ap (text_at 1) same))).0)
+pattern_one = one_by a_pattern (λ a b is_a is_b. (refl, λ _. (refl, λ _. tt))) (λ a is. (refl, ((a, refl), tt)))
+    (λ a b is_a is_b same. (quoted_one a b [] [] (ap (λ (t : List ℕ). t ++ []) (ap (text_at 1) same))).0)

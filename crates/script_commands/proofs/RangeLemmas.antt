@@ -1,5 +1,6 @@
 -- Ranges of pages: one is missing, or it is read.
-use Rattle.std.proofs.Common.{◌≡◌, ◌≢◌, ℕ, suc, zero, ◌<◌, ◌≤◌, ◌^◌, List, [], ◌∷◌, ◌++◌, length, Option, None, Some, is_some, IfSome, IfNone, IsTrue, Bool, refl, sym, ap, subst, ◌∙◌, drop, arith}
+use Rattle.std.proofs.Common.{◌≡◌, ◌≢◌, ℕ, suc, zero, ◌<◌, ◌≤◌, ◌^◌, List, [], ◌∷◌, ◌++◌, length, Option, None, Some, is_some, IfSome}
+use Rattle.std.proofs.Common.{IfNone, IsTrue, Bool, refl, sym, ap, subst, ◌∙◌, drop, arith}
 use Rattle.std.specs.Char.{is_ascii_digit, is_ascii_alphanumeric}
 use Rattle.std.specs.Fmt.{decimal}
 use Rattle.std.proofs.lemmas.Bool.{false≢true}
@@ -18,7 +19,8 @@ use Rattle.ds_line.specs.declared.part_fault.PartFault.{PartFault}
 use Rattle.ds_line.specs.declared.part_fault.PartFault.TheVariants.{BadPart, NoRoom}
 use Rattle.ds_line.proofs.PartLemmas.{byte_begins}
 use Rattle.ds_line.proofs.OpeningLemmas.{text_at, word_is_word, word_one}
-use Rattle.ds_line.proofs.PieceLemmas.{One, Fixed, Views, past, one_by, view_found, view_stops, first_stops, then_stops, then_breaks, both_found, count_fits}
+use Rattle.ds_line.proofs.PieceLemmas.{One, Fixed, Views, past, one_by, view_found, view_stops, first_stops, then_stops, then_breaks}
+use Rattle.ds_line.proofs.PieceLemmas.{both_found, count_fits}
 use Rattle.script_commands.specs.Pieces.{a_name, a_kind, a_number}
 use Rattle.script_commands.specs.Page.{no_key, IsAfter, range_parts, a_range}
 use Rattle.script_commands.proofs.PieceLemmas.{name_fixed, name_one, number_one}
@@ -56,7 +58,8 @@ after_can : (name : List ℕ) (kind : Option Kind) → IsName name → IsAfter (
 after_can name None is = tt
 after_can name (Some kind) is = is
 
-same_parts : (name : List ℕ) (kind : Option Kind) (max : ℕ) → MayFollow name kind → space ∷ range_parts (after_of name kind) max ≡ space ∷ part Name name ∷ follow_parts kind max
+same_parts : (name : List ℕ) (kind : Option Kind) (max : ℕ) → MayFollow name kind →
+    space ∷ range_parts (after_of name kind) max ≡ space ∷ part Name name ∷ follow_parts kind max
 same_parts name None max is = ap (λ (t : List ℕ). space ∷ part Name t ∷ follow_parts None max) (sym is)
 same_parts name (Some kind) max is = refl
 
@@ -93,7 +96,8 @@ first_of : (t s r : List ℕ) → t ≡ s ++ r → 0 < length s → first_byte t
 first_of t [] r is some = absurd (omega (arith, some))
 first_of t (c ∷ s) r is some = ap first_byte is
 
-no_both : (bytes r s : List ℕ) (kind : Kind) (max : ℕ) → max < 2 ^ 32 → Begins is_ascii_alphanumeric bytes (kind_word kind) r → ¬ Begins is_ascii_digit bytes (decimal max) s
+no_both : (bytes r s : List ℕ) (kind : Kind) (max : ℕ) → max < 2 ^ 32 → Begins is_ascii_alphanumeric bytes (kind_word kind) r →
+    ¬ Begins is_ascii_digit bytes (decimal max) s
 no_both bytes r s kind max most word number =
     let fits : max < 2 ^ 64 = omega (arith, most) in
     let some = decimal_nonempty max fits in
@@ -109,10 +113,12 @@ byte_same b bytes r s x y = ap (drop 1) (sym x ∙ y)
 not_both : (kind : Kind) (max : ℕ) (bytes r s : List ℕ) → Found a_kind kind bytes r → Found a_number max bytes s → ⊥
 not_both kind max bytes r s word number =
     let same : word.front.0 ≡ number.front.0 = byte_same 32 bytes word.front.0 number.front.0 word.front.1.parts number.front.1.parts in
-    no_both number.front.0 word.front.2.0 number.front.2.0 kind max number.can (subst (λ (t : List ℕ). Begins is_ascii_alphanumeric t (kind_word kind) word.front.2.0) same word.front.2.1) number.front.2.1
+    no_both number.front.0 word.front.2.0 number.front.2.0 kind max number.can
+    (subst (λ (t : List ℕ). Begins is_ascii_alphanumeric t (kind_word kind) word.front.2.0) same word.front.2.1) number.front.2.1
 
 -- a space and the kind's word come next if more parts do
-kind_of_more : (k : ℕ) (kind : Kind) (max : ℕ) (bytes rest : List ℕ) → Stand (suc (suc k)) (follow_parts (Some kind) max) bytes rest → (r : List ℕ) × Found a_kind kind bytes r
+kind_of_more : (k : ℕ) (kind : Kind) (max : ℕ) (bytes rest : List ℕ) → Stand (suc (suc k)) (follow_parts (Some kind) max) bytes rest →
+    (r : List ℕ) × Found a_kind kind bytes r
 kind_of_more k kind max bytes rest h = (h.2.0, record { can = tt; front = (h.0, h.1, (h.2.0, h.2.1, refl)) })
 
 -- ---- after `-`, without a kind
@@ -120,16 +126,20 @@ kind_of_more k kind max bytes rest h = (h.2.0, record { can = tt; front = (h.0, 
 abbrev pub NoKind : List ℕ → Type 0
 NoKind bytes = (kind : Kind) (rest : List ℕ) → ¬ Found a_kind kind bytes rest
 
-max_most : (name bytes after : List ℕ) (s_count : ℕ) → NoKind bytes → ((max : ℕ) (end : List ℕ) → a_number.Can max → ¬ Stand (suc s_count) (a_number.parts max) bytes end)
+max_most : (name bytes after : List ℕ) (s_count : ℕ) → NoKind bytes →
+    ((max : ℕ) (end : List ℕ) → a_number.Can max → ¬ Stand (suc s_count) (a_number.parts max) bytes end)
     → (x : Option Kind × ℕ) → (a_follow name).Can x → Stand (suc s_count) ((a_follow name).parts x) bytes after → ⊥
 max_most name bytes after s_count none most (None, max) can h = most max after can.1 h
 max_most name bytes after zero none most (Some kind, max) can h = most max after can.1 h
-max_most name bytes after (suc k) none most (Some kind, max) can h = let there = kind_of_more k kind max bytes after h in none kind there.0 there.1
+max_most name bytes after (suc k) none most (Some kind, max) can h = let there = kind_of_more k kind max bytes after h in
+    none kind there.0 there.1
 
-max_none : (name bytes after : List ℕ) → NoKind bytes → ((max : ℕ) (end : List ℕ) → a_number.Can max → ¬ Stand (length (a_number.parts max)) (a_number.parts max) bytes end)
+max_none : (name bytes after : List ℕ) → NoKind bytes →
+    ((max : ℕ) (end : List ℕ) → a_number.Can max → ¬ Stand (length (a_number.parts max)) (a_number.parts max) bytes end)
     → (x : Option Kind × ℕ) → (a_follow name).Can x → Stand (length ((a_follow name).parts x)) ((a_follow name).parts x) bytes after → ⊥
 max_none name bytes after none number (None, max) can h = number max after can.1 h
-max_none name bytes after none number (Some kind, max) can h = let there = kind_of_more 2 kind max bytes after h in none kind there.0 there.1
+max_none name bytes after none number (Some kind, max) can h = let there = kind_of_more 2 kind max bytes after h in
+    none kind there.0 there.1
 
 max_breaks : (name bytes rest : List ℕ) → name ≡ no_key → NoKind bytes → Breaks a_number bytes rest → Breaks (a_follow name) bytes rest
 max_breaks name bytes rest is none s =
@@ -143,7 +153,8 @@ max_breaks name bytes rest is none s =
     }
 
 -- the number after `-` is missing
-pub follow_max_stops : (name : List ℕ) (stop : PartFault) (bytes : List ℕ) → name ≡ no_key → NoKind bytes → stop ≢ NoRoom → StopsIn a_number stop bytes → StopsIn (a_follow name) stop bytes
+pub follow_max_stops : (name : List ℕ) (stop : PartFault) (bytes : List ℕ) → name ≡ no_key → NoKind bytes → stop ≢ NoRoom →
+    StopsIn a_number stop bytes → StopsIn (a_follow name) stop bytes
 follow_max_stops name (BadPart left) bytes is none room s = (s.0, max_breaks name bytes s.0 is none s.1, s.2)
 follow_max_stops name NoRoom bytes is none room s = absurd (room refl)
 
@@ -156,15 +167,19 @@ kind_fixed : Fixed a_kind 2
 kind_fixed kind = refl
 
 kind_one : One a_kind
-kind_one = one_by a_kind (λ a b is_a is_b. (refl, λ _. (refl, λ _. tt))) (λ a is. (refl, (word_is_word a, tt))) (λ a b is_a is_b same. word_one a b (ap (text_at 1) same))
+kind_one = one_by a_kind (λ a b is_a is_b. (refl, λ _. (refl, λ _. tt))) (λ a is. (refl, (word_is_word a, tt)))
+    (λ a b is_a is_b same. word_one a b (ap (text_at 1) same))
 
-kind_from : (name : List ℕ) → name ≢ no_key → (b : Option Kind × ℕ) → (a_follow name).Can b → (a : with_kind.Of) × with_kind.Can a × (with_kind.parts a ≡ (a_follow name).parts b)
+kind_from : (name : List ℕ) → name ≢ no_key → (b : Option Kind × ℕ) → (a_follow name).Can b →
+    (a : with_kind.Of) × with_kind.Can a × (with_kind.parts a ≡ (a_follow name).parts b)
 kind_from name other (None, max) can = absurd (other can.0)
 kind_from name other (Some kind, max) can = ((kind, max), (tt, can.1), refl)
 
-kind_missing : (name : List ℕ) (stop : PartFault) (bytes : List ℕ) → name ≢ no_key → stop ≢ NoRoom → StopsIn a_kind stop bytes → StopsIn (a_follow name) stop bytes
+kind_missing : (name : List ℕ) (stop : PartFault) (bytes : List ℕ) → name ≢ no_key → stop ≢ NoRoom → StopsIn a_kind stop bytes →
+    StopsIn (a_follow name) stop bytes
 kind_missing name stop bytes other room s =
-    view_stops with_kind (a_follow name) (record { to = λ x. (Some x.0, x.1); can = λ x can. (tt, can.1); parts = λ x can. refl; from = kind_from name other }) stop bytes
+    view_stops with_kind (a_follow name) (record
+    { to = λ x. (Some x.0, x.1); can = λ x can. (tt, can.1); parts = λ x can. refl; from = kind_from name other }) stop bytes
     (first_stops a_kind (λ _. a_number) 2 stop bytes kind_fixed (λ kind can. (0, omega arith)) room s)
 
 missing_kind : (stop : PartFault) (bytes : List ℕ) → stop ≢ NoRoom → StopsIn a_kind stop bytes → NoKind bytes
@@ -172,22 +187,27 @@ missing_kind (BadPart left) bytes room s = λ kind rest found. s.1.none kind res
 missing_kind NoRoom bytes room s = absurd (room refl)
 
 -- the kind is missing, after a name that isn't `-` or has a kind after it
-pub follow_kind_stops : (name : List ℕ) (stop : PartFault) (bytes : List ℕ) → (name ≡ no_key → NoKind bytes → ⊥) → stop ≢ NoRoom → StopsIn a_kind stop bytes → StopsIn (a_follow name) stop bytes
+pub follow_kind_stops : (name : List ℕ) (stop : PartFault) (bytes : List ℕ) → (name ≡ no_key → NoKind bytes → ⊥) → stop ≢ NoRoom →
+    StopsIn a_kind stop bytes → StopsIn (a_follow name) stop bytes
 follow_kind_stops name stop bytes other room s = kind_missing name stop bytes (λ is. other is (missing_kind stop bytes room s)) room s
 
 -- ---- a kind is there, and the number after it is missing
 
-after_most : (name bytes after : List ℕ) (k : ℕ) → 2 ≤ k → ((x : with_kind.Of) (end : List ℕ) → with_kind.Can x → ¬ Stand (suc k) (with_kind.parts x) bytes end)
+after_most : (name bytes after : List ℕ) (k : ℕ) → 2 ≤ k →
+    ((x : with_kind.Of) (end : List ℕ) → with_kind.Can x → ¬ Stand (suc k) (with_kind.parts x) bytes end)
     → (x : Option Kind × ℕ) → (a_follow name).Can x → Stand (suc k) ((a_follow name).parts x) bytes after → ⊥
 after_most name bytes after k two most (None, max) can h = omega (arith, two, count_fits (suc k) (follow_parts None max) bytes after h)
 after_most name bytes after k two most (Some kind, max) can h = most (kind, max) after (tt, can.1) h
 
-after_none : (name bytes r after : List ℕ) (there : Kind) → Found a_kind there bytes r → ((x : with_kind.Of) (end : List ℕ) → with_kind.Can x → ¬ Stand (length (with_kind.parts x)) (with_kind.parts x) bytes end)
+after_none : (name bytes r after : List ℕ) (there : Kind) → Found a_kind there bytes r →
+    ((x : with_kind.Of) (end : List ℕ) → with_kind.Can x → ¬ Stand (length (with_kind.parts x)) (with_kind.parts x) bytes end)
     → (x : Option Kind × ℕ) → (a_follow name).Can x → Stand (length ((a_follow name).parts x)) ((a_follow name).parts x) bytes after → ⊥
-after_none name bytes r after there found none (None, max) can h = not_both there max bytes r after found (record { can = can.1; front = h })
+after_none name bytes r after there found none (None, max) can h =
+    not_both there max bytes r after found (record { can = can.1; front = h })
 after_none name bytes r after there found none (Some kind, max) can h = none (kind, max) after (tt, can.1) h
 
-after_breaks : (name bytes r rest : List ℕ) (kind : Kind) → Found a_kind kind bytes r → Breaks a_number r rest → Breaks (a_follow name) bytes rest
+after_breaks : (name bytes r rest : List ℕ) (kind : Kind) → Found a_kind kind bytes r → Breaks a_number r rest →
+    Breaks (a_follow name) bytes rest
 after_breaks name bytes r rest kind found s =
     let t = then_breaks a_kind (λ _. a_number) 2 kind bytes r rest kind_fixed kind_one found s in
     record {
@@ -195,11 +215,13 @@ after_breaks name bytes r rest kind found s =
       thing = (Some t.thing.0, t.thing.1);
       can = (tt, t.can.1);
       front = t.front;
-      most = λ x after can h. after_most name bytes after t.count (first_counts a_kind (λ _. a_number) kind 0 bytes r rest found (omega arith) t) t.most x can h;
+      most = λ x after can h. after_most name bytes after t.count
+          (first_counts a_kind (λ _. a_number) kind 0 bytes r rest found (omega arith) t) t.most x can h;
       none = λ x after can h. after_none name bytes r after kind found t.none x can h;
     }
 
-pub follow_after_stops : (name : List ℕ) (kind : Kind) (stop : PartFault) (bytes r : List ℕ) → Found a_kind kind bytes r → stop ≢ NoRoom → StopsIn a_number stop r → StopsIn (a_follow name) stop bytes
+pub follow_after_stops : (name : List ℕ) (kind : Kind) (stop : PartFault) (bytes r : List ℕ) → Found a_kind kind bytes r → stop ≢ NoRoom →
+    StopsIn a_number stop r → StopsIn (a_follow name) stop bytes
 follow_after_stops name kind (BadPart left) bytes r found room s = (s.0, after_breaks name bytes r s.0 kind found s.1, s.2)
 follow_after_stops name kind NoRoom bytes r found room s = absurd (room refl)
 
@@ -207,28 +229,37 @@ follow_after_stops name kind NoRoom bytes r found room s = absurd (room refl)
 
 -- the name is missing
 pub range_name_stops : (stop : PartFault) (bytes : List ℕ) → stop ≢ NoRoom → StopsIn a_name stop bytes → StopsIn a_range stop bytes
-range_name_stops stop bytes room s = view_stops named a_range range_view stop bytes (first_stops a_name a_follow 2 stop bytes name_fixed (λ name can. ((Some U32, 0), (tt, omega arith))) room s)
+range_name_stops stop bytes room s = view_stops named a_range range_view stop bytes
+    (first_stops a_name a_follow 2 stop bytes name_fixed (λ name can. ((Some U32, 0), (tt, omega arith))) room s)
 
 -- what follows it is missing
-pub range_follow_stops : (name : List ℕ) (stop : PartFault) (bytes r : List ℕ) → Found a_name name bytes r → StopsIn (a_follow name) stop r → StopsIn a_range stop bytes
-range_follow_stops name stop bytes r found s = view_stops named a_range range_view stop bytes (then_stops a_name a_follow 2 stop name bytes r name_fixed name_one found s)
+pub range_follow_stops : (name : List ℕ) (stop : PartFault) (bytes r : List ℕ) → Found a_name name bytes r →
+    StopsIn (a_follow name) stop r → StopsIn a_range stop bytes
+range_follow_stops name stop bytes r found s =
+    view_stops named a_range range_view stop bytes (then_stops a_name a_follow 2 stop name bytes r name_fixed name_one found s)
 
-pub key_found : (name : List ℕ) (kind : Kind) (max : ℕ) (bytes r1 r2 rest : List ℕ) → Found a_name name bytes r1 → Found a_kind kind r1 r2 → Found a_number max r2 rest →
+pub key_found : (name : List ℕ) (kind : Kind) (max : ℕ) (bytes r1 r2 rest : List ℕ) → Found a_name name bytes r1 →
+    Found a_kind kind r1 r2 → Found a_number max r2 rest →
     Found a_range (Some (record { name = name; kind = kind }), max) bytes rest
 key_found name kind max bytes r1 r2 rest f1 f2 f3 =
     let both = both_found a_kind (λ _. a_number) kind max r1 r2 rest f2 f3 in
-    view_found named a_range range_view (name, (Some kind, max)) bytes rest (both_found a_name a_follow name (Some kind, max) bytes r1 rest f1 (record { can = (tt, f3.can); front = both.front }))
+    view_found named a_range range_view (name, (Some kind, max)) bytes rest
+    (both_found a_name a_follow name (Some kind, max) bytes r1 rest f1 (record { can = (tt, f3.can); front = both.front }))
 
 -- ---- two ranges at one place are the same
 
-follows_one : (name : List ℕ) (a b : Option Kind × ℕ) (bytes r s : List ℕ) → Found (a_follow name) a bytes r → Found (a_follow name) b bytes s → (b ≡ a) × (s ≡ r)
+follows_one : (name : List ℕ) (a b : Option Kind × ℕ) (bytes r s : List ℕ) → Found (a_follow name) a bytes r →
+    Found (a_follow name) b bytes s → (b ≡ a) × (s ≡ r)
 follows_one name (None, m) (None, n) bytes r s fa fb =
     let one = number_one m n bytes r s (record { can = fa.can.1; front = fa.front }) (record { can = fb.can.1; front = fb.front }) in
     (ap (λ (k : ℕ). (None, k)) one.0, one.1)
-follows_one name (None, m) (Some kind, n) bytes r s fa fb = let there = kind_of_more 2 kind n bytes s fb.front in absurd (not_both kind m bytes there.0 r there.1 (record { can = fa.can.1; front = fa.front }))
-follows_one name (Some kind, m) (None, n) bytes r s fa fb = let there = kind_of_more 2 kind m bytes r fa.front in absurd (not_both kind n bytes there.0 s there.1 (record { can = fb.can.1; front = fb.front }))
+follows_one name (None, m) (Some kind, n) bytes r s fa fb = let there = kind_of_more 2 kind n bytes s fb.front in
+    absurd (not_both kind m bytes there.0 r there.1 (record { can = fa.can.1; front = fa.front }))
+follows_one name (Some kind, m) (None, n) bytes r s fa fb = let there = kind_of_more 2 kind m bytes r fa.front in
+    absurd (not_both kind n bytes there.0 s there.1 (record { can = fb.can.1; front = fb.front }))
 follows_one name (Some k, m) (Some l, n) bytes r s fa fb =
-    let one = one_after a_kind (λ _. a_number) kind_one (λ _. number_one) (k, m) (l, n) bytes r s (record { can = (tt, fa.can.1); front = fa.front }) (record { can = (tt, fb.can.1); front = fb.front }) in
+    let one = one_after a_kind (λ _. a_number) kind_one (λ _. number_one) (k, m) (l, n) bytes r s
+    (record { can = (tt, fa.can.1); front = fa.front }) (record { can = (tt, fb.can.1); front = fb.front }) in
     (ap (λ (x : with_kind.Of). (Some x.0, x.1)) one.0, one.1)
 
 range_back : (b : Option Key × ℕ) (can : a_range.Can b) → range_view.to (range_from b can).0 ≡ b
@@ -239,10 +270,12 @@ range_back (Some key, max) can = refl
 pub range_one : One a_range
 range_one = one_view named a_range range_view (one_after a_name a_follow name_one follows_one) range_back
 
-ranges_apart : (a b : Option Key × ℕ) (bytes r after : List ℕ) → Found a_range a bytes r → a_range.Can b → length (a_range.parts a) < length (a_range.parts b) → Stand (suc (length (a_range.parts a))) (a_range.parts b) bytes after → ⊥
+ranges_apart : (a b : Option Key × ℕ) (bytes r after : List ℕ) → Found a_range a bytes r → a_range.Can b →
+    length (a_range.parts a) < length (a_range.parts b) → Stand (suc (length (a_range.parts a))) (a_range.parts b) bytes after → ⊥
 ranges_apart (None, m) (None, n) bytes r after f can lt h = omega (arith, lt)
 ranges_apart (None, m) (Some key, n) bytes r after f can lt h =
-    let start : Found a_name no_key bytes f.front.2.0 = record { can = no_key_is; front = (f.front.0, f.front.1, (f.front.2.0, f.front.2.1, refl)) } in
+    let start : Found a_name no_key bytes f.front.2.0 =
+    record { can = no_key_is; front = (f.front.0, f.front.1, (f.front.2.0, f.front.2.1, refl)) } in
     let name : Found a_name key.name bytes h.2.0 = record { can = can.0; front = (h.0, h.1, (h.2.0, h.2.1, refl)) } in
     let same = name_one no_key key.name bytes f.front.2.0 h.2.0 start name in
     let word : Found a_kind key.kind h.2.0 h.2.2.2.0 = record { can = tt; front = (h.2.2.0, h.2.2.1, (h.2.2.2.0, h.2.2.2.1, refl)) } in
@@ -257,12 +290,19 @@ range_apart = ranges_apart
 
 -- ---- whether a kind's word comes next
 
-pub kind_next : {B : Type 0} (r : Option (Kind × B)) (now : B → List ℕ) (test : Bool) (bytes rest : List ℕ) → bytes ≡ 32 ∷ rest → test ≡ is_some r → IfSome r (λ x. Begins is_ascii_alphanumeric rest (kind_word x.0) (now x.1))
+pub kind_next : {B : Type 0} (r : Option (Kind × B)) (now : B → List ℕ) (test : Bool) (bytes rest : List ℕ) → bytes ≡ 32 ∷ rest →
+    test ≡ is_some r → IfSome r (λ x. Begins is_ascii_alphanumeric rest (kind_word x.0) (now x.1))
     → IfNone r ((kind : Kind) (after : List ℕ) → ¬ Begins is_ascii_alphanumeric rest (kind_word kind) after)
-    → (IsTrue test → (kind : Kind) × (after : List ℕ) × Found a_kind kind bytes after) × (((kind : Kind) × (after : List ℕ) × Found a_kind kind bytes after) → IsTrue test)
+    → (IsTrue test → (kind : Kind) × (after : List ℕ) × Found a_kind kind bytes after) ×
+    (((kind : Kind) × (after : List ℕ) × Found a_kind kind bytes after) → IsTrue test)
 kind_next None now test bytes rest space test_is there none = (
   λ is. absurd (false≢true (sym test_is ∙ is)),
-  λ found. absurd (none found.0 found.2.front.2.0 (subst (λ (t : List ℕ). Begins is_ascii_alphanumeric t (kind_word found.0) found.2.front.2.0) (byte_same 32 bytes found.2.front.0 rest found.2.front.1.parts space) found.2.front.2.1)),
+  λ found. absurd (none found.0 found.2.front.2.0
+      (subst (λ (t : List ℕ). Begins is_ascii_alphanumeric t (kind_word found.0) found.2.front.2.0)
+      (byte_same 32 bytes found.2.front.0 rest found.2.front.1.parts space) found.2.front.2.1)),
 )
-kind_next (Some (kind, after)) now test bytes rest space test_is there none =
-    (λ is. (kind, now after, record { can = tt; front = (rest, byte_begins 32 bytes rest space, (now after, there, refl)) }), λ found. test_is)
+kind_next (Some (kind, after)) now test bytes rest space test_is there none = (
+  λ is. (kind, now after, record { can = tt; front = (rest, byte_begins 32 bytes rest space, (now after, there, refl)) }),
+  λ found.
+      test_is,
+)

@@ -9,7 +9,8 @@ use Rattle.script_commands.specs.Reads.{ReadsOr, Reads}
 use Rattle.script_commands.proofs.PieceLemmas.{no_byte, no_want}
 
 -- the piece is read
-pub finds : (Wants : Type 0) {p : Piece} {thing : p.Of} {bytes rest : List ℕ} → Found p thing bytes rest → ReadsOr Wants p bytes (Ok thing) rest
+pub finds : (Wants : Type 0) {p : Piece} {thing : p.Of} {bytes rest : List ℕ} → Found p thing bytes rest →
+    ReadsOr Wants p bytes (Ok thing) rest
 unfolding ReadsOr
 finds Wants f = record { found = f; stop = tt; room = tt }
 
@@ -32,7 +33,8 @@ exits p bytes rest (Err it) exit room s =
     misses p bytes rest (λ is. room (sym exit ∙ is)) (subst (λ (x : PartFault). StopsIn p x bytes) (sym exit) s)
 
 -- the byte before the piece is missing
-pub exits_byte : (n : ℕ) (p : Piece) (some : p.Of) → p.Can some → {bytes : List ℕ} (rest : List ℕ) (result : Result p.Of PartFault) {stop : PartFault}
+pub exits_byte : (n : ℕ) (p : Piece) (some : p.Of) → p.Can some →
+    {bytes : List ℕ} (rest : List ℕ) (result : Result p.Of PartFault) {stop : PartFault}
     → IsErrAnd result (λ (it : PartFault). it ≡ stop) → stop ≡ BadPart (length bytes) → ((past : List ℕ) → bytes ≢ n ∷ past)
     → Reads (after_byte n p) bytes result rest
 exits_byte n p some can {bytes} rest result {stop} exit at none =

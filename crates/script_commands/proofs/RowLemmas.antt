@@ -158,10 +158,12 @@ stops_line w bytes NoRoom at big =
     let x = big refl in (command_in w x.0, x.1, line_found w x.0 bytes x.1 x.2, big_takes w x.0 x.3)
 
 -- a line whose slots are read is read as the command that they make
-pub takes_row : (w : CommandWord) (bytes : List ℕ) (result : Result ScriptCommand PartFault) → TakesRow w bytes result → TakesCommand w bytes result
+pub takes_row : (w : CommandWord) (bytes : List ℕ) (result : Result ScriptCommand PartFault) → TakesRow w bytes result →
+    TakesCommand w bytes result
 unfolding TakesRow
 takes_row w bytes result reads =
-    elim (row_comes U32 (slots_of w) bytes (λ x. GivesCommand (command_in w x) result) (λ stop. IsErrAnd result (λ it. it ≡ stop)) (slots_are w) reads) [
+    elim (row_comes U32 (slots_of w) bytes (λ x. GivesCommand (command_in w x) result) (λ stop. IsErrAnd result (λ it. it ≡ stop))
+    (slots_are w) reads) [
       | inl f ↦ answers_command w bytes f.rest result (command_in w f.fields) (line_found w f.fields bytes f.rest f.found) f.told
       | inr b ↦ answers_stop w bytes result b.stop b.told (stops_line w bytes b.stop b.at b.big)
     ]

@@ -61,12 +61,15 @@ quote_stands text bytes mid rest space_is quote_is = ((escaped text ++ 34 ∷ []
 
 -- ---- the kinds after a pattern are missing
 
-query_most : (bytes after : List ℕ) (k : ℕ) → 2 ≤ k → ((x : a_query.Of) (end : List ℕ) → a_query.Can x → ¬ Stand (suc k) (a_query.parts x) bytes end) → (scope : Scope) →
+query_most : (bytes after : List ℕ) (k : ℕ) → 2 ≤ k →
+    ((x : a_query.Of) (end : List ℕ) → a_query.Can x → ¬ Stand (suc k) (a_query.parts x) bytes end) → (scope : Scope) →
     IsScope scope → Stand (suc k) (space ∷ scope_parts scope) bytes after → ⊥
 query_most bytes after k two most All can h = omega (arith, two, count_fits (suc k) (space ∷ byte 42 ∷ []) bytes after h)
 query_most bytes after k two most (Under query) can h = most (query.text, query.kinds) after (can.text, (can.some, can.limit)) h
 
-query_none : (bytes after t : List ℕ) → bytes ≡ 32 ∷ 34 ∷ t → ((x : a_query.Of) (end : List ℕ) → a_query.Can x → ¬ Stand (length (a_query.parts x)) (a_query.parts x) bytes end) → (scope : Scope) → IsScope scope
+query_none : (bytes after t : List ℕ) → bytes ≡ 32 ∷ 34 ∷ t →
+    ((x : a_query.Of) (end : List ℕ) → a_query.Can x → ¬ Stand (length (a_query.parts x)) (a_query.parts x) bytes end) → (scope : Scope) →
+    IsScope scope
     → Stand (length (space ∷ scope_parts scope)) (space ∷ scope_parts scope) bytes after → ⊥
 query_none bytes after t quote none All can h = star_no_quote bytes after t (star_stands bytes after h) quote
 query_none bytes after t quote none (Under query) can h = none (query.text, query.kinds) after (can.text, (can.some, can.limit)) h
@@ -75,23 +78,28 @@ query_breaks : (written bytes r rest : List ℕ) → FindsPattern written bytes 
 unfolding ReadsOr
 query_breaks written bytes r rest found s =
     let t = then_breaks a_pattern (λ _. a_kinds) 2 (unescaped written) bytes r rest pattern_fixed pattern_one found.1.found s in
-    let quote = quote_stands (unescaped written) bytes found.1.found.front.0 found.1.found.front.2.0 found.1.found.front.1.parts found.1.found.front.2.1.parts in
+    let quote = quote_stands (unescaped written) bytes found.1.found.front.0 found.1.found.front.2.0 found.1.found.front.1.parts
+    found.1.found.front.2.1.parts in
     record {
       count = t.count;
       thing = Under (query_of t.thing.0 t.thing.1);
       can = record { text = t.can.0; some = t.can.1.0; limit = t.can.1.1 };
       front = t.front;
-      most = λ scope after can h. query_most bytes after t.count (first_counts a_pattern (λ _. a_kinds) (unescaped written) 1 bytes r rest found.1.found (omega arith, omega arith) t) t.most scope can h;
+      most = λ scope after can h. query_most bytes after t.count
+          (first_counts a_pattern (λ _. a_kinds) (unescaped written) 1 bytes r rest found.1.found (omega arith, omega arith) t) t.most
+          scope can h;
       none = λ scope after can h. query_none bytes after quote.0 quote.1 t.none scope can h;
     }
 
-pub scope_kinds_stops : (written : List ℕ) (stop : PartFault) (bytes r : List ℕ) → FindsPattern written bytes r → stop ≢ NoRoom → StopsIn a_kinds stop r → StopsIn a_scope stop bytes
+pub scope_kinds_stops : (written : List ℕ) (stop : PartFault) (bytes r : List ℕ) → FindsPattern written bytes r → stop ≢ NoRoom →
+    StopsIn a_kinds stop r → StopsIn a_scope stop bytes
 scope_kinds_stops written (BadPart left) bytes r found room s = (s.0, query_breaks written bytes r s.0 found s.1, s.2)
 scope_kinds_stops written NoRoom bytes r found room s = absurd (room refl)
 
 -- ---- a scope is read
 
-pub query_found : (written bytes r rest : List ℕ) (kinds : ℕ) (found : FindsPattern written bytes r) → Found a_kinds kinds r rest → Found a_scope (Under (query_of (unescaped written) kinds)) bytes rest
+pub query_found : (written bytes r rest : List ℕ) (kinds : ℕ) (found : FindsPattern written bytes r) → Found a_kinds kinds r rest →
+    Found a_scope (Under (query_of (unescaped written) kinds)) bytes rest
 unfolding ReadsOr
 query_found written bytes r rest kinds found second =
     let both = both_found a_pattern (λ _. a_kinds) (unescaped written) kinds bytes r rest found.1.found second in
@@ -103,13 +111,16 @@ query_one = one_after a_pattern (λ _. a_kinds) pattern_one (λ _. kinds_one)
 query_quote : (query : Query) (bytes rest : List ℕ) → Found a_scope (Under query) bytes rest → (t : List ℕ) × (bytes ≡ 32 ∷ 34 ∷ t)
 query_quote query bytes rest f = quote_stands query.text bytes f.front.0 f.front.2.0 f.front.1.parts f.front.2.1.parts
 
-as_query : (query : Query) (bytes rest : List ℕ) → Found a_scope (Under query) bytes rest → Found a_query (query.text, query.kinds) bytes rest
+as_query : (query : Query) (bytes rest : List ℕ) → Found a_scope (Under query) bytes rest →
+    Found a_query (query.text, query.kinds) bytes rest
 as_query query bytes rest f = record { can = (f.can.text, (f.can.some, f.can.limit)); front = f.front }
 
 scopes_one : (a b : Scope) (bytes r s : List ℕ) → Found a_scope a bytes r → Found a_scope b bytes s → (b ≡ a) × (s ≡ r)
 scopes_one All All bytes r s fa fb = (refl, ap (drop 2) (sym (star_stands bytes s fb.front) ∙ star_stands bytes r fa.front))
-scopes_one All (Under q) bytes r s fa fb = let quote = query_quote q bytes s fb in absurd (star_no_quote bytes r quote.0 (star_stands bytes r fa.front) quote.1)
-scopes_one (Under p) All bytes r s fa fb = let quote = query_quote p bytes r fa in absurd (star_no_quote bytes s quote.0 (star_stands bytes s fb.front) quote.1)
+scopes_one All (Under q) bytes r s fa fb = let quote = query_quote q bytes s fb in
+    absurd (star_no_quote bytes r quote.0 (star_stands bytes r fa.front) quote.1)
+scopes_one (Under p) All bytes r s fa fb = let quote = query_quote p bytes r fa in
+    absurd (star_no_quote bytes s quote.0 (star_stands bytes s fb.front) quote.1)
 scopes_one (Under p) (Under q) bytes r s fa fb =
     let one = query_one (p.text, p.kinds) (q.text, q.kinds) bytes r s (as_query p bytes r fa) (as_query q bytes s fb) in
     (ap (λ (x : a_query.Of). Under (query_of x.0 x.1)) one.0, one.1)
@@ -117,7 +128,8 @@ scopes_one (Under p) (Under q) bytes r s fa fb =
 pub scope_one : One a_scope
 scope_one = scopes_one
 
-scopes_apart : (a b : Scope) (bytes r after : List ℕ) → Found a_scope a bytes r → IsScope b → length (space ∷ scope_parts a) < length (space ∷ scope_parts b) →
+scopes_apart : (a b : Scope) (bytes r after : List ℕ) → Found a_scope a bytes r → IsScope b →
+    length (space ∷ scope_parts a) < length (space ∷ scope_parts b) →
     Stand (suc (length (space ∷ scope_parts a))) (space ∷ scope_parts b) bytes after → ⊥
 scopes_apart All All bytes r after f can lt h = omega (arith, lt)
 scopes_apart All (Under q) bytes r after f can lt h =

@@ -1,6 +1,7 @@
 -- The pieces of lines for RS and driver tables, except devices: each is missing, or it is read.
 use Rattle.std.specs.Prelude.{◌==◌, if◌then◌else◌}
-use Rattle.std.proofs.Common.{◌≡◌, ◌≢◌, ℕ, zero, suc, ◌+◌, ◌-◌, ◌≤◌, true, List, [], ◌∷◌, ◌++◌, length, get_or, take, drop, refl, sym, ap, subst, ◌∙◌, arith, append_assoc, take-append-drop, length-drop, add-one}
+use Rattle.std.proofs.Common.{◌≡◌, ◌≢◌, ℕ, zero, suc, ◌+◌, ◌-◌, ◌≤◌, true, List, [], ◌∷◌, ◌++◌, length, get_or, take, drop, refl, sym, ap}
+use Rattle.std.proofs.Common.{subst, ◌∙◌, arith, append_assoc, take-append-drop, length-drop, add-one}
 use Rattle.std.specs.Char.{is_ascii_digit, is_ascii_alphanumeric}
 use Rattle.std.specs.Fmt.{decimal}
 use Rattle.std.specs.List.{list_all}
@@ -54,7 +55,8 @@ first_newline (b ∷ t) (c ∷ u) r s is_t is_u same =
     (ap (λ (x : ℕ). x ∷ u) first ∙ ap (λ (l : List ℕ). b ∷ l) more.0, more.1)
 
 texts_one : One text_rest
-texts_one t u bytes r s fa fb = first_newline t u r s fa.can fb.can (sym (text_spelled t bytes r fa.front) ∙ text_spelled u bytes s fb.front)
+texts_one t u bytes r s fa fb = first_newline t u r s fa.can fb.can
+    (sym (text_spelled t bytes r fa.front) ∙ text_spelled u bytes s fb.front)
 
 pub text_one : One a_text
 text_one = one_byte 32 text_rest texts_one
@@ -87,15 +89,20 @@ text_breaks r is =
 
 -- no newline follows the space
 pub no_newline : (stop : PartFault) (bytes r : List ℕ) → bytes ≡ 32 ∷ r → stop ≡ BadPart 0 → IsUnbroken r → StopsIn a_text stop bytes
-no_newline stop bytes r is at unbroken = byte_stops 32 text_rest stop bytes r is (stops_from text_rest stop r [] at (text_breaks r unbroken))
+no_newline stop bytes r is at unbroken = byte_stops 32 text_rest stop bytes r is
+    (stops_from text_rest stop r [] at (text_breaks r unbroken))
 
 -- the first newline comes after n bytes
-pub text_found : (bytes r : List ℕ) (n : ℕ) → bytes ≡ 32 ∷ r → BreaksAt r n → Found a_text (take n r) bytes (take (length r - (n + 1)) (drop (n + 1) r))
+pub text_found : (bytes r : List ℕ) (n : ℕ) → bytes ≡ 32 ∷ r → BreaksAt r n →
+    Found a_text (take n r) bytes (take (length r - (n + 1)) (drop (n + 1) r))
 text_found bytes r n is b =
     let spread : r ≡ take n r ++ 10 ∷ drop (suc n) r =
-    sym (take-append-drop (suc n) r) ∙ ap (λ (t : List ℕ). t ++ drop (suc n) r) b.parts ∙ append_assoc (take n r) (10 ∷ []) (drop (suc n) r) in
-    let all : take (length r - suc n) (drop (suc n) r) ≡ drop (suc n) r = take_all (length r - suc n) (drop (suc n) r) (omega (arith, length-drop (suc n) r)) in
-    rw (add-one, all) (byte_found 32 text_rest (take n r) bytes r (drop (suc n) r) is (record { can = b.line; front = text_stands (take n r) r (drop (suc n) r) spread }))
+    sym (take-append-drop (suc n) r) ∙ ap (λ (t : List ℕ). t ++ drop (suc n) r) b.parts ∙
+    append_assoc (take n r) (10 ∷ []) (drop (suc n) r) in
+    let all : take (length r - suc n) (drop (suc n) r) ≡ drop (suc n) r =
+    take_all (length r - suc n) (drop (suc n) r) (omega (arith, length-drop (suc n) r)) in
+    rw (add-one, all) (byte_found 32 text_rest (take n r) bytes r (drop (suc n) r) is
+    (record { can = b.line; front = text_stands (take n r) r (drop (suc n) r) spread }))
 
 -- ---- words
 
@@ -107,13 +114,16 @@ abbrev pub a_word : (T : Type 0) → (T → List ℕ) → Piece
 a_word T word = one_part T (λ _. Unit {0}) (word_part T word)
 
 -- another word is there
-pub no_word : (T : Type 0) (word_of : T → List ℕ) (some : T) (stop : PartFault) (bytes r word rest : List ℕ) → ((x : T) → list_all is_ascii_alphanumeric (word_of x) ≡ true) → bytes ≡ 32 ∷ r → stop ≡ BadPart (length r)
-    → list_all is_ascii_alphanumeric word ≡ true → Begins is_ascii_alphanumeric r word rest → ((x : T) → word ≢ word_of x) → StopsIn (after_byte 32 (a_word T word_of)) stop bytes
+pub no_word : (T : Type 0) (word_of : T → List ℕ) (some : T) (stop : PartFault) (bytes r word rest : List ℕ) →
+    ((x : T) → list_all is_ascii_alphanumeric (word_of x) ≡ true) → bytes ≡ 32 ∷ r → stop ≡ BadPart (length r)
+    → list_all is_ascii_alphanumeric word ≡ true → Begins is_ascii_alphanumeric r word rest → ((x : T) → word ≢ word_of x) →
+    StopsIn (after_byte 32 (a_word T word_of)) stop bytes
 no_word T word_of some stop bytes r word rest are is at all begins other =
     no_part 32 T (λ _. Unit {0}) (word_part T word_of) some stop bytes r tt is at
     (λ x after can there. other x (part_one Word r word (word_of x) rest after all (are x) begins there).0)
 
-words_one : (T : Type 0) (word_of : T → List ℕ) → ((x : T) → list_all is_ascii_alphanumeric (word_of x) ≡ true) → ((a b : T) → word_of a ≡ word_of b → a ≡ b) → One (after_byte 32 (a_word T word_of))
+words_one : (T : Type 0) (word_of : T → List ℕ) → ((x : T) → list_all is_ascii_alphanumeric (word_of x) ≡ true) →
+    ((a b : T) → word_of a ≡ word_of b → a ≡ b) → One (after_byte 32 (a_word T word_of))
 words_one T word_of are same =
     one_by (after_byte 32 (a_word T word_of)) (λ a b is_a is_b. (refl, λ _. (refl, λ _. tt))) (λ a is. (refl, (are a, tt)))
     (λ a b is_a is_b parts. same a b (ap (text_at 1) parts))
@@ -128,7 +138,8 @@ request_is_word Restart = refl
 
 -- the request of a word
 abbrev request_at : List ℕ → Request
-request_at word = if length word == 2 then Up else (if length word == 4 then Down else (if get_or word 2 0 == 102 then Refresh else Restart))
+request_at word = if length word == 2 then Up else
+    (if length word == 4 then Down else (if get_or word 2 0 == 102 then Refresh else Restart))
 
 request_is : (request : Request) → request_at (request_word request) ≡ request
 request_is Up = refl
@@ -176,7 +187,8 @@ class_one = words_one FileClass class_word class_is_word (λ a b same. sym (clas
 
 -- ---- major numbers and ports
 
-pub no_unit : (stop : PartFault) (bytes r : List ℕ) → bytes ≡ 32 ∷ r → stop ≡ BadPart (length r) → ((n : ℕ) (rest : List ℕ) → n ≤ 255 → ¬ Begins is_ascii_digit r (decimal n) rest) → StopsIn a_unit stop bytes
+pub no_unit : (stop : PartFault) (bytes r : List ℕ) → bytes ≡ 32 ∷ r → stop ≡ BadPart (length r) →
+    ((n : ℕ) (rest : List ℕ) → n ≤ 255 → ¬ Begins is_ascii_digit r (decimal n) rest) → StopsIn a_unit stop bytes
 no_unit stop bytes r is at none = no_part 32 ℕ (λ n. n ≤ 255) number_part 0 stop bytes r (omega arith) is at none
 
 pub unit_fixed : Fixed a_unit 2

@@ -29,7 +29,8 @@ use Rattle.script_commands.specs.declared.service.Server.TheVariants.{Net as Net
 use Rattle.line_io.proofs.NewlineLemmas.{unbroken_none}
 use Rattle.script_commands.proofs.OneLemmas.{one_byte, end_one, marked_one}
 use Rattle.script_commands.proofs.OpenLemmas.{Apart}
-use Rattle.script_commands.proofs.PieceLemmas.{endpoint_is, endpoint_one, mode_one, initial_one, name_one, key_one, generation_one, version_one, number_one, place_one, kinds_one}
+use Rattle.script_commands.proofs.PieceLemmas.{endpoint_is, endpoint_one, mode_one, initial_one, name_one, key_one, generation_one}
+use Rattle.script_commands.proofs.PieceLemmas.{version_one, number_one, place_one, kinds_one}
 use Rattle.script_commands.proofs.QueryLemmas.{pattern_one}
 use Rattle.script_commands.proofs.RangeLemmas.{range_one, range_apart}
 use Rattle.script_commands.proofs.ScopeLemmas.{scope_one, scope_apart}

@@ -35,7 +35,8 @@ record Row (m : ScriptCommand) (w : CommandWord) : Type 0 where
   back : command_in w fields ≡ m
 
 -- they are valid, and make the command
-pub fields_fit : (m : ScriptCommand) → IsCommand m → (line_of (command_word m)).Can (fields_of m) × (command_in (command_word m) (fields_of m) ≡ m)
+pub fields_fit : (m : ScriptCommand) → IsCommand m →
+    (line_of (command_word m)).Can (fields_of m) × (command_in (command_word m) (fields_of m) ≡ m)
 fields_fit (Offer i) is = (is, refl)
 fields_fit (Store (Merge items)) is = absurd is
 fields_fit m is = (is, refl)

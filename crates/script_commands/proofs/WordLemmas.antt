@@ -69,5 +69,6 @@ other_too text spelled ws same i d is lt others spells tells differs =
 pub none_is : (text : List ℕ) (ws : List Word) (n : ℕ) → ws ≡ all_words → length ws ≤ n → All (IsOther text) (take n all_words)
     → (w : Word) → text ≢ text_of w
 none_is text ws n is le others w =
-    let all : All (IsOther text) all_words = subst (All (IsOther text)) (take_all n all_words (subst (λ (l : List Word). length l ≤ n) is le)) others in
+    let all : All (IsOther text) all_words = subst (All (IsOther text))
+    (take_all n all_words (subst (λ (l : List Word). length l ≤ n) is le)) others in
     subst (IsOther text) (at_place w) (All-get_or (IsOther text) all_words (place w) words.Show (place_below w) all)

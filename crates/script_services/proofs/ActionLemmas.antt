@@ -1,5 +1,6 @@
 -- RS's actions, and their commands to a store.
-use Rattle.std.proofs.Common.{◌≡◌, ℕ, zero, suc, false, List, [], ◌∷◌, ◌++◌, drop, take, Option, Some, None, Ok, refl, sym, ap, subst, ◌∙◌, append_assoc, append-nil}
+use Rattle.std.proofs.Common.{◌≡◌, ℕ, zero, suc, false, List, [], ◌∷◌, ◌++◌, drop, take, Option, Some, None, Ok, refl, sym, ap, subst, ◌∙◌}
+use Rattle.std.proofs.Common.{append_assoc, append-nil}
 use Rattle.std.specs.List.{AllByRecursion, slice_get}
 use Rattle.std.proofs.lemmas.List.{take-append-drop}
 use Rattle.ds_names.specs.Endpoint.{EndpointRecord, endpoint_of}
@@ -44,7 +45,8 @@ in_place_at (y ∷ acts) (suc i) x h e = in_place_at acts i x h.1 e
 
 -- ---- their commands return no items
 
-asking_gives : (caller : EndpointRecord) (key : Key) (version : Version) (body : Body) → gives_items (asking_for caller key version body) ≡ false
+asking_gives : (caller : EndpointRecord) (key : Key) (version : Version) (body : Body) →
+    gives_items (asking_for caller key version body) ≡ false
 asking_gives caller key version (Put value) = refl
 asking_gives caller key version Gone = refl
 
@@ -64,7 +66,8 @@ command_gives action command same = subst gives_none same (action_gives action)
 
 -- ---- actions in sequence
 
-pub actions_more : (side : Side) (acts : List Action) (x : Action) (old mid new : WorldRecord) (out first : List ℕ) (asks one : List (Event × Outcome))
+pub actions_more : (side : Side) (acts : List Action) (x : Action) (old mid new : WorldRecord) (out first : List ℕ)
+    (asks one : List (Event × Outcome))
     → AnswersActions side acts old out asks mid → AsksIfAny side (command_of x) mid first one new
     → AnswersActions side (acts ++ x ∷ []) old (out ++ (action_line x ++ first)) (asks ++ one) new
 actions_more side [] x old mid new out first asks one h asked = (
@@ -87,7 +90,8 @@ actions_more side (y ∷ acts) x old mid new out first asks one (m, f, r, o, k, 
       k ++ one,
       here,
       actions_more side acts x m mid new r first k one there asked,
-      ap (λ (l : List ℕ). l ++ more) lines ∙ append_assoc (action_line y) (f ++ r) more ∙ ap (λ (l : List ℕ). action_line y ++ l) (append_assoc f r more),
+      ap (λ (l : List ℕ). l ++ more) lines ∙ append_assoc (action_line y) (f ++ r) more ∙
+          ap (λ (l : List ℕ). action_line y ++ l) (append_assoc f r more),
       ap (λ (l : List (Event × Outcome)). l ++ one) events ∙ append_assoc o k one,
     )
 
@@ -96,5 +100,6 @@ pub asks_none : (side : Side) (command : Option Command) (world : WorldRecord) �
 asks_none side command world none = subst (λ (o : Option Command). AsksIfAny side o world [] [] world) (sym none) (refl, refl, refl)
 
 -- the first actions went to the store
-pub first_sent : (side : Side) (acts : List Action) (i : ℕ) (old new : WorldRecord) (out : List ℕ) (asks : List (Event × Outcome)) → AnswersActions side (take i acts) old out asks new → BeginsTelling side (Ok acts) old new
+pub first_sent : (side : Side) (acts : List Action) (i : ℕ) (old new : WorldRecord) (out : List ℕ) (asks : List (Event × Outcome)) →
+    AnswersActions side (take i acts) old out asks new → BeginsTelling side (Ok acts) old new
 first_sent side acts i old new out asks h = (take i acts, drop i acts, out, asks, sym (take-append-drop i acts), h)

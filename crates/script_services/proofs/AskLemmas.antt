@@ -1,5 +1,6 @@
 -- The commands of RS's actions, as events of a world.
-use Rattle.std.proofs.Common.{◌≡◌, List, [], ◌∷◌, ◌++◌, Option, Some, None, Result, Ok, Err, ℕ, sym, ap, subst, ◌∙◌, inl, inr, append-nil, append_assoc, Contains}
+use Rattle.std.proofs.Common.{◌≡◌, List, [], ◌∷◌, ◌++◌, Option, Some, None, Result, Ok, Err, ℕ, sym, ap, subst, ◌∙◌, inl, inr, append-nil}
+use Rattle.std.proofs.Common.{append_assoc, Contains}
 use Rattle.std.proofs.lemmas.List.Elements.{Contains-append_cases}
 use Rattle.ds_entry.proofs.Members.{Contains-nil, Contains-single}
 use Rattle.ds_machine.specs.declared.command.Command.{Command}
@@ -23,42 +24,52 @@ use Rattle.script_services.specs.Services.{AsksIfAny, AnswersActions, TellsActio
 -- value stands for
 abbrev pub EventsGoOn : List (Event × Outcome) → WorldRecord → WorldRecord → Type 0
 EventsGoOn events old new =
-    (start w : World) (before : List (Event × Outcome)) → HappenAll start before w → WorldStands old w → (after : World) × HappenAll start (before ++ events) after × WorldStands new after
+    (start w : World) (before : List (Event × Outcome)) → HappenAll start before w → WorldStands old w →
+    (after : World) × HappenAll start (before ++ events) after × WorldStands new after
 
 none_go_on : (old new : WorldRecord) (events : List (Event × Outcome)) → events ≡ [] → new ≡ old → EventsGoOn events old new
 none_go_on old new events none same start w before h stands = (
   w,
-  subst (λ (l : List (Event × Outcome)). HappenAll start l w) (sym (append-nil before) ∙ ap (λ (l : List (Event × Outcome)). before ++ l) (sym none)) h,
+  subst (λ (l : List (Event × Outcome)). HappenAll start l w)
+      (sym (append-nil before) ∙ ap (λ (l : List (Event × Outcome)). before ++ l) (sym none)) h,
   subst (λ (v : WorldRecord). WorldStands v w) (sym same) stands,
 )
 
-pub one_goes_on : (event : Event) (outcome : Outcome) (old new : WorldRecord) (events : List (Event × Outcome)) → events ≡ (event, outcome) ∷ [] → EventLeads event outcome old new → EventsGoOn events old new
+pub one_goes_on : (event : Event) (outcome : Outcome) (old new : WorldRecord) (events : List (Event × Outcome)) →
+    events ≡ (event, outcome) ∷ [] → EventLeads event outcome old new → EventsGoOn events old new
 one_goes_on event outcome old new events one leads start w before h stands =
     let next = leads w stands in (
       next.0,
-      subst (λ (l : List (Event × Outcome)). HappenAll start (before ++ l) next.0) (sym one) (happen_last before start w next.0 event outcome h next.1),
+      subst (λ (l : List (Event × Outcome)). HappenAll start (before ++ l) next.0) (sym one)
+          (happen_last before start w next.0 event outcome h next.1),
       next.2,
     )
 
-both_go_on : (one more events : List (Event × Outcome)) (old mid new : WorldRecord) → events ≡ one ++ more → EventsGoOn one old mid → EventsGoOn more mid new → EventsGoOn events old new
+both_go_on : (one more events : List (Event × Outcome)) (old mid new : WorldRecord) → events ≡ one ++ more → EventsGoOn one old mid →
+    EventsGoOn more mid new → EventsGoOn events old new
 both_go_on one more events old mid new all first rest start w before h stands =
     let a = first start w before h stands in
     let b = rest start a.0 (before ++ one) a.1 a.2 in (
       b.0,
-      subst (λ (l : List (Event × Outcome)). HappenAll start l b.0) (append_assoc before one more ∙ ap (λ (l : List (Event × Outcome)). before ++ l) (sym all)) b.1,
+      subst (λ (l : List (Event × Outcome)). HappenAll start l b.0)
+          (append_assoc before one more ∙ ap (λ (l : List (Event × Outcome)). before ++ l) (sym all)) b.1,
       b.2,
     )
 
-asked_go_on : (side : Side) (command : Option Command) (old new : WorldRecord) (out : List ℕ) (asks : List (Event × Outcome)) → AsksIfAny side command old out asks new → EventsGoOn asks old new
+asked_go_on : (side : Side) (command : Option Command) (old new : WorldRecord) (out : List ℕ) (asks : List (Event × Outcome)) →
+    AsksIfAny side command old out asks new → EventsGoOn asks old new
 asked_go_on side None old new out asks h = none_go_on old new asks h.1 h.2
 asked_go_on side (Some command) old new out asks h = one_goes_on (Ask side command) (Replied h.reply) old new asks h.event h.leads
 
-actions_go_on : (side : Side) (acts : List Action) (old new : WorldRecord) (out : List ℕ) (asks : List (Event × Outcome)) → AnswersActions side acts old out asks new → EventsGoOn asks old new
+actions_go_on : (side : Side) (acts : List Action) (old new : WorldRecord) (out : List ℕ) (asks : List (Event × Outcome)) →
+    AnswersActions side acts old out asks new → EventsGoOn asks old new
 actions_go_on side [] old new out asks h = none_go_on old new asks h.1 h.2
 actions_go_on side (x ∷ acts) old new out asks (mid, first, rest, one, more, here, there, lines, events) =
-    both_go_on one more asks old mid new events (asked_go_on side (command_of x) old mid first one here) (actions_go_on side acts mid new rest more there)
+    both_go_on one more asks old mid new events (asked_go_on side (command_of x) old mid first one here)
+    (actions_go_on side acts mid new rest more there)
 
-pub told_go_on : (side : Side) (answer : Result (List Action) RsFault) (old new : WorldRecord) (out : List ℕ) (asks : List (Event × Outcome)) → TellsActions side answer old out asks new → EventsGoOn asks old new
+pub told_go_on : (side : Side) (answer : Result (List Action) RsFault) (old new : WorldRecord) (out : List ℕ)
+    (asks : List (Event × Outcome)) → TellsActions side answer old out asks new → EventsGoOn asks old new
 told_go_on side (Ok acts) old new out asks h = actions_go_on side acts old new h.0 asks h.1
 told_go_on side (Err fault) old new out asks h = none_go_on old new asks h.1 h.2
 
@@ -70,12 +81,15 @@ AreProperAsks events = (e : Event × Outcome) → Contains events e → IsProper
 no_asks : (asks : List (Event × Outcome)) → asks ≡ [] → AreProperAsks asks
 no_asks asks none e h = absurd (Contains-nil e (subst (λ (l : List (Event × Outcome)). Contains l e) none h))
 
-asked_proper : (side : Side) (command : Option Command) (old new : WorldRecord) (out : List ℕ) (asks : List (Event × Outcome)) → AsksIfAny side command old out asks new → AreProperAsks asks
+asked_proper : (side : Side) (command : Option Command) (old new : WorldRecord) (out : List ℕ) (asks : List (Event × Outcome)) →
+    AsksIfAny side command old out asks new → AreProperAsks asks
 asked_proper side None old new out asks h = no_asks asks h.1
 asked_proper side (Some command) old new out asks h = λ e k.
-    subst (λ (y : Event × Outcome). IsProperEvent y.0) (sym (Contains-single _ e (subst (λ (l : List (Event × Outcome)). Contains l e) h.event k))) h.told.0
+    subst (λ (y : Event × Outcome). IsProperEvent y.0)
+    (sym (Contains-single _ e (subst (λ (l : List (Event × Outcome)). Contains l e) h.event k))) h.told.0
 
-actions_proper : (side : Side) (acts : List Action) (old new : WorldRecord) (out : List ℕ) (asks : List (Event × Outcome)) → AnswersActions side acts old out asks new → AreProperAsks asks
+actions_proper : (side : Side) (acts : List Action) (old new : WorldRecord) (out : List ℕ) (asks : List (Event × Outcome)) →
+    AnswersActions side acts old out asks new → AreProperAsks asks
 actions_proper side [] old new out asks h = no_asks asks h.1
 actions_proper side (x ∷ acts) old new out asks (mid, first, rest, one, more, here, there, lines, events) = λ e k.
     elim (Contains-append_cases one more e (subst (λ (l : List (Event × Outcome)). Contains l e) events k)) [
@@ -83,6 +97,7 @@ actions_proper side (x ∷ acts) old new out asks (mid, first, rest, one, more, 
       | inr b ↦ actions_proper side acts mid new rest more there e b
     ]
 
-pub told_proper : (side : Side) (answer : Result (List Action) RsFault) (old new : WorldRecord) (out : List ℕ) (asks : List (Event × Outcome)) → TellsActions side answer old out asks new → AreProperAsks asks
+pub told_proper : (side : Side) (answer : Result (List Action) RsFault) (old new : WorldRecord) (out : List ℕ)
+    (asks : List (Event × Outcome)) → TellsActions side answer old out asks new → AreProperAsks asks
 told_proper side (Ok acts) old new out asks h = actions_proper side acts old new h.0 asks h.1
 told_proper side (Err fault) old new out asks h = no_asks asks h.1

@@ -1,5 +1,6 @@
 -- RS and the processes of its services agree after any moves.
-use Rattle.std.proofs.Common.{◌≡◌, ◌⊎◌, ◌+◌, ◌<◌, nat_lt, ℕ, Bool, true, false, not, is_some, cond, List, [], ◌∷◌, length, Option, Some, None, refl, sym, ap, ◌∙◌, subst, inl, inr, arith, option_map}
+use Rattle.std.proofs.Common.{◌≡◌, ◌⊎◌, ◌+◌, ◌<◌, nat_lt, ℕ, Bool, true, false, not, is_some, cond, List, [], ◌∷◌, length, Option, Some}
+use Rattle.std.proofs.Common.{None, refl, sym, ap, ◌∙◌, subst, inl, inr, arith, option_map}
 use Rattle.std.specs.List.{list_any, slice_get}
 use Rattle.std.proofs.Math.ListN.{set, length-set}
 use Rattle.std.proofs.lemmas.Bool.{and_cases, cases_eq, eq-eqb, le-ltb, lt-ltb, not-false, or_parts, true≢false, false≢true}
@@ -24,6 +25,8 @@ use Rattle.rs_core.specs.declared.event.Event.{Event}
 use Rattle.rs_core.specs.declared.event.Event.TheVariants.{Beat, Death}
 use Rattle.rs_core.specs.Step.{RsStep}
 use Rattle.rs_core.specs.Late.{in_force, AreSingle}
+use Rattle.rs_core.specs.Renewal.{renewed}
+use Rattle.rs_settings.specs.Settings.{SettingsRecord}
 use Rattle.rs_core.specs.Planning.{starts_instance}
 use Rattle.rs_core.specs.Says.{StepSays}
 use Rattle.rs_core.specs.State.{RsRecord, state_at}
@@ -32,10 +35,12 @@ use Rattle.rs_core.proofs.SaysLemmas.{steps_say}
 use Rattle.supervisor.specs.Following.{LabelsFollow, is_note}
 use Rattle.supervisor.specs.Telling.{Told, next_after_start}
 use Rattle.supervisor.specs.Moves.{Move, IsMove, IsNewSupervisor, IsReachableSupervisor, lifecycles, reaps}
-use Rattle.supervisor.specs.Moves.Move.{Tell, Report, Vouch, Note, Write}
+use Rattle.supervisor.specs.Moves.Move.{Tell, Report, Vouch, Renew, Note, Write}
 use Rattle.supervisor.specs.Laws.{DeathsAreFinal, LeadersStay, OneIsCounted, SupervisorsAgree, VouchedAreHeard}
 use Rattle.supervisor.specs.declared.supervisor.Supervisor.{Supervisor}
 use Rattle.supervisor.proofs.FollowLemmas.{IsAlone, followed_alone, followed_keeps, is_within, set_cases, set_here, set_there}
+use Rattle.supervisor.specs.Renewal.{IsRenewed, renewed_labels}
+use Rattle.supervisor.proofs.RenewalLemmas.{renewed_alone, renewed_count, renewed_single, renewed_wants}
 use Rattle.supervisor.proofs.NoteLemmas.{input_keeps, note_alone, note_wants, report_alone}
 
 -- ---- the invariant
@@ -63,7 +68,9 @@ new_stands s h =
     record {
       count = h.count;
       generations = h.generations;
-      single = record { below = λ k g c. absurd (none-some g (sym (h.down k) ∙ c)); single = λ j k g c d. absurd (none-some g (sym (h.down j) ∙ c)) };
+      single =
+          record
+          { below = λ k g c. absurd (none-some g (sym (h.down k) ∙ c)); single = λ j k g c d. absurd (none-some g (sym (h.down j) ∙ c)) };
       wants = λ k p at. idle_wants p.pending p.instance (pending_of k p at) (instance_of k p at) ∙ sym (h.down k);
       alone = λ k p at. idle_alone p.pending p.instance (pending_of k p at);
     }
@@ -80,7 +87,8 @@ new_stands s h =
     instance_of k p at = ap (λ (x : ServiceState). x.instance) (idle k p at)
 
 -- ---- what RS is told
-told_next : (rs after : RsRecord) (next file given tick : ℕ) (event : Event) (actions : List Action) → Told rs next file event tick actions after given →
+told_next : (rs after : RsRecord) (next file given tick : ℕ) (event : Event) (actions : List Action) →
+    Told rs next file event tick actions after given →
     next ≡ rs.next → given ≡ after.next
 told_next rs after next file given tick event actions h same = h.counts ∙ by (next_is rs.next after.next says.begun says.next)
   where
@@ -112,7 +120,8 @@ told_next rs after next file given tick event actions h same = h.counts ∙ by (
         ap (λ (b : Bool). cond b (next + 1) next) (ahead e) ∙
         ap (λ (n : ℕ). n + 1) same ∙ sym e
 
-follow_stands : (rs after : RsRecord) (next file given tick deadline : ℕ) (event : Event) (actions : List Action) (old mid new : List Lifecycle) →
+follow_stands : (rs after : RsRecord) (next file given tick deadline : ℕ) (event : Event) (actions : List Action)
+    (old mid new : List Lifecycle) →
     Told rs next file event tick actions after given → LabelsFollow after deadline mid new → Stands rs next old → length mid ≡ length old →
     ((k : ℕ) (p : Lifecycle) → slice_get mid k ≡ Some p → IsAlone p) → Stands after given new
 follow_stands rs after next file given tick deadline event actions old mid new told f h many alone =
@@ -139,7 +148,8 @@ report_alone_at labels mid k now (p, at, a, m) h j q e =
     by_place (inl x) = subst IsAlone (sym x.1) (report_alone p now)
     by_place (inr x) = h j q x.1
 
-note_stands : (rs : RsRecord) (next k : ℕ) (input : Input) (labels new : List Lifecycle) → is_note input ≡ true → TakesAt labels k input true new →
+note_stands : (rs : RsRecord) (next k : ℕ) (input : Input) (labels new : List Lifecycle) → is_note input ≡ true →
+    TakesAt labels k input true new →
     Stands rs next labels → Stands rs next new
 note_stands rs next k input labels new n (p, at, a, m) h =
     record {
@@ -152,7 +162,8 @@ note_stands rs next k input labels new n (p, at, a, m) h =
   where
     wants_at : (j : ℕ) (q : Lifecycle) → ((j ≡ k) × (q ≡ after_input p input)) ⊎ ((j ≡ k → ⊥) × (slice_get labels j ≡ Some q)) →
         wanted q ≡ in_force (state_at rs j)
-    wants_at j q (inl x) = ap (λ (y : Lifecycle). wanted y) x.1 ∙ note_wants p input n a ∙ h.wants k p at ∙ ap (λ (y : ℕ). in_force (state_at rs y)) (sym x.0)
+    wants_at j q (inl x) = ap (λ (y : Lifecycle). wanted y) x.1 ∙ note_wants p input n a ∙ h.wants k p at ∙
+        ap (λ (y : ℕ). in_force (state_at rs y)) (sym x.0)
     wants_at j q (inr x) = h.wants j q x.1
 
     alone_at : (j : ℕ) (q : Lifecycle) → ((j ≡ k) × (q ≡ after_input p input)) ⊎ ((j ≡ k → ⊥) × (slice_get labels j ≡ Some q)) → IsAlone q
@@ -163,13 +174,29 @@ note_stands rs next k input labels new n (p, at, a, m) h =
         ((j ≡ k) × (q ≡ after_input p input)) ⊎ ((j ≡ k → ⊥) × (slice_get labels j ≡ Some q))
     cases j q e = set_cases labels k j (after_input p input) q (sym (ap (λ (xs : List Lifecycle). slice_get xs j) m) ∙ e)
 
-same_stands : (rs after : RsRecord) (next given : ℕ) (labels : List Lifecycle) → after ≡ rs → given ≡ next → Stands rs next labels → Stands after given labels
+same_stands : (rs after : RsRecord) (next given : ℕ) (labels : List Lifecycle) → after ≡ rs → given ≡ next → Stands rs next labels →
+    Stands after given labels
 same_stands rs after next given labels e f h =
     subst (λ (z : RsRecord). Stands z given labels) (sym e) (subst (λ (n : ℕ). Stands rs n labels) (sym f) h)
 
+renew_stands : (rs after : RsRecord) (next given : ℕ) (settings : SettingsRecord) (labels new : List Lifecycle) →
+    IsRenewed rs labels settings after new → given ≡ next → Stands rs next labels → Stands after given new
+renew_stands rs after next given settings labels new r e h =
+    same_stands (renewed rs settings) after next given new r.takes e (subst (Stands (renewed rs settings) next) (sym r.follows) stands)
+  where
+    stands : Stands (renewed rs settings) next (renewed_labels rs labels settings.services)
+    stands = record {
+      count = renewed_count rs labels settings.services;
+      generations = h.generations;
+      single = renewed_single rs settings r.checked h.single;
+      wants = renewed_wants rs labels settings.services h.count h.wants;
+      alone = renewed_alone rs labels settings.services h.alone;
+    }
+
 move_stands : (s t : Supervisor) (m : Move) → IsMove s m t → StandsFor s → StandsFor t
 move_stands s t (Tell event tick deadline) ((actions, told), f) h =
-    follow_stands s.rs t.rs s.keeper.next s.keeper.file t.keeper.next tick deadline event actions (lifecycles s) (lifecycles s) (lifecycles t) told f h refl h.alone
+    follow_stands s.rs t.rs s.keeper.next s.keeper.file t.keeper.next tick deadline event actions (lifecycles s) (lifecycles s)
+    (lifecycles t) told f h refl h.alone
 move_stands s t (Report k cause tick now) ((actions, (e, up, told)), (mid, (o, at, a, m), f)) h =
     follow_stands s.rs t.rs s.keeper.next s.keeper.file t.keeper.next tick now (Death e cause) actions (lifecycles s) mid (lifecycles t)
     told f h
@@ -183,12 +210,16 @@ move_stands s t (Vouch k tick) ((pending, (e, up, (actions, step))), same) h =
       count = h.count ∙ sym says.count;
       generations = h.generations ∙ sym n.next;
       single = step_single s.rs t.rs actions says h.single;
-      wants = λ j p at. h.wants j p at ∙ ap (λ (o : Option EndpointRecord). option_map (λ (e : EndpointRecord). e.generation) o) (sym (n.same j));
+      wants = λ j p at. h.wants j p at ∙ ap (λ (o : Option EndpointRecord). option_map (λ (e : EndpointRecord). e.generation) o)
+          (sym (n.same j));
       alone = h.alone;
     } in
     subst (λ (x : Keeper). Stands t.rs x.next x.labels.items) (sym same) stands
+move_stands s t (Renew settings) (r, e) h =
+    renew_stands s.rs t.rs s.keeper.next t.keeper.next settings (lifecycles s) (lifecycles t) r e h
 move_stands s t (Note k input) (n, takes, e, f) h =
-    same_stands s.rs t.rs s.keeper.next t.keeper.next (lifecycles t) e f (note_stands s.rs s.keeper.next k input (lifecycles s) (lifecycles t) n takes h)
+    same_stands s.rs t.rs s.keeper.next t.keeper.next (lifecycles t) e f
+    (note_stands s.rs s.keeper.next k input (lifecycles s) (lifecycles t) n takes h)
 move_stands s t (Write file) (l, e, f) h =
     same_stands s.rs t.rs s.keeper.next t.keeper.next (lifecycles t) e f (subst (Stands s.rs s.keeper.next) (sym l) h)
 
@@ -200,7 +231,8 @@ pub reached_stands : (s : Supervisor) → IsReachableSupervisor s → StandsFor 
 reached_stands s r = all_stand r.first s r.moves r.led (new_stands r.first r.new)
 
 -- ---- agreement
-runs_wanted : (o : Option ℕ) (x : Option Instance) (i : Instance) → x ≡ Some i → i.deadline ≡ None → (is_some o ≡ true → is_running x ≡ false) →
+runs_wanted : (o : Option ℕ) (x : Option Instance) (i : Instance) → x ≡ Some i → i.deadline ≡ None →
+    (is_some o ≡ true → is_running x ≡ false) →
     pending_or_up o x ≡ Some i.generation
 runs_wanted None x i e d a = ap up_generation e ∙ ap (λ (t : Option ℕ). cond (is_some t) None (Some i.generation)) d
 runs_wanted (Some g) x i e d a =
@@ -221,11 +253,13 @@ supervisors_agree s r =
     h = reached_stands s r
 
 pub one_is_counted : OneIsCounted
-one_is_counted s h k p i reached path at true_of is up q r there found label =
-    let runs : (h.services k).instance ≡ Some (instance_state i) = ap (λ (x : ServiceState). x.instance) true_of.same ∙ ap some_instance is in
-    let l = ((kept h path).services k).leader (instance_state i) runs in
-    let g : r.generation ≡ l.it.generation = one_instance_at_a_time h path q (instance_state i).leader r l.it there l.there found l.sees (label ∙ sym l.label) in
-    (supervisors_agree s reached).runs k p i at is up ∙ ap (λ (n : ℕ). Some n) (sym (g ∙ l.generation))
+one_is_counted s h k n p i reached path at true_of is up q r there found label =
+    let runs : (h.services n).instance ≡ Some (instance_state i) =
+    ap (λ (x : ServiceState). x.instance) true_of.same ∙ ap some_instance is in
+    let l = ((kept h path).services n).leader (instance_state i) runs in
+    let g : r.generation ≡ l.it.generation = one_instance_at_a_time h path q (instance_state i).leader r l.it there l.there found l.sees
+    (label ∙ sym l.label) in
+    (supervisors_agree s reached).runs k p i at is up ∙ ap (λ (x : ℕ). Some x) (sym (g ∙ l.generation))
 
 pub deaths_are_final : DeathsAreFinal
 deaths_are_final s t k cause tick now endpoint reached up ((actions, (e, is, told)), follows) =
@@ -239,9 +273,10 @@ vouched_are_heard s t k tick reached ((pending, (e, up, (actions, step))), same)
 
 -- ---- leaders
 -- Whether the label has an instance with this one's leader and generation.
-abbrev Keeps : List Lifecycle → ℕ → Instance → Type 0
+abbrev pub Keeps : List Lifecycle → ℕ → Instance → Type 0
 Keeps labels k i =
-    (q : Lifecycle) × (j : Instance) × (slice_get labels k ≡ Some q) × (q.instance ≡ Some j) × (j.leader ≡ i.leader) × (j.generation ≡ i.generation)
+    (q : Lifecycle) × (j : Instance) × (slice_get labels k ≡ Some q) × (q.instance ≡ Some j) × (j.leader ≡ i.leader) ×
+    (j.generation ≡ i.generation)
 
 take_keeps : (labels new : List Lifecycle) (j k : ℕ) (input : Input) (p : Lifecycle) (i : Instance) → TakesAt labels j input true new →
     (input ≡ Reaped → k ≡ j → ⊥) → slice_get labels k ≡ Some p → p.instance ≡ Some i → Keeps new k i
@@ -266,7 +301,8 @@ take_keeps labels new j k input p i (o, at, a, m) n here is = by_place (cases_eq
     by_place (inr other) =
         (p, i, ap (λ (xs : List Lifecycle). slice_get xs k) m ∙ set_there labels j k (after_input o input) other ∙ here, is, refl, refl)
 
-follow_keeps : (rs : RsRecord) (deadline : ℕ) (old new : List Lifecycle) (k : ℕ) (i : Instance) → LabelsFollow rs deadline old new → Keeps old k i →
+follow_keeps : (rs : RsRecord) (deadline : ℕ) (old new : List Lifecycle) (k : ℕ) (i : Instance) → LabelsFollow rs deadline old new →
+    Keeps old k i →
     Keeps new k i
 follow_keeps rs deadline old new k i f (p, j, at, is, l, g) =
     let x = is_within new k (subst (λ (n : ℕ). k < n) (sym f.count) (slice_get_within old k p at)) in
@@ -282,7 +318,8 @@ not_reaped k j input n e same =
 not_reported : (now : ℕ) → Reported now ≡ Reaped → ⊥
 not_reported now e = cc
 
-move_keeps : (s t : Supervisor) (m : Move) (k : ℕ) (i : Instance) → IsMove s m t → reaps k m ≡ false → Keeps (lifecycles s) k i → Keeps (lifecycles t) k i
+pub move_keeps : (s t : Supervisor) (m : Move) (k : ℕ) (i : Instance) → IsMove s m t → reaps k m ≡ false → Keeps (lifecycles s) k i →
+    Keeps (lifecycles t) k i
 move_keeps s t (Tell event tick deadline) k i (told, f) n h = follow_keeps t.rs deadline (lifecycles s) (lifecycles t) k i f h
 move_keeps s t (Report j cause tick now) k i (told, (mid, takes, f)) n (p, b, at, is, l, g) =
     follow_keeps t.rs now mid (lifecycles t) k i f
@@ -291,6 +328,7 @@ move_keeps s t (Report j cause tick now) k i (told, (mid, takes, f)) n (p, b, at
     again : Keeps mid k b → Keeps mid k i
     again (q, c, x, y, z, w) = (q, c, x, y, z ∙ l, w ∙ g)
 move_keeps s t (Vouch j tick) k i (told, same) n h = subst (λ (x : Keeper). Keeps x.labels.items k i) (sym same) h
+move_keeps s t (Renew settings) k i moved n h = absurd (true≢false n)
 move_keeps s t (Note j input) k i (note, takes, e, f) n (p, b, at, is, l, g) =
     again (take_keeps (lifecycles s) (lifecycles t) j k input p b takes (not_reaped k j input n) at is)
   where

@@ -1,5 +1,6 @@
 -- The walk in which labels follow RS, and what a label that follows is to run.
-use Rattle.std.proofs.Common.{◌≡◌, ◌⊎◌, ◌+◌, ◌<◌, ◌≤◌, ℕ, zero, suc, Bool, true, false, is_some, cond, List, [], ◌∷◌, length, get_or, Option, Some, None, refl, sym, ap, ◌∙◌, subst, inl, inr, arith}
+use Rattle.std.proofs.Common.{◌≡◌, ◌⊎◌, ◌+◌, ◌<◌, ◌≤◌, ℕ, zero, suc, Bool, true, false, is_some, cond, List, [], ◌∷◌, length, get_or}
+use Rattle.std.proofs.Common.{Option, Some, None, refl, sym, ap, ◌∙◌, subst, inl, inr, arith}
 use Rattle.std.specs.List.{slice_get}
 use Rattle.std.proofs.Math.ListN.{set, length-set}
 use Rattle.std.proofs.lemmas.Bool.{cases_lt}
@@ -66,36 +67,48 @@ some_at (x ∷ xs) (suc k) state e = some_at xs k state e
 pub record FollowTo (rs : RsRecord) (deadline k : ℕ) (old new : List Lifecycle) : Type 0 where
   pub count : length new ≡ length old
   pub each : (j : ℕ) (q : Lifecycle) → slice_get new j ≡ Some q →
-      (p : Lifecycle) × (slice_get old j ≡ Some p) × (((j < k) × (q ≡ followed p (in_force (state_at rs j)) deadline)) ⊎ ((k ≤ j) × (q ≡ p)))
+      (p : Lifecycle) × (slice_get old j ≡ Some p) ×
+      (((j < k) × (q ≡ followed p (in_force (state_at rs j)) deadline)) ⊎ ((k ≤ j) × (q ≡ p)))
 
 pub none_yet : (rs : RsRecord) (deadline : ℕ) (old : List Lifecycle) → FollowTo rs deadline 0 old old
 none_yet rs deadline old = record { count = refl; each = λ j q e. (q, e, inr (omega arith, refl)) }
 
-followed_here : (old : List Lifecycle) (k : ℕ) (g : Option ℕ) (d : ℕ) (b : Bool) (new : List Lifecycle) → k < length old → FollowsAt old k g d b new →
+followed_here : (old : List Lifecycle) (k : ℕ) (g : Option ℕ) (d : ℕ) (b : Bool) (new : List Lifecycle) → k < length old →
+    FollowsAt old k g d b new →
     (p : Lifecycle) × (slice_get old k ≡ Some p) × (new ≡ set old k (followed p g d))
 followed_here old k g d true new l f = f
 followed_here old k g d false new l f = let x = is_within old k l in absurd (none-some x.0 (sym f.0 ∙ x.1))
 
-pub one_more : (rs : RsRecord) (d k : ℕ) (old new next : List Lifecycle) (g : Option ℕ) (b : Bool) → FollowTo rs d k old new → k < length new →
+pub one_more : (rs : RsRecord) (d k : ℕ) (old new next : List Lifecycle) (g : Option ℕ) (b : Bool) → FollowTo rs d k old new →
+    k < length new →
     g ≡ in_force (state_at rs k) → FollowsAt new k g d b next → FollowTo rs d (k + 1) old next
 one_more rs d k old new next g b h l same f =
-    record { count = ap length at.2 ∙ length-set new k (followed at.0 g d) ∙ h.count; each = λ j q e. by j q (set_cases new k j (followed at.0 g d) q (sym (ap (λ (xs : List Lifecycle). slice_get xs j) at.2) ∙ e)) }
+    record {
+      count = ap length at.2 ∙ length-set new k (followed at.0 g d) ∙ h.count;
+      each = λ j q e.
+          by j q (set_cases new k j (followed at.0 g d) q (sym (ap (λ (xs : List Lifecycle). slice_get xs j) at.2) ∙ e));
+    }
   where
     at : (p : Lifecycle) × (slice_get new k ≡ Some p) × (next ≡ set new k (followed p g d))
     at = followed_here new k g d b next l f
 
     Each : ℕ → Lifecycle → Type 0
-    Each j q = (p : Lifecycle) × (slice_get old j ≡ Some p) × (((j < k + 1) × (q ≡ followed p (in_force (state_at rs j)) d)) ⊎ ((k + 1 ≤ j) × (q ≡ p)))
+    Each j q = (p : Lifecycle) × (slice_get old j ≡ Some p) ×
+        (((j < k + 1) × (q ≡ followed p (in_force (state_at rs j)) d)) ⊎ ((k + 1 ≤ j) × (q ≡ p)))
 
     here : (q : Lifecycle) → q ≡ followed at.0 g d →
-        ((p : Lifecycle) × (slice_get old k ≡ Some p) × (((k < k) × (at.0 ≡ followed p (in_force (state_at rs k)) d)) ⊎ ((k ≤ k) × (at.0 ≡ p)))) → Each k q
+        ((p : Lifecycle) × (slice_get old k ≡ Some p) ×
+        (((k < k) × (at.0 ≡ followed p (in_force (state_at rs k)) d)) ⊎ ((k ≤ k) × (at.0 ≡ p)))) → Each k q
     here q e (p, o, inl a) = absurd (omega (arith, a.0))
-    here q e (p, o, inr a) = (p, o, inl (omega arith, e ∙ ap (λ (x : Lifecycle). followed x g d) a.1 ∙ ap (λ (x : Option ℕ). followed p x d) same))
+    here q e (p, o, inr a) =
+        (p, o, inl (omega arith, e ∙ ap (λ (x : Lifecycle). followed x g d) a.1 ∙ ap (λ (x : Option ℕ). followed p x d) same))
 
     there : (j : ℕ) (q : Lifecycle) → (j ≡ k → ⊥) →
-        ((p : Lifecycle) × (slice_get old j ≡ Some p) × (((j < k) × (q ≡ followed p (in_force (state_at rs j)) d)) ⊎ ((k ≤ j) × (q ≡ p)))) → Each j q
+        ((p : Lifecycle) × (slice_get old j ≡ Some p) × (((j < k) × (q ≡ followed p (in_force (state_at rs j)) d)) ⊎ ((k ≤ j) × (q ≡ p))))
+        → Each j q
     there j q n (p, o, inl a) = (p, o, inl (omega (arith, a.0), a.1))
-    there j q n (p, o, inr a) = elim (cases_lt k j) [ inl more ↦ (p, o, inr (omega (arith, more), a.1)) | inr less ↦ absurd (n (omega (arith, less, a.0))) ]
+    there j q n (p, o, inr a) = elim (cases_lt k j)
+        [ inl more ↦ (p, o, inr (omega (arith, more), a.1)) | inr less ↦ absurd (n (omega (arith, less, a.0))) ]
 
     by : (j : ℕ) (q : Lifecycle) → ((j ≡ k) × (q ≡ followed at.0 g d)) ⊎ ((j ≡ k → ⊥) × (slice_get new j ≡ Some q)) → Each j q
     by j q (inl a) = subst (λ (x : ℕ). Each x q) (sym a.0) (here q a.1 (h.each k at.0 at.1))
@@ -138,7 +151,8 @@ followed_alone p g d h = followed_by IsAlone p g d h (λ e. begun_not_running (h
 
 -- Whether the label keeps its leader.
 abbrev pub KeepsLeader : Lifecycle → Lifecycle → Type 0
-KeepsLeader p q = (i : Instance) → p.instance ≡ Some i → (j : Instance) × (q.instance ≡ Some j) × (j.leader ≡ i.leader) × (j.generation ≡ i.generation)
+KeepsLeader p q = (i : Instance) → p.instance ≡ Some i →
+    (j : Instance) × (q.instance ≡ Some j) × (j.leader ≡ i.leader) × (j.generation ≡ i.generation)
 
 pub stopped_keeps : (o : Option Instance) (at : ℕ) (i : Instance) → o ≡ Some i →
     (j : Instance) × (with_deadline o at ≡ Some j) × (j.leader ≡ i.leader) × (j.generation ≡ i.generation)

@@ -5,7 +5,8 @@ use Rattle.std.proofs.lemmas.Option.{none-some}
 use Rattle.process_keeper.specs.Following.{wanted, pending_or_up, up_generation}
 use Rattle.process_keeper.specs.Inputs.{after_input, after_scan, is_accepted, is_stopping, is_by, is_due_by, with_leader, with_deadline}
 use Rattle.process_keeper.specs.declared.input.Input.{Input}
-use Rattle.process_keeper.specs.declared.input.Input.TheVariants.{Started, Cancelled, Stopped, Shortened, Begun, Failed, Exited, Changed, Asked, Killed, Scanned, Reported, Reaped, Cleared}
+use Rattle.process_keeper.specs.declared.input.Input.TheVariants.{Started, Cancelled, Stopped, Shortened, Begun, Failed, Exited, Changed}
+use Rattle.process_keeper.specs.declared.input.Input.TheVariants.{Asked, Killed, Scanned, Reported, Reaped, Cleared}
 use Rattle.process_keeper.specs.declared.instance.Instance.{Instance}
 use Rattle.process_keeper.specs.declared.lifecycle.Lifecycle.{Lifecycle}
 use Rattle.process_keeper.specs.declared.scan.Scan.{Scan}
@@ -23,7 +24,8 @@ stopping_not_up : (o : Option Instance) → is_stopping o ≡ true → up_genera
 stopping_not_up None e = absurd (false≢true e)
 stopping_not_up (Some b) e = ap (λ (x : Bool). cond x None (Some b.generation)) e
 
-by_stopping : (o : Option ℕ) (i j : Option Instance) → up_generation i ≡ None → up_generation j ≡ None → pending_or_up o i ≡ pending_or_up o j
+by_stopping : (o : Option ℕ) (i j : Option Instance) → up_generation i ≡ None → up_generation j ≡ None →
+    pending_or_up o i ≡ pending_or_up o j
 by_stopping None i j e f = e ∙ sym f
 by_stopping (Some g) i j e f = refl
 
@@ -40,12 +42,14 @@ scan_wants p Nothing = refl
 scan_wants p Dying = refl
 scan_wants p Living = refl
 
-pub note_wants : (p : Lifecycle) (input : Input) → is_note input ≡ true → is_accepted p input ≡ true → wanted (after_input p input) ≡ wanted p
+pub note_wants : (p : Lifecycle) (input : Input) → is_note input ≡ true → is_accepted p input ≡ true →
+    wanted (after_input p input) ≡ wanted p
 note_wants p (Started g) n a = absurd (false≢true n)
 note_wants p Cancelled n a = absurd (false≢true n)
 note_wants p (Stopped at) n a = absurd (false≢true n)
 note_wants p (Shortened at) n a =
-    by_stopping p.pending (with_deadline p.instance at) p.instance (stopped_not_up p.instance at) (stopping_not_up p.instance (due_is_stopping at p.instance a))
+    by_stopping p.pending (with_deadline p.instance at) p.instance (stopped_not_up p.instance at)
+    (stopping_not_up p.instance (due_is_stopping at p.instance a))
 note_wants p (Begun m) n a = led_is_up p.pending m p.instance (and_parts (is_some p.pending) (not (is_some p.instance) && p.is_clean) a).0
 note_wants p (Failed now) n a = refl
 note_wants p Exited n a = refl
@@ -99,7 +103,8 @@ input_keeps p Cancelled a n = λ i e. (i, e, refl, refl)
 input_keeps p (Stopped at) a n = λ i e. stopped_keeps p.instance at i e
 input_keeps p (Shortened at) a n = λ i e. stopped_keeps p.instance at i e
 input_keeps p (Begun m) a n = λ i e.
-    absurd (no_leader p.instance i (and_parts (not (is_some p.instance)) p.is_clean (and_parts (is_some p.pending) (not (is_some p.instance) && p.is_clean) a).1).0 e)
+    absurd (no_leader p.instance i (and_parts (not (is_some p.instance)) p.is_clean
+    (and_parts (is_some p.pending) (not (is_some p.instance) && p.is_clean) a).1).0 e)
 input_keeps p (Failed now) a n = λ i e. (i, e, refl, refl)
 input_keeps p Exited a n = λ i e. (i, e, refl, refl)
 input_keeps p Changed a n = λ i e. (i, e, refl, refl)

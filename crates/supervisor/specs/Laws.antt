@@ -9,15 +9,17 @@ use Rattle.process_rule.specs.Events.{IsReachable}
 use Rattle.process_keeper.specs.Doing.{MayDo}
 use Rattle.process_keeper.specs.Following.{wanted}
 use Rattle.process_keeper.specs.Sight.{IsTrueOf}
+use Rattle.process_keeper.specs.declared.input.Input.TheVariants.{Reaped}
 use Rattle.process_keeper.specs.declared.instance.Instance.{Instance}
 use Rattle.process_keeper.specs.declared.lifecycle.Lifecycle.{Lifecycle}
 use Rattle.process_keeper.specs.declared.task.Task.TheVariants.{Fork}
 use Rattle.rs_core.specs.declared.state.State.TheVariants.{Up}
 use Rattle.rs_core.specs.declared.state.Running.{Running}
 use Rattle.rs_core.specs.Late.{endpoint_in_force, in_force, IsUncounted}
+use Rattle.rs_core.specs.Says.{place_of_label}
 use Rattle.rs_core.specs.State.{state_at}
 use Rattle.supervisor.specs.Moves.{Move, IsMove, IsReachableSupervisor, lifecycles, reaps}
-use Rattle.supervisor.specs.Moves.Move.{Report, Vouch}
+use Rattle.supervisor.specs.Moves.Move.{Note, Report, Vouch}
 use Rattle.supervisor.specs.declared.supervisor.Supervisor.{Supervisor}
 
 -- RS and the processes of its services agree.
@@ -39,12 +41,13 @@ pub record Agree (s : Supervisor) : Type 0 where
 abbrev pub SupervisorsAgree : Type 0
 SupervisorsAgree = (s : Supervisor) → IsReachableSupervisor s → Agree s
 
--- A law: while a label's instance is up, each process of the label that a scan finds is of the instance that RS counts.
+-- A law: while a label's instance is up, each process that a scan finds of the label is of the instance that RS counts. The host knows the
+-- label by any number `n`, since other settings give it another number `k`.
 abbrev pub OneIsCounted : Type 0
 OneIsCounted =
-    (s : Supervisor) (h : Host) (k : ℕ) (p : Lifecycle) (i : Instance) → IsReachableSupervisor s → IsReachable h →
-    slice_get (lifecycles s) k ≡ Some p → IsTrueOf h k p → p.instance ≡ Some i → i.deadline ≡ None → (q : ℕ) (r : Process) →
-    h.processes q ≡ Some r → r.found ≡ true → r.label ≡ k → in_force (state_at s.rs k) ≡ Some r.generation
+    (s : Supervisor) (h : Host) (k n : ℕ) (p : Lifecycle) (i : Instance) → IsReachableSupervisor s → IsReachable h →
+    slice_get (lifecycles s) k ≡ Some p → IsTrueOf h n p → p.instance ≡ Some i → i.deadline ≡ None → (q : ℕ) (r : Process) →
+    h.processes q ≡ Some r → r.found ≡ true → r.label ≡ n → in_force (state_at s.rs k) ≡ Some r.generation
 
 -- A law: once a label's instance is reported, RS doesn't count it.
 abbrev pub DeathsAreFinal : Type 0
@@ -58,10 +61,31 @@ VouchedAreHeard =
     (s t : Supervisor) (k tick : ℕ) → IsReachableSupervisor s → IsMove s (Vouch k tick) t →
     (r : Running) × (state_at t.rs k ≡ Up r) × (r.beat ≡ tick)
 
--- A law: a label keeps its leader until that is reaped, whatever the events.
+-- A law: the label with a number keeps its leader until that is reaped, whatever the events, while labels have the same numbers.
 abbrev pub LeadersStay : Type 0
 LeadersStay =
     (s t : Supervisor) (moves : List Move) (k : ℕ) (p : Lifecycle) (i : Instance) → Path IsMove s moves t →
     list_any (reaps k) moves ≡ false → slice_get (lifecycles s) k ≡ Some p → p.instance ≡ Some i →
     (q : Lifecycle) × (j : Instance) × (slice_get (lifecycles t) k ≡ Some q) × (q.instance ≡ Some j) × (j.leader ≡ i.leader) ×
     (j.generation ≡ i.generation)
+
+-- Whether the service with this name has an instance with this leader and generation.
+pub record HasLeader (s : Supervisor) (name : List ℕ) (leader generation : ℕ) : Type 0 where
+  pub place : ℕ
+  pub named : place_of_label s.rs name ≡ Some place
+  pub label : Lifecycle
+  pub there : slice_get (lifecycles s) place ≡ Some label
+  pub instance : Instance
+  pub runs : label.instance ≡ Some instance
+  pub leads : instance.leader ≡ leader
+  pub given : instance.generation ≡ generation
+
+-- Whether the call leads from one supervisor to the next, and doesn't reap the leader of the service with this name.
+abbrev pub SparesLeader : List ℕ → Supervisor → Move → Supervisor → Type 0
+SparesLeader name s m t = IsMove s m t × ((k : ℕ) → place_of_label s.rs name ≡ Some k → m ≡ Note k Reaped → ⊥)
+
+-- A law: the service with a name keeps its leader until that is reaped, whatever number other settings give it.
+abbrev pub NamedLeadersStay : Type 0
+NamedLeadersStay =
+    (s t : Supervisor) (moves : List Move) (name : List ℕ) (leader generation : ℕ) → Path (SparesLeader name) s moves t →
+    HasLeader s name leader generation → HasLeader t name leader generation

@@ -1,4 +1,5 @@
 pub mod Following
 pub mod Telling
+pub mod Renewal
 pub mod Moves
 pub mod Laws

@@ -1,6 +1,6 @@
 //! Laws of supervisors.
 
-ghost use Rattle.supervisor.specs.Laws.{DeathsAreFinal, LeadersStay, OneIsCounted, SupervisorsAgree, VouchedAreHeard};
+ghost use Rattle.supervisor.specs.Laws.{DeathsAreFinal, LeadersStay, NamedLeadersStay, OneIsCounted, SupervisorsAgree, VouchedAreHeard};
 
 /// Laws of each reachable supervisor: a label runs the instance that RS counts as up, or is to run it, and no other. While it is up, each
 /// process of the label that a scan finds belongs to it. After the report of a death, RS refuses each later heartbeat of that instance.
@@ -11,7 +11,9 @@ pub fn supervisors_agree()
     ensures vouched { VouchedAreHeard }
 {}
 
-/// A law: a label keeps the leader that was forked for it until that is reaped. So each child is waited for.
+/// Laws: a label keeps the leader that was forked for it until that is reaped, and a service does by its name, across other settings, too.
+/// So each child is waited for.
 pub fn leaders_stay()
-    ensures { LeadersStay }
+    ensures numbered { LeadersStay }
+    ensures named { NamedLeadersStay }
 {}

@@ -8,12 +8,14 @@ mod fault;
 mod following;
 mod instances;
 mod laws;
+mod renewing;
 mod supervisor;
 mod telling;
 
-pub use fault::SupervisorFault;
+pub use fault::{RenewalFault, SupervisorFault};
 pub use following::{endpoint_at, follow, is_note};
 pub use instances::{dead_instance, pending_instance};
 pub use laws::{leaders_stay, supervisors_agree};
+pub use renewing::renewed_keeper;
 pub use supervisor::Supervisor;
 pub use telling::{count_start, is_held};

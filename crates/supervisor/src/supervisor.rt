@@ -6,15 +6,18 @@ ghost use Rattle.process_rule.specs.Supervisor.{new_service};
 ghost use Rattle.process_keeper.specs.Doing.{IsSettled};
 ghost use Rattle.process_keeper.specs.Order.{IsFirst, IsWritten, MayBeNext, TakesAt, is_rest};
 ghost use Rattle.process_keeper.specs.Sight.{service};
+ghost use Rattle.supervisor.specs.Renewal.{IsRenewed, RefusesRenewal};
 ghost use Rattle.supervisor.specs.Following.{LabelsFollow, ReportsAndFollows, is_note};
 ghost use Rattle.supervisor.specs.Telling.{IsRefusedBy, IsReportRefused, IsVouchRefused, ReportIsTold, Told, VouchesAt};
 
-use crate::fault::SupervisorFault;
+use crate::fault::{RenewalFault, SupervisorFault};
 use crate::following::{follow, is_note};
 use crate::instances::{dead_instance, pending_instance};
+use crate::renewing::renewed_keeper;
 use ds_names::NoRoom;
 use process_keeper::{Input, Keeper, Task};
-use rs_core::{Actions, Event, Rs};
+use rs_core::{Actions, Event, RenewFault, Rs};
+use rs_settings::Settings;
 use std::alloc::Global;
 
 /// RS, and a keeper of the processes of its services. Labels have the numbers of RS's services, from 0.
@@ -113,6 +116,30 @@ impl Supervisor {
                 Err(fault) => Err(SupervisorFault::Refused(fault)),
             },
             None => Ok(false),
+        }
+    }
+
+    /// Takes other settings. A service whose label stays keeps its state and its processes, whatever its number is. Of a new one an
+    /// earlier run may have left processes.
+    ///
+    /// Refuses the settings as `renewed_keeper` does. If refused, nothing changes.
+    pub fn renew(&mut self, settings: Settings) -> Result<(), RenewalFault>
+        ensures renewed { OnOk result (
+            IsRenewed self.old.rs self.old.keeper.labels.items settings self.new.rs self.new.keeper.labels.items) }
+        ensures generations { (self.new.keeper.next ≡ self.old.keeper.next) × (self.new.keeper.file ≡ self.old.keeper.file) }
+        ensures refused { IfErr result (λ fault. RefusesRenewal self.old.rs self.old.keeper.labels.items settings fault) }
+        ensures unchanged { OnErr result ((self.new.rs ≡ self.old.rs) × (self.new.keeper ≡ self.old.keeper)) }
+    {
+        let _settings = settings.slots(); // its clause says that they are checked
+        match renewed_keeper(&self.keeper, &self.rs, &settings) {
+            Ok(keeper) => match self.rs.renew(settings) {
+                Ok(()) => {
+                    self.keeper = keeper;
+                    Ok(())
+                }
+                Err(_) => Err(RenewalFault::Refused(RenewFault::NoRoom)),
+            },
+            Err(fault) => Err(fault),
         }
     }
 

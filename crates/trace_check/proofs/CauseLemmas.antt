@@ -12,20 +12,23 @@ use Rattle.trace_check.specs.declared.upgrading.UpgradeFault.TheVariants.{Illega
 use Rattle.trace_check.specs.Upgrading.{BlamesUpgrade, upgrade_fault}
 use Rattle.trace_check.specs.Verifying.{IsVerdictCause}
 
-pub cause_told : {R : Type 0} (r : Reader R) (fault : WalkFault) (old new : R) → BlamesReader r fault old new → IsVerdictCause r (verdict_of fault) old new
+pub cause_told : {R : Type 0} (r : Reader R) (fault : WalkFault) (old new : R) → BlamesReader r fault old new →
+    IsVerdictCause r (verdict_of fault) old new
 cause_told r (walks.IllegalAt number) old new c = tt
 cause_told r (walks.BadLineAt number) old new c = tt
 cause_told r walks.ReadFault old new c = c
 cause_told r walks.NoRoom old new c = tt
 
-pub cause_upgraded : {R W : Type 0} (r : Reader R) (w : Writer W) (fault : WalkFault) (old new : R) (from to : W) → OnlyCalls w.writes from to → BlamesReader r fault old new → BlamesUpgrade r w (upgrade_fault fault) old new from to
+pub cause_upgraded : {R W : Type 0} (r : Reader R) (w : Writer W) (fault : WalkFault) (old new : R) (from to : W) →
+    OnlyCalls w.writes from to → BlamesReader r fault old new → BlamesUpgrade r w (upgrade_fault fault) old new from to
 cause_upgraded r w (walks.IllegalAt number) old new from to wrote c = wrote
 cause_upgraded r w (walks.BadLineAt number) old new from to wrote c = wrote
 cause_upgraded r w walks.ReadFault old new from to wrote c = (c, wrote)
 cause_upgraded r w walks.NoRoom old new from to wrote c = wrote
 
 -- a fault after writes that didn't fail
-pub blames_on : {R W : Type 0} (r : Reader R) (w : Writer W) (fault : UpgradeFault) (old new : R) (from mid to : W) → OnlyCalls w.writes from mid → BlamesUpgrade r w fault old new mid to → BlamesUpgrade r w fault old new from to
+pub blames_on : {R W : Type 0} (r : Reader R) (w : Writer W) (fault : UpgradeFault) (old new : R) (from mid to : W) →
+    OnlyCalls w.writes from mid → BlamesUpgrade r w fault old new mid to → BlamesUpgrade r w fault old new from to
 blames_on r w (IllegalAt number) old new from mid to wrote c = only_calls_on w.writes from mid to wrote c
 blames_on r w (BadLineAt number) old new from mid to wrote c = only_calls_on w.writes from mid to wrote c
 blames_on r w AlreadyTwo old new from mid to wrote c = only_calls_on w.writes from mid to wrote c

@@ -8,7 +8,8 @@ use Rattle.trace_walk.specs.Wanting.{IsWanted}
 use Rattle.trace_check.specs.Telling.{WantsSort}
 
 -- a fault of a walk, and the line that the walk wants
-pub wanted_for : (start bytes : List ℕ) (sort : Wanted) (fault : WalkFault) → IsFault start bytes fault → IsWanted bytes sort fault → WantsSort bytes sort (verdict_of fault)
+pub wanted_for : (start bytes : List ℕ) (sort : Wanted) (fault : WalkFault) → IsFault start bytes fault → IsWanted bytes sort fault →
+    WantsSort bytes sort (verdict_of fault)
 wanted_for start bytes sort (IllegalAt number) f wanted = (f.0, f.1, f.2)
 wanted_for start bytes sort (BadLineAt number) f wanted = wanted
 wanted_for start bytes sort ReadFault f wanted = tt

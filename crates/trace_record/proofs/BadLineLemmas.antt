@@ -1,5 +1,6 @@
 -- Which line is the first bad one.
-use Rattle.std.proofs.Common.{◌≡◌, ℕ, List, [], ◌∷◌, ◌++◌, length, Option, inl, inr, refl, sym, ap, ◌∙◌, arith, append_assoc, append-nil, length-append}
+use Rattle.std.proofs.Common.{◌≡◌, ℕ, List, [], ◌∷◌, ◌++◌, length, Option, inl, inr, refl, sym, ap, ◌∙◌, arith, append_assoc, append-nil}
+use Rattle.std.proofs.Common.{length-append}
 use Rattle.std.specs.List.{flat_map}
 use Rattle.line_io.specs.Lines.{joined, with_newline}
 use Rattle.line_io.specs.Reading.{LinesContent}
@@ -21,8 +22,10 @@ use Rattle.trace_record.proofs.RingLemmas.{long_no_ring}
 pub front_there : (bytes front : List ℕ) (l : LinesContent) (to : Option (List ℕ)) → IsAtLine bytes front l to → IsFirstLines bytes front
 front_there bytes front l to a = let h = a.2 in (h.before, a.0 ∷ h.more, h.lines, h.front_is)
 
-pub asks_nothing : (format : Format) (bytes front line : List ℕ) (l : LinesContent) (to : Option (List ℕ)) (number place : ℕ) → HasLine bytes front line l to →
-    AsksNothing format (with_newline line) → (front ≡ [] → ¬ IsRingLine (with_newline line)) → number ≡ l.count → IsPlaceOfLine number (with_newline line) place → AsksNothingAt format bytes front number place
+pub asks_nothing : (format : Format) (bytes front line : List ℕ) (l : LinesContent) (to : Option (List ℕ)) (number place : ℕ) →
+    HasLine bytes front line l to →
+    AsksNothing format (with_newline line) → (front ≡ [] → ¬ IsRingLine (with_newline line)) → number ≡ l.count →
+    IsPlaceOfLine number (with_newline line) place → AsksNothingAt format bytes front number place
 asks_nothing format bytes front line l to number place h none no_ring e at =
     record {
       whole = (h.before, line ∷ h.more, h.lines, h.front_is);
@@ -37,7 +40,8 @@ asks_nothing format bytes front line l to number place h none no_ring e at =
       at = λ whole. at;
     }
 
-pub long_asks_nothing : (format : Format) (bytes front : List ℕ) (number place : ℕ) → IsLong bytes front number → IsAtLimit place → AsksNothingAt format bytes front number place
+pub long_asks_nothing : (format : Format) (bytes front : List ℕ) (number place : ℕ) → IsLong bytes front number → IsAtLimit place →
+    AsksNothingAt format bytes front number place
 long_asks_nothing format bytes front number place l limit =
     record {
       whole = (l.before, l.line ∷ l.more, l.lines, l.front_is);
@@ -55,7 +59,8 @@ long_asks_nothing format bytes front number place l limit =
 -- ---- a line that must be an item's
 
 some_after : (front line items : List ℕ) → front ++ (with_newline line ++ items) ≡ [] → ⊥
-some_after front line items none = omega (arith, ap length none, length-append front (with_newline line ++ items), length-append (with_newline line) items, some_line line)
+some_after front line items none =
+    omega (arith, ap length none, length-append front (with_newline line ++ items), length-append (with_newline line) items, some_line line)
 
 -- after a Merge's first line and some of its items
 pub lacks_item : (format : Format) (bytes front line : List ℕ) (pass count number place : ℕ)
@@ -64,7 +69,8 @@ pub lacks_item : (format : Format) (bytes front line : List ℕ) (pass count num
     → AsksNothingAt format bytes front number place
 lacks_item format bytes front line pass count number place whole head x =
     let items : List ℕ = flat_map plus_text x.items in
-    let past : front ++ (with_newline line ++ items) ≡ joined x.lacks.before = sym (append_assoc front (with_newline line) items) ∙ x.lacks.past in
+    let past : front ++ (with_newline line ++ items) ≡ joined x.lacks.before =
+    sym (append_assoc front (with_newline line) items) ∙ x.lacks.past in
     record {
       whole = whole;
       part = with_newline line ++ items;

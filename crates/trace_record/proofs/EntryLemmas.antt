@@ -21,7 +21,8 @@ use Rattle.trace_record.proofs.AskingLemmas.{ask_more}
 
 -- ---- the header
 
-pub header_is : (form : Form) (ring : ℕ) → IsRing ring → FormatHas (header_of form ring).format (header_of form ring).limits → IsHeader (header_of form ring)
+pub header_is : (form : Form) (ring : ℕ) → IsRing ring → FormatHas (header_of form ring).format (header_of form ring).limits →
+    IsHeader (header_of form ring)
 header_is One ring r l = record { incarnation = omega arith; first = omega arith; ring = r; limits = l }
 header_is (Two limits) ring r l = record { incarnation = omega arith; first = omega arith; ring = r; limits = l }
 
@@ -40,20 +41,25 @@ recorded_none h is =
 
 -- ---- one more entry
 
-lead_more : (format : Format) (entries : List TraceEntry) (e : TraceEntry) (s t u : State) → AllLead format s entries t → EntryLeads format t e u → AllLead format s (entries ++ e ∷ []) u
+lead_more : (format : Format) (entries : List TraceEntry) (e : TraceEntry) (s t u : State) → AllLead format s entries t →
+    EntryLeads format t e u → AllLead format s (entries ++ e ∷ []) u
 lead_more format [] e s t u l x = (u, subst (λ (z : State). EntryLeads format z e u) l x, refl)
 lead_more format (f ∷ entries) e s t u l x = (l.0, l.1, lead_more format entries e l.0 t u l.2 x)
 
-answered_more : (format : Format) (entries : List TraceEntry) (e : TraceEntry) (s t u : State) → AllAnswered format s entries t → EntryAnswered format t e u → AllAnswered format s (entries ++ e ∷ []) u
+answered_more : (format : Format) (entries : List TraceEntry) (e : TraceEntry) (s t u : State) → AllAnswered format s entries t →
+    EntryAnswered format t e u → AllAnswered format s (entries ++ e ∷ []) u
 answered_more format [] e s t u l x = (u, subst (λ (z : State). EntryAnswered format z e u) l x, refl)
 answered_more format (f ∷ entries) e s t u l x = (l.0, l.1, answered_more format entries e l.0 t u l.2 x)
 
-written_more : (h : Header) (entries : List TraceEntry) (e : TraceEntry) → trace_text h (entries ++ e ∷ []) ≡ trace_text h entries ++ entry_text h.limits e
+written_more : (h : Header) (entries : List TraceEntry) (e : TraceEntry) →
+    trace_text h (entries ++ e ∷ []) ≡ trace_text h entries ++ entry_text h.limits e
 written_more h entries e =
-    ap (λ (l : List ℕ). header_text h ++ l) (flat_map-append (entry_text h.limits) entries (e ∷ []) ∙ ap (λ (l : List ℕ). flat_map (entry_text h.limits) entries ++ l) (append-nil (entry_text h.limits e)))
+    ap (λ (l : List ℕ). header_text h ++ l) (flat_map-append (entry_text h.limits) entries (e ∷ []) ∙
+    ap (λ (l : List ℕ). flat_map (entry_text h.limits) entries ++ l) (append-nil (entry_text h.limits e)))
     ∙ sym (append_assoc (header_text h) (flat_map (entry_text h.limits) entries) (entry_text h.limits e))
 
-pub recorded_more : (h : Header) (text asking more : List ℕ) (s t : State) (count : ℕ) (e : TraceEntry) → Recorded h text asking s count → IsEntry h.format e → (x : EntryLeads h.format s e t) → IsLastOf h.format s x.0 e.reply
+pub recorded_more : (h : Header) (text asking more : List ℕ) (s t : State) (count : ℕ) (e : TraceEntry) → Recorded h text asking s count →
+    IsEntry h.format e → (x : EntryLeads h.format s e t) → IsLastOf h.format s x.0 e.reply
     → asked_by more ≡ asked_text e.pass e.asked →
     Recorded h (text ++ entry_text h.limits e) (asking ++ more) t (suc count)
 recorded_more h text asking more s t count e r is x last asks =

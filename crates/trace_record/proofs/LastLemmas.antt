@@ -18,10 +18,12 @@ use Rattle.trace_record.specs.Stepping.{IsLastOf}
 -- a sweep of format 1
 pub sweep_last : (format : Format) (s : State) (caller : EndpointRecord) (owner : List ℕ) (generation : ℕ) (reply : Reply)
     → format ≡ One → reply ≡ (older_sweep s caller owner generation).0 → IsLastOf format s (commands.Sweep caller owner generation) reply
-sweep_last format s caller owner generation reply e is = subst (λ (f : Format). IsLastOf f s (commands.Sweep caller owner generation) reply) (sym e) is
+sweep_last format s caller owner generation reply e is =
+    subst (λ (f : Format). IsLastOf f s (commands.Sweep caller owner generation) reply) (sym e) is
 
 -- any other command
-pub plain_last : (format : Format) (c : ScriptCommand) (command : Command) → older_of format c ≡ None → store_command c ≡ Some command → (s : State) (reply : Reply) → IsLast s command reply → IsLastOf format s command reply
+pub plain_last : (format : Format) (c : ScriptCommand) (command : Command) → older_of format c ≡ None → store_command c ≡ Some command →
+    (s : State) (reply : Reply) → IsLast s command reply → IsLastOf format s command reply
 plain_last Two c command e asks s reply x = x
 plain_last One c (commands.Sweep caller owner generation) e asks s reply x = absurd (sweep_line c caller owner generation e asks)
 plain_last One c _ e asks s reply x = x

@@ -1,5 +1,6 @@
 -- Where a command's line is bad.
-use Rattle.std.proofs.Common.{◌≡◌, ◌≢◌, ℕ, zero, suc, ◌+◌, ◌-◌, ◌<◌, ◌≤◌, ◌^◌, min, Result, Ok, Err, List, ◌∷◌, ◌++◌, length, inl, inr, refl, sym, ap, subst, arith, length-append}
+use Rattle.std.proofs.Common.{◌≡◌, ◌≢◌, ℕ, zero, suc, ◌+◌, ◌-◌, ◌<◌, ◌≤◌, ◌^◌, min, Result, Ok, Err, List, ◌∷◌, ◌++◌, length, inl, inr}
+use Rattle.std.proofs.Common.{refl, sym, ap, subst, arith, length-append}
 use Rattle.std.specs.Result.{IfErr, IfOk}
 use Rattle.std.specs.Fmt.{decimal}
 use Rattle.std.proofs.lemmas.Fmt.{length-decimal-le}
@@ -17,7 +18,8 @@ first_byte (Offer i) place e = inr e
 first_byte _ place e = e
 
 -- the commands that may be on the line
-pub reads_by : (before : ℕ) (text : List ℕ) (r : Result ScriptCommand CommandFault) → (before ≡ 0 → ReadsCommand text r) → (before ≢ 0 → ReadsLater text r) → ReadsAs (MayBe before) text r
+pub reads_by : (before : ℕ) (text : List ℕ) (r : Result ScriptCommand CommandFault) → (before ≡ 0 → ReadsCommand text r) →
+    (before ≢ 0 → ReadsLater text r) → ReadsAs (MayBe before) text r
 reads_by zero text r first later = first refl
 reads_by (suc before) text r first later = later (λ none. omega (arith, none))
 
@@ -40,13 +42,43 @@ pub after_pass : (line text : List ℕ) (pass at place : ℕ)
     → place ≡ min ((length line - length text) + at) (2 ^ 64 - 1)
     → IsBadAfterPass line place
 after_pass line text pass at place few is short (inl merge) e =
-    let front : length line ≡ length (decimal pass) + (1 + length text) = omega (arith, ap length is, length-append (decimal pass) (32 ∷ text)) in
+    let front : length line ≡ length (decimal pass) + (1 + length text) =
+    omega (arith, ap length is, length-append (decimal pass) (32 ∷ text)) in
     let digits : length (decimal pass) ≤ 20 = length-decimal-le 20 pass (omega arith) (omega (arith, few)) (omega (arith, few)) in
-    record { pass = pass; text = text; at = place - (length (decimal pass) + 1); few = few; line_is = is; place_is = omega (arith, front, digits, e); bad = inl merge }
+    record {
+      pass = pass;
+      text = text;
+      at = place - (length (decimal pass) + 1);
+      few = few;
+      line_is = is;
+      place_is =
+          omega (arith, front, digits, e);
+      bad = inl merge;
+    }
 after_pass line text pass at place few is short (inr (inl fault)) e =
-    let front : length line ≡ length (decimal pass) + (1 + length text) = omega (arith, ap length is, length-append (decimal pass) (32 ∷ text)) in
-    record { pass = pass; text = text; at = at; few = few; line_is = is; place_is = omega (arith, front, e, short, fault.first.begins); bad = inr (inl fault) }
+    let front : length line ≡ length (decimal pass) + (1 + length text) =
+    omega (arith, ap length is, length-append (decimal pass) (32 ∷ text)) in
+    record {
+      pass = pass;
+      text = text;
+      at = at;
+      few = few;
+      line_is = is;
+      place_is =
+          omega (arith, front, e, short, fault.first.begins);
+      bad = inr (inl fault);
+    }
 after_pass line text pass at place few is short (inr (inr other)) e =
-    let front : length line ≡ length (decimal pass) + (1 + length text) = omega (arith, ap length is, length-append (decimal pass) (32 ∷ text)) in
+    let front : length line ≡ length (decimal pass) + (1 + length text) =
+    omega (arith, ap length is, length-append (decimal pass) (32 ∷ text)) in
     let digits : length (decimal pass) ≤ 20 = length-decimal-le 20 pass (omega arith) (omega (arith, few)) (omega (arith, few)) in
-    record { pass = pass; text = text; at = at; few = few; line_is = is; place_is = omega (arith, front, digits, e, few_by other.0 at other.3); bad = inr (inr other) }
+    record {
+      pass = pass;
+      text = text;
+      at = at;
+      few = few;
+      line_is = is;
+      place_is =
+          omega (arith, front, digits, e, few_by other.0 at other.3);
+      bad = inr (inr other);
+    }

@@ -1,5 +1,6 @@
 -- A recording from entry to entry, and its end.
-use Rattle.std.proofs.Common.{◌≡◌, ◌≢◌, ℕ, suc, Bool, true, false, List, [], ◌∷◌, ◌++◌, length, Option, Some, Result, Ok, Err, inl, inr, ◌⊎◌, refl, sym, ap, subst, ◌∙◌, arith, append_assoc, append-nil, length-append}
+use Rattle.std.proofs.Common.{◌≡◌, ◌≢◌, ℕ, suc, Bool, true, false, List, [], ◌∷◌, ◌++◌, length, Option, Some, Result, Ok, Err, inl, inr}
+use Rattle.std.proofs.Common.{◌⊎◌, refl, sym, ap, subst, ◌∙◌, arith, append_assoc, append-nil, length-append}
 use Rattle.std.specs.Io.KnownBytes.{Appends}
 use Rattle.std.proofs.KnownBytes.{Appends-nil, Appends-trans}
 use Rattle.ds_content.specs.Content.{ContentRecord}
@@ -34,7 +35,8 @@ pub front_at : (bytes front : List ℕ) (l : LinesContent) (from : Option (List 
 front_at bytes front l from at = (at.before, at.after, at.lines, at.front_is)
 
 -- the next one comes, or none, or it can't be read
-pub comes_there : (bytes front : List ℕ) (l : LinesContent) (to : Option (List ℕ)) (there : Bool) → (there ≡ true → IsAtLine bytes front l to) → (there ≡ false → IsRead bytes front l.count) → ComesToNext bytes front l to (Ok there)
+pub comes_there : (bytes front : List ℕ) (l : LinesContent) (to : Option (List ℕ)) (there : Bool) →
+    (there ≡ true → IsAtLine bytes front l to) → (there ≡ false → IsRead bytes front l.count) → ComesToNext bytes front l to (Ok there)
 comes_there bytes front l to true line none = line refl
 comes_there bytes front l to false line none = none refl
 
@@ -49,7 +51,8 @@ ready_there l true ready = ready refl
 ready_there l false ready = tt
 
 -- whatever the result of reading it
-pub front_comes : (bytes front : List ℕ) (l : LinesContent) (to : Option (List ℕ)) (next : Result Bool RecordFault) → ComesToNext bytes front l to next → IsFirstLines bytes front
+pub front_comes : (bytes front : List ℕ) (l : LinesContent) (to : Option (List ℕ)) (next : Result Bool RecordFault) →
+    ComesToNext bytes front l to next → IsFirstLines bytes front
 front_comes bytes front l to (Ok true) c = front_there bytes front l to c
 front_comes bytes front l to (Ok false) c = (c.0, [], subst (HasLines bytes) (sym (append-nil c.0)) c.1, c.2)
 front_comes bytes front l to (Err (BadLine number place)) c = let l = c.0 in (l.before, l.line ∷ l.more, l.lines, l.front_is)
@@ -58,7 +61,8 @@ front_comes bytes front l to (Err ReadFault) c = c
 front_comes bytes front l to (Err NoRoom) c = c
 
 -- why it wasn't reached
-pub up_to : (format : Format) (bytes front : List ℕ) (l : LinesContent) (to : Option (List ℕ)) (fault : RecordFault) → ComesToNext bytes front l to (Err fault) → IsBeforeFault format fault bytes front
+pub up_to : (format : Format) (bytes front : List ℕ) (l : LinesContent) (to : Option (List ℕ)) (fault : RecordFault) →
+    ComesToNext bytes front l to (Err fault) → IsBeforeFault format fault bytes front
 up_to format bytes front l to (BadLine number place) c = long_asks_nothing format bytes front number place c.0 c.1
 up_to format bytes front l to WriteFault c = absurd c
 up_to format bytes front l to ReadFault c = c
@@ -76,9 +80,11 @@ runs_to_fault known first had h waits has count ReadFault is x = (count, x)
 runs_to_fault known first had h waits has count NoRoom is x = (count, x)
 runs_to_fault known first had h waits has count WriteFault is x = absurd is
 
-module _ (known : Option (List ℕ)) (first : List ℕ) (had : Option (List ℕ)) (h : Header) (w : Recorder) (from has : Option (List ℕ)) (count : ℕ) where
+module _ (known : Option (List ℕ)) (first : List ℕ) (had : Option (List ℕ)) (h : Header) (w : Recorder) (from has : Option (List ℕ))
+    (count : ℕ) where
   -- there is no next line
-  pub run_ends : (next : Result Bool RecordFault) → Runs known first had h w from has next count → next ≡ Ok false → HasRun known first had h w.output.items has IsAllLines count
+  pub run_ends : (next : Result Bool RecordFault) → Runs known first had h w from has next count → next ≡ Ok false →
+      HasRun known first had h w.output.items has IsAllLines count
   run_ends next r e =
       record {
         sent = r.sent;
@@ -90,7 +96,8 @@ module _ (known : Option (List ℕ)) (first : List ℕ) (had : Option (List ℕ)
       }
 
   -- it can't be read
-  pub run_stops : (next : Result Bool RecordFault) (fault : RecordFault) → Runs known first had h w from has next count → next ≡ Err fault → IsReady w.entry.lines next → RunsTo known first had h w.output.items has (Err fault)
+  pub run_stops : (next : Result Bool RecordFault) (fault : RecordFault) → Runs known first had h w from has next count →
+      next ≡ Err fault → IsReady w.entry.lines next → RunsTo known first had h w.output.items has (Err fault)
   run_stops next fault r e ready =
       runs_to_fault known first had h w.output.items has count fault (subst (IsReady w.entry.lines) e ready)
       (record {
@@ -99,11 +106,13 @@ module _ (known : Option (List ℕ)) (first : List ℕ) (had : Option (List ℕ)
         state = r.state;
         written = r.written;
         recorded = r.recorded;
-        input = λ bytes k. up_to h.format bytes (first ++ r.asking) w.entry.lines from fault (subst (ComesToNext bytes (first ++ r.asking) w.entry.lines from) e (r.comes bytes k));
+        input = λ bytes k. up_to h.format bytes (first ++ r.asking) w.entry.lines from fault
+            (subst (ComesToNext bytes (first ++ r.asking) w.entry.lines from) e (r.comes bytes k));
       })
 
   -- no more entries are counted
-  pub run_full : (next : Result Bool RecordFault) → Runs known first had h w from has next count → RunsTo known first had h w.output.items has (Err NoRoom)
+  pub run_full : (next : Result Bool RecordFault) → Runs known first had h w from has next count →
+      RunsTo known first had h w.output.items has (Err NoRoom)
   run_full next r = (
     count,
     record {
@@ -118,15 +127,19 @@ module _ (known : Option (List ℕ)) (first : List ℕ) (had : Option (List ℕ)
 
 -- ---- one more entry
 
-part_more : (had mid has : Option (List ℕ)) (sent waits : List ℕ) → Appends had mid sent → WritesPart mid has waits → WritesPart had has (sent ++ waits)
-part_more had mid has sent waits a p = (sent ++ p.0, p.1, ap (λ (l : List ℕ). sent ++ l) p.2 ∙ sym (append_assoc sent p.0 p.1), Appends-trans had mid has sent p.0 a p.3)
+part_more : (had mid has : Option (List ℕ)) (sent waits : List ℕ) → Appends had mid sent → WritesPart mid has waits →
+    WritesPart had has (sent ++ waits)
+part_more had mid has sent waits a p =
+    (sent ++ p.0, p.1, ap (λ (l : List ℕ). sent ++ l) p.2 ∙ sym (append_assoc sent p.0 p.1), Appends-trans had mid has sent p.0 a p.3)
 
 some_more : (first asking more : List ℕ) → more ≢ [] → first ++ (asking ++ more) ≢ []
 some_more first asking [] some none = some refl
-some_more first asking (b ∷ more) some none = omega (arith, ap length none, length-append first (asking ++ b ∷ more), length-append asking (b ∷ more))
+some_more first asking (b ∷ more) some none =
+    omega (arith, ap length none, length-append first (asking ++ b ∷ more), length-append asking (b ∷ more))
 
 -- it waits, and the input is after its lines
-pub record IsAfterEntries (known : Option (List ℕ)) (first : List ℕ) (had : Option (List ℕ)) (h : Header) (w : Recorder) (from has : Option (List ℕ)) (count : ℕ) : Type 0 where
+pub record IsAfterEntries (known : Option (List ℕ)) (first : List ℕ) (had : Option (List ℕ)) (h : Header) (w : Recorder)
+    (from has : Option (List ℕ)) (count : ℕ) : Type 0 where
   pub sent : List ℕ
   pub asking : List ℕ
   pub state : State
@@ -144,8 +157,10 @@ module _ (known : Option (List ℕ)) (first : List ℕ) (had : Option (List ℕ)
 
   pub entry_added : AddsEntry w from new to → IsAfterEntries known first had h new to has (suc count)
   entry_added added =
-      let a = added.1 (r.sent ++ w.output.items) r.asking r.state count (subst (λ (z : Header). Recorded z (r.sent ++ w.output.items) r.asking r.state count) (sym r.header) r.recorded) r.stands in
-      let text : (r.sent ++ w.output.items) ++ a.added ≡ r.sent ++ new.output.items = append_assoc r.sent w.output.items a.added ∙ ap (λ (l : List ℕ). r.sent ++ l) (sym a.output) in
+      let a = added.1 (r.sent ++ w.output.items) r.asking r.state count
+      (subst (λ (z : Header). Recorded z (r.sent ++ w.output.items) r.asking r.state count) (sym r.header) r.recorded) r.stands in
+      let text : (r.sent ++ w.output.items) ++ a.added ≡ r.sent ++ new.output.items =
+      append_assoc r.sent w.output.items a.added ∙ ap (λ (l : List ℕ). r.sent ++ l) (sym a.output) in
       record {
         sent = r.sent;
         asking = r.asking ++ a.more;
@@ -153,9 +168,11 @@ module _ (known : Option (List ℕ)) (first : List ℕ) (had : Option (List ℕ)
         header = added.0 ∙ r.header;
         written = r.written;
         recorded =
-            subst (λ (z : Header). Recorded z (r.sent ++ new.output.items) (r.asking ++ a.more) a.new_state (suc count)) r.header (subst (λ (t : List ℕ). Recorded w.header t (r.asking ++ a.more) a.new_state (suc count)) text a.recorded);
+            subst (λ (z : Header). Recorded z (r.sent ++ new.output.items) (r.asking ++ a.more) a.new_state (suc count)) r.header
+            (subst (λ (t : List ℕ). Recorded w.header t (r.asking ++ a.more) a.new_state (suc count)) text a.recorded);
         stands = a.stands;
-        at = λ bytes k. subst (λ (f : List ℕ). IsAt bytes f new.entry.lines to) (append_assoc first r.asking a.more) (a.over bytes (first ++ r.asking) (at_line bytes k));
+        at = λ bytes k. subst (λ (f : List ℕ). IsAt bytes f new.entry.lines to) (append_assoc first r.asking a.more)
+            (a.over bytes (first ++ r.asking) (at_line bytes k));
         some = some_more first r.asking a.more a.some;
       }
 
@@ -169,10 +186,12 @@ module _ (known : Option (List ℕ)) (first : List ℕ) (had : Option (List ℕ)
         state = r.state;
         written = r.written;
         recorded = subst (λ (l : List ℕ). Recorded h (r.sent ++ l) r.asking r.state count) (sym f.1.1) r.recorded;
-        input = λ bytes k. subst (λ (z : Header). IsBeforeFault z.format fault bytes (first ++ r.asking)) r.header (f.2 bytes (first ++ r.asking) (at_line bytes k) (λ none. r.no_ring none there));
+        input = λ bytes k. subst (λ (z : Header). IsBeforeFault z.format fault bytes (first ++ r.asking)) r.header
+            (f.2 bytes (first ++ r.asking) (at_line bytes k) (λ none. r.no_ring none there));
       })
 
-module _ (known : Option (List ℕ)) (first : List ℕ) (had : Option (List ℕ)) (h : Header) (w : Recorder) (from has now : Option (List ℕ)) (count : ℕ) (b : IsAfterEntries known first had h w from has count) where
+module _ (known : Option (List ℕ)) (first : List ℕ) (had : Option (List ℕ)) (h : Header) (w : Recorder) (from has now : Option (List ℕ))
+    (count : ℕ) (b : IsAfterEntries known first had h w from has count) where
   -- it can't be written
   pub entry_unwritten : (waits : List ℕ) → WritesPart has now w.output.items → RunsTo known first had h waits now (Err WriteFault)
   entry_unwritten waits p =
@@ -187,10 +206,13 @@ module _ (known : Option (List ℕ)) (first : List ℕ) (had : Option (List ℕ)
       }
 
   -- it is written, or waits, and the next line is read
-  pub entry_written : (new : Recorder) (waits : List ℕ) (lines : LinesContent) (to : Option (List ℕ)) (next : Result Bool RecordFault) → new.header ≡ w.header → new.store ≡ w.store → new.output.items ≡ waits → new.entry.lines ≡ lines →
+  pub entry_written : (new : Recorder) (waits : List ℕ) (lines : LinesContent) (to : Option (List ℕ)) (next : Result Bool RecordFault) →
+      new.header ≡ w.header → new.store ≡ w.store → new.output.items ≡ waits → new.entry.lines ≡ lines →
       SendsFront has now w.output.items waits → Comes w.entry.lines from lines to next → Runs known first had h new to now next count
   entry_written new waits lines to next header store output there s comes =
-      let text : b.sent ++ w.output.items ≡ (b.sent ++ s.0) ++ new.output.items = ap (λ (l : List ℕ). b.sent ++ l) (s.1 ∙ ap (λ (l : List ℕ). s.0 ++ l) (sym output)) ∙ sym (append_assoc b.sent s.0 new.output.items) in
+      let text : b.sent ++ w.output.items ≡ (b.sent ++ s.0) ++ new.output.items =
+      ap (λ (l : List ℕ). b.sent ++ l) (s.1 ∙ ap (λ (l : List ℕ). s.0 ++ l) (sym output)) ∙
+      sym (append_assoc b.sent s.0 new.output.items) in
       record {
         sent = b.sent ++ s.0;
         asking = b.asking;
@@ -199,7 +221,8 @@ module _ (known : Option (List ℕ)) (first : List ℕ) (had : Option (List ℕ)
         written = Appends-trans had has now b.sent s.0 b.written s.2;
         recorded = subst (λ (t : List ℕ). Recorded h t b.asking b.state count) text b.recorded;
         stands = subst (λ (c : ContentRecord). ContentStands c b.state) (sym store) b.stands;
-        comes = λ bytes k. subst (λ (l : LinesContent). ComesToNext bytes (first ++ b.asking) l to next) (sym there) (comes bytes (first ++ b.asking) (b.at bytes k));
+        comes = λ bytes k. subst (λ (l : LinesContent). ComesToNext bytes (first ++ b.asking) l to next) (sym there)
+            (comes bytes (first ++ b.asking) (b.at bytes k));
         no_ring = λ none. absurd (b.some none);
       }
 
@@ -218,32 +241,57 @@ runs_first known first had form ring lines w from next o comes no_ring =
       state = opened_by (header_of form ring);
       header = o.header_is;
       written = Appends-nil had;
-      recorded = subst (λ (t : List ℕ). Recorded (header_of form ring) t [] (opened_by (header_of form ring)) 0) (sym o.output_is) (recorded_none (header_of form ring) o.is_header);
+      recorded = subst (λ (t : List ℕ). Recorded (header_of form ring) t [] (opened_by (header_of form ring)) 0) (sym o.output_is)
+          (recorded_none (header_of form ring) o.is_header);
       stands = o.stands;
-      comes = λ bytes k. subst (λ (f : List ℕ). ComesToNext bytes f w.entry.lines from next) (sym (append-nil first)) (subst (λ (l : LinesContent). ComesToNext bytes first l from next) (sym o.lines_are) (comes bytes k));
+      comes = λ bytes k. subst (λ (f : List ℕ). ComesToNext bytes f w.entry.lines from next) (sym (append-nil first))
+          (subst (λ (l : LinesContent). ComesToNext bytes first l from next) (sym o.lines_are) (comes bytes k));
       no_ring = λ none. subst (λ (l : LinesContent). GoesToNoRing l next) (sym o.lines_are) (no_ring (sym (append-nil first) ∙ none));
     }
 
-is_record : (form : Form) (ring : ℕ) (first asking text : List ℕ) (s : State) (count : ℕ) → OpensWith first ring → Recorded (header_of form ring) text asking s count → IsRecord form (first ++ asking) text count
+is_record : (form : Form) (ring : ℕ) (first asking text : List ℕ) (s : State) (count : ℕ) → OpensWith first ring →
+    Recorded (header_of form ring) text asking s count → IsRecord form (first ++ asking) text count
 is_record form ring first asking text s count opens r =
-    record { ring = ring; first = first; asking = asking; entries = r.entries; last = s; opens = opens; input_is = refl; asks = r.asks; trace = r.trace; answered = r.answered; counted = r.counted }
+    record {
+      ring = ring;
+      first = first;
+      asking = asking;
+      entries = r.entries;
+      last = s;
+      opens = opens;
+      input_is = refl;
+      asks = r.asks;
+      trace =
+          r.trace;
+      answered = r.answered;
+      counted = r.counted;
+    }
 
 format_is : (form : Form) (ring : ℕ) → (header_of form ring).format ≡ format_of form
 format_is forms.One ring = refl
 format_is (forms.Two limits) ring = refl
 
-front_up_to : (format : Format) (fault : RecordFault) (bytes input : List ℕ) → IsBeforeFault format fault bytes input → IsFirstLines bytes input
+front_up_to : (format : Format) (fault : RecordFault) (bytes input : List ℕ) → IsBeforeFault format fault bytes input →
+    IsFirstLines bytes input
 front_up_to format (BadLine number place) bytes input x = x.whole
 front_up_to format ReadFault bytes input x = x
 front_up_to format WriteFault bytes input x = x
 front_up_to format NoRoom bytes input x = x
 
-module _ (form : Form) (ring : ℕ) (known : Option (List ℕ)) (first : List ℕ) (had mid has : Option (List ℕ)) (waits : List ℕ) (opens : OpensWith first ring) where
+module _ (form : Form) (ring : ℕ) (known : Option (List ℕ)) (first : List ℕ) (had mid has : Option (List ℕ)) (waits : List ℕ)
+    (opens : OpensWith first ring) where
   abbrev header : Header
   header = header_of form ring
 
-  pub settled_whole : (count : ℕ) → HasRun known first had header waits mid IsAllLines count → Appends mid has waits → Records form known had has count
-  settled_whole count r a = (first ++ r.asking, r.sent ++ waits, is_record form ring first r.asking (r.sent ++ waits) r.state count opens r.recorded, Appends-trans had mid has r.sent waits r.written a, by_known known _ r.input)
+  pub settled_whole : (count : ℕ) → HasRun known first had header waits mid IsAllLines count → Appends mid has waits →
+      Records form known had has count
+  settled_whole count r a = (
+    first ++ r.asking,
+    r.sent ++ waits,
+    is_record form ring first r.asking (r.sent ++ waits) r.state count opens r.recorded,
+    Appends-trans had mid has r.sent waits r.written a,
+    by_known known _ r.input,
+  )
 
   -- the writer fails at last
   settled_unwritten : (Holds : List ℕ → List ℕ → Type 0) (count : ℕ)
@@ -290,15 +338,21 @@ module _ (form : Form) (ring : ℕ) (known : Option (List ℕ)) (first : List �
   whole_front : (bytes input : List ℕ) → IsAllLines bytes input → IsFirstLines bytes input
   whole_front bytes input w = (w.0, [], subst (HasLines bytes) (sym (append-nil w.0)) w.1, w.2)
 
-  pub whole_unwritten : (count : ℕ) → HasRun known first had header waits mid IsAllLines count → WritesPart mid has waits → StopsRecording form known had has WriteFault
+  pub whole_unwritten : (count : ℕ) → HasRun known first had header waits mid IsAllLines count → WritesPart mid has waits →
+      StopsRecording form known had has WriteFault
   whole_unwritten count r p = settled_unwritten IsAllLines count whole_front r p
 
-  up_to_settled : (fault result : RecordFault) → ((text : List ℕ) → Appends had has text → WritesBy fault had has text) → (count : ℕ) × HasRun known first had header waits mid (IsBeforeFault header.format fault) count →
-      ((result ≡ fault) × Appends mid has waits) ⊎ ((result ≡ WriteFault) × WritesPart mid has waits) → StopsRecording form known had has result
+  up_to_settled : (fault result : RecordFault) → ((text : List ℕ) → Appends had has text → WritesBy fault had has text) →
+      (count : ℕ) × HasRun known first had header waits mid (IsBeforeFault header.format fault) count →
+      ((result ≡ fault) × Appends mid has waits) ⊎ ((result ≡ WriteFault) × WritesPart mid has waits) →
+      StopsRecording form known had has result
   up_to_settled fault result other r (inl s) = subst (StopsRecording form known had has) (sym s.0) (settled_up_to fault r.0 other r.1 s.1)
-  up_to_settled fault result other r (inr s) = subst (StopsRecording form known had has) (sym s.0) (settled_unwritten (IsBeforeFault header.format fault) r.0 (front_up_to header.format fault) r.1 s.1)
+  up_to_settled fault result other r (inr s) =
+      subst (StopsRecording form known had has) (sym s.0)
+      (settled_unwritten (IsBeforeFault header.format fault) r.0 (front_up_to header.format fault) r.1 s.1)
 
-  pub fault_settled : (fault result : RecordFault) → RunsTo known first had header waits mid (Err fault) → WritesRest fault mid has waits result → StopsRecording form known had has result
+  pub fault_settled : (fault result : RecordFault) → RunsTo known first had header waits mid (Err fault) →
+      WritesRest fault mid has waits result → StopsRecording form known had has result
   fault_settled WriteFault result r s = subst (StopsRecording form known had has) (sym s.0) (settled_failed r s.1)
   fault_settled (BadLine number place) result r s = up_to_settled (BadLine number place) result (λ text a. a) r s
   fault_settled ReadFault result r s = up_to_settled ReadFault result (λ text a. a) r s

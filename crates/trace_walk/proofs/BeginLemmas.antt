@@ -1,5 +1,6 @@
 -- The first line of a trace.
-use Rattle.std.proofs.Common.{◌≡◌, ℕ, suc, ◌<◌, ◌≤◌, List, [], ◌∷◌, ◌++◌, length, get_or, Option, Some, None, IfSome, refl, sym, ap, subst, ◌∙◌, arith, length-append}
+use Rattle.std.proofs.Common.{◌≡◌, ℕ, suc, ◌<◌, ◌≤◌, List, [], ◌∷◌, ◌++◌, length, get_or, Option, Some, None, IfSome, refl, sym, ap, subst}
+use Rattle.std.proofs.Common.{◌∙◌, arith, length-append}
 use Rattle.std.specs.Fmt.{decimal}
 use Rattle.std.proofs.lemmas.Fmt.{length-decimal-le}
 use Rattle.ds_content.specs.Content.{ContentRecord}
@@ -37,8 +38,17 @@ said_for start bytes faults.NoRoom f = tt
 pub legal_at_end : (b : Spot) (l : LinesContent) (store : ContentRecord) (h : Header) (from : Option (List ℕ))
     → Walks b l store h from → (count : ℕ) → b.count ≡ count → (lines : List (List ℕ)) × HasLines b.bytes lines × (b.front ≡ joined lines)
     → IsVerdict b.bytes (verdicts.Legal count)
-legal_at_end b l store h from w count is ends =
-    (ends.0, ends.1, (h, w.past.entries, b.state, subst (λ (t : List ℕ). IsTrace t h w.past.entries b.state) ends.2 w.past.trace, w.past.counted ∙ is))
+legal_at_end b l store h from w count is ends = (
+  ends.0,
+  ends.1,
+  (
+    h,
+    w.past.entries,
+    b.state,
+    subst (λ (t : List ℕ). IsTrace t h w.past.entries b.state) ends.2 w.past.trace,
+    w.past.counted ∙ is,
+  ),
+)
 
 -- ---- the empty front
 
@@ -47,7 +57,8 @@ some_header = record { format = One; incarnation = 0; first = 0; ring = 1; limit
 
 some_is : IsHeader some_header
 unfolding some_header
-some_is = record { incarnation = omega arith; first = omega arith; ring = record { some = omega arith; limit = omega arith }; limits = refl }
+some_is =
+    record { incarnation = omega arith; first = omega arith; ring = record { some = omega arith; limit = omega arith }; limits = refl }
 
 nothing_begins : MayBegin []
 nothing_begins = let b = header_after some_header some_is in (header_text some_header, 0, (some_header, b.entries, _, b.trace, b.counted))
@@ -119,21 +130,42 @@ pub wrong_first : (bytes line : List ℕ) (number : ℕ) (before more : List (Li
     → HasNoHeader (with_newline line)
     → WantsHeader bytes (faults.BadLineAt number)
 wrong_first bytes line number before more lines past counted whole none =
-    let wrong : IsWrongAt bytes number [] = record { before = before; rest = line ∷ more; lines = lines; past = past; counted = counted; begins = nothing_begins; fails = bad_header line more whole none } in
+    let wrong : IsWrongAt bytes number [] = record {
+      before = before;
+      rest = line ∷ more;
+      lines = lines;
+      past = past;
+      counted = counted;
+      begins = nothing_begins;
+      fails =
+          bad_header line more whole none;
+    } in
     (([], wrong, no_reply_first, none_here []), ([], wrong, refl))
 
-pub line_wrong : (bytes line : List ℕ) (number : ℕ) (l : LinesContent) (to : Option (List ℕ)) → HasLine bytes [] line l to → number ≡ 1 → HasNoHeader (with_newline line) → WantsHeader bytes (faults.BadLineAt number)
+pub line_wrong : (bytes line : List ℕ) (number : ℕ) (l : LinesContent) (to : Option (List ℕ)) → HasLine bytes [] line l to → number ≡ 1 →
+    HasNoHeader (with_newline line) → WantsHeader bytes (faults.BadLineAt number)
 line_wrong bytes line number l to h one none =
-    wrong_first bytes line number h.before h.more h.lines h.front_is (one ∙ ap (λ (b : List (List ℕ)). suc (length b)) (sym (joined_none h.before h.front_is))) h.whole none
+    wrong_first bytes line number h.before h.more h.lines h.front_is
+    (one ∙ ap (λ (b : List (List ℕ)). suc (length b)) (sym (joined_none h.before h.front_is))) h.whole none
 
 pub input_empty : (bytes : List ℕ) (number : ℕ) → IsRead bytes [] number → WantsHeader bytes (faults.BadLineAt 1)
 input_empty bytes number r =
     let none : r.0 ≡ [] = joined_none r.0 r.2 in
-    let wrong : IsWrongAt bytes 1 [] = record { before = []; rest = []; lines = subst (HasLines bytes) none r.1; past = refl; counted = refl; begins = nothing_begins; fails = nothing_illegal } in
+    let wrong : IsWrongAt bytes 1 [] = record {
+      before = [];
+      rest = [];
+      lines = subst (HasLines bytes) none r.1;
+      past = refl;
+      counted = refl;
+      begins = nothing_begins;
+      fails =
+          nothing_illegal;
+    } in
     (([], wrong, no_reply_first, none_here []), ([], wrong, refl))
 
 pub first_fails : (bytes : List ℕ) (fault : EntryFault) → IsLongFault bytes [] fault → WantsHeader bytes (of_entry fault)
-first_fails bytes (entries.BadLine number) l = wrong_first bytes l.line number l.before l.more l.lines l.front_is l.counted l.whole (long_none l.line l.long)
+first_fails bytes (entries.BadLine number) l =
+    wrong_first bytes l.line number l.before l.more l.lines l.front_is l.counted l.whole (long_none l.line l.long)
 first_fails bytes entries.ReadFault l = (tt, tt)
 first_fails bytes entries.NoRoom l = (tt, tt)
 
@@ -157,7 +189,8 @@ pub by_known : (o : Option (List ℕ)) (P : List ℕ → Type 0) → ((bytes : L
 by_known None P all = tt
 by_known (Some bytes) P all = all bytes refl
 
-pub known_both : (o : Option (List ℕ)) (P Q S : List ℕ → Type 0) → IfSome o P → IfSome o Q → ((bytes : List ℕ) → P bytes → Q bytes → S bytes) → IfSome o S
+pub known_both : (o : Option (List ℕ)) (P Q S : List ℕ → Type 0) → IfSome o P → IfSome o Q →
+    ((bytes : List ℕ) → P bytes → Q bytes → S bytes) → IfSome o S
 known_both None P Q S h k all = tt
 known_both (Some bytes) P Q S h k all = all bytes h k
 

@@ -1,5 +1,6 @@
 -- Why a walk ends at a place: the line there is the first wrong one.
-use Rattle.std.proofs.Common.{◌≡◌, ℕ, suc, ◌<◌, ◌≤◌, Bool, true, List, [], ◌∷◌, ◌++◌, length, Option, Some, IfSome, Result, refl, sym, ap, subst, ◌∙◌, arith, append_assoc, append-nil, length-append}
+use Rattle.std.proofs.Common.{◌≡◌, ℕ, suc, ◌<◌, ◌≤◌, Bool, true, List, [], ◌∷◌, ◌++◌, length, Option, Some, IfSome, Result, refl, sym, ap}
+use Rattle.std.proofs.Common.{subst, ◌∙◌, arith, append_assoc, append-nil, length-append}
 use Rattle.std.specs.Result.{IfErr, IsErrAnd}
 use Rattle.std.proofs.lemmas.Result.{err_from_is_err_and}
 use Rattle.line_io.specs.Lines.{HasLines, IsUnbroken, EndsLine, with_newline, joined}
@@ -22,32 +23,43 @@ is_nothing (b ∷ part) e = absurd (omega (arith, e))
 
 -- nothing is between the start and itself
 pub none_here : (start : List ℕ) → NoneEnds start start
-none_here start part left n e legal = is_nothing part (omega (arith, ap length e, length-append (start ++ part) left, length-append start part))
+none_here start part left n e legal = is_nothing part
+    (omega (arith, ap length e, length-append (start ++ part) left, length-append start part))
 
 -- the verdict is at the line after the front, where a reply line must follow
 at_place : (start bytes front : List ℕ) (number : ℕ) (May : List ℕ → Type 0) (before rest : List (List ℕ))
-    → IsPlaceInEntry start front true May → HasLines bytes (before ++ rest) → front ≡ joined before → number ≡ suc (length before) → Fails front rest
+    → IsPlaceInEntry start front true May → HasLines bytes (before ++ rest) → front ≡ joined before → number ≡ suc (length before) →
+    Fails front rest
     → IsFault start bytes (IllegalAt number)
-at_place start bytes front number May before rest p lines past counted fails =
-    (front, record { before = before; rest = rest; lines = lines; past = past; counted = counted; begins = p.begins; fails = fails }, p.wants, p.none)
+at_place start bytes front number May before rest p lines past counted fails = (
+  front,
+  record { before = before; rest = rest; lines = lines; past = past; counted = counted; begins = p.begins; fails = fails },
+  p.wants,
+  p.none,
+)
 
 -- no line is there
 pub missing : (start bytes front : List ℕ) (count number : ℕ) (May : List ℕ → Type 0)
     → IsRead bytes front count → IsPlaceInEntry start front true May → number ≡ suc count
     → IsFault start bytes (IllegalAt number)
-missing start bytes front count number May r p e = at_place start bytes front number May r.0 [] p (subst (HasLines bytes) (sym (append-nil r.0)) r.1) r.2 (e ∙ ap suc r.3) p.ends
+missing start bytes front count number May r p e =
+    at_place start bytes front number May r.0 [] p (subst (HasLines bytes) (sym (append-nil r.0)) r.1) r.2 (e ∙ ap suc r.3) p.ends
 
 -- the line that is there is wrong
 pub wrong_there : (start bytes front line : List ℕ) (l : LinesContent) (to : Option (List ℕ)) (number : ℕ) (May : List ℕ → Type 0)
     → HasLine bytes front line l to → IsPlaceInEntry start front true May → ¬ May (with_newline line) → number ≡ l.count
     → IsFault start bytes (IllegalAt number)
-wrong_there start bytes front line l to number May h p none e = at_place start bytes front number May h.before (line ∷ h.more) p h.lines h.front_is (e ∙ h.counted) (p.wrong line h.more h.whole none)
+wrong_there start bytes front line l to number May h p none e =
+    at_place start bytes front number May h.before (line ∷ h.more) p h.lines h.front_is (e ∙ h.counted) (p.wrong line h.more h.whole none)
 
 pub not_short : (line : List ℕ) → 4096 < length line → ¬ IsShort (with_newline line)
 not_short line long short = omega (arith, long, short, length-append line (10 ∷ []))
 
-pub too_long : (start bytes front : List ℕ) (fault : EntryFault) → IsLongFault bytes front fault → IsPlaceInEntry start front true IsShort → IsFault start bytes (of_reply fault)
-too_long start bytes front (entries.BadLine number) l p = at_place start bytes front number IsShort l.before (l.line ∷ l.more) p l.lines l.front_is l.counted (p.wrong l.line l.more l.whole (not_short l.line l.long))
+pub too_long : (start bytes front : List ℕ) (fault : EntryFault) → IsLongFault bytes front fault →
+    IsPlaceInEntry start front true IsShort → IsFault start bytes (of_reply fault)
+too_long start bytes front (entries.BadLine number) l p =
+    at_place start bytes front number IsShort l.before (l.line ∷ l.more) p l.lines l.front_is l.counted
+    (p.wrong l.line l.more l.whole (not_short l.line l.long))
 too_long start bytes front entries.ReadFault l p = tt
 too_long start bytes front entries.NoRoom l p = tt
 
@@ -64,8 +76,16 @@ pub some_at : {T : Type 0} (o : Option T) (x : T) (P : T → Type 0) → o ≡ S
 some_at o x P e h = subst (λ q. IfSome q P) e h
 
 -- a place where fewer lines are wrong
-pub place_of : (start front : List ℕ) (b : Bool) (May More : List ℕ → Type 0) → ((line : List ℕ) → May line → More line) → IsPlaceInEntry start front b May → IsPlaceInEntry start front b More
-place_of start front b May More all p = record { begins = p.begins; wants = p.wants; ends = p.ends; none = p.none; wrong = λ line rest whole none. p.wrong line rest whole (λ m. none (all (with_newline line) m)) }
+pub place_of : (start front : List ℕ) (b : Bool) (May More : List ℕ → Type 0) → ((line : List ℕ) → May line → More line) →
+    IsPlaceInEntry start front b May → IsPlaceInEntry start front b More
+place_of start front b May More all p = record {
+  begins = p.begins;
+  wants = p.wants;
+  ends = p.ends;
+  none = p.none;
+  wrong = λ line rest whole none.
+      p.wrong line rest whole (λ m. none (all (with_newline line) m));
+}
 
 -- ---- the text of a reply
 
@@ -73,8 +93,10 @@ marked_one : (line : List ℕ) (e : EndsLine line) → marked (e.front ++ 10 ∷
 unfolding marked_from
 marked_one line e = marked_line e.front [] e.none ∙ ap (λ (l : List ℕ). 60 ∷ 32 ∷ l) (sym e.parts)
 
-pub split_on : (bytes base whole rest next : List ℕ) (l : LinesContent) (from : Option (List ℕ)) → IsSaid bytes base whole rest l from → rest ≡ next → IsSaid bytes base whole next l from
-split_on bytes base whole rest next l from x e = record { given = x.given; whole_is = x.whole_is ∙ ap (λ (r : List ℕ). (x.given ++ 10 ∷ []) ++ r) e; at = x.at }
+pub split_on : (bytes base whole rest next : List ℕ) (l : LinesContent) (from : Option (List ℕ)) → IsSaid bytes base whole rest l from →
+    rest ≡ next → IsSaid bytes base whole next l from
+split_on bytes base whole rest next l from x e =
+    record { given = x.given; whole_is = x.whole_is ∙ ap (λ (r : List ℕ). (x.given ++ 10 ∷ []) ++ r) e; at = x.at }
 
 -- one more line of it is there
 pub one_more : (bytes base whole line more here : List ℕ) (old l : LinesContent) (from to : Option (List ℕ))
@@ -90,26 +112,35 @@ one_more bytes base whole line more here old l from to x e h same =
     ∙ ap (λ (l : List ℕ). base ++ l) (sym (marked_append x.given (e.front ++ 10 ∷ [])) ∙ ap (λ (l : List ℕ). marked l) (sym line_is)) in
     record {
       given = given;
-      whole_is = x.whole_is ∙ sym (append_assoc (x.given ++ 10 ∷ []) line more) ∙ ap (λ (l : List ℕ). ((x.given ++ 10 ∷ []) ++ l) ++ more) e.parts ∙ ap (λ (l : List ℕ). l ++ more) (sym line_is);
+      whole_is = x.whole_is ∙ sym (append_assoc (x.given ++ 10 ∷ []) line more) ∙
+          ap (λ (l : List ℕ). ((x.given ++ 10 ∷ []) ++ l) ++ more) e.parts ∙ ap (λ (l : List ℕ). l ++ more) (sym line_is);
       at = subst (λ (f : List ℕ). IsAt bytes f l to) text h.then;
     }
 
 -- its first line is there
-pub first_said : (bytes base here line : List ℕ) (l : LinesContent) (to : Option (List ℕ)) (e : EndsLine line) → HasLine bytes base here l to → with_newline here ≡ 60 ∷ 32 ∷ line → IsAt bytes (base ++ marked (e.front ++ 10 ∷ [])) l to
+pub first_said : (bytes base here line : List ℕ) (l : LinesContent) (to : Option (List ℕ)) (e : EndsLine line) →
+    HasLine bytes base here l to → with_newline here ≡ 60 ∷ 32 ∷ line → IsAt bytes (base ++ marked (e.front ++ 10 ∷ [])) l to
 first_said bytes base here line l to e h same = subst (λ (f : List ℕ). IsAt bytes (base ++ f) l to) (same ∙ sym (marked_one line e)) h.then
 
 -- all of it is there
-pub all_said : (bytes base whole rest : List ℕ) (l : LinesContent) (to : Option (List ℕ)) → IsSaid bytes base whole rest l to → IsEnded whole → IsUnbroken rest → IsAt bytes (base ++ marked whole) l to
+pub all_said : (bytes base whole rest : List ℕ) (l : LinesContent) (to : Option (List ℕ)) → IsSaid bytes base whole rest l to →
+    IsEnded whole → IsUnbroken rest → IsAt bytes (base ++ marked whole) l to
 all_said bytes base whole rest l to x all whole_line =
     let none : rest ≡ [] = all (x.given ++ 10 ∷ []) rest x.whole_is whole_line in
-    subst (λ (f : List ℕ). IsAt bytes (base ++ marked f) l to) (sym (x.whole_is ∙ ap (λ (l : List ℕ). (x.given ++ 10 ∷ []) ++ l) none ∙ append-nil (x.given ++ 10 ∷ []))) x.at
+    subst (λ (f : List ℕ). IsAt bytes (base ++ marked f) l to)
+    (sym (x.whole_is ∙ ap (λ (l : List ℕ). (x.given ++ 10 ∷ []) ++ l) none ∙ append-nil (x.given ++ 10 ∷ []))) x.at
 
 -- the next line of it is short
 next_short : (line next : List ℕ) → length next ≤ 4095 → line ≡ 60 ∷ 32 ∷ next → IsShort line
 next_short line next few e = omega (arith, few, ap length e)
 
-pub further_short : (start front next : List ℕ) → IsPlaceInEntry start front true (λ (line : List ℕ). line ≡ 60 ∷ 32 ∷ next) × (length next ≤ 4095) → IsPlaceInEntry start front true IsShort
-further_short start front next p = place_of start front true (λ (line : List ℕ). line ≡ 60 ∷ 32 ∷ next) IsShort (λ line e. next_short line next p.1 e) p.0
+pub further_short : (start front next : List ℕ) →
+    IsPlaceInEntry start front true (λ (line : List ℕ). line ≡ 60 ∷ 32 ∷ next) × (length next ≤ 4095) →
+    IsPlaceInEntry start front true IsShort
+further_short start front next p = place_of start front true (λ (line : List ℕ). line ≡ 60 ∷ 32 ∷ next) IsShort
+    (λ line e. next_short line next p.1 e) p.0
 
-pub further_there : (start front next here : List ℕ) → IsPlaceInEntry start front true (λ (line : List ℕ). line ≡ 60 ∷ 32 ∷ next) → IsPlaceInEntry start front true (IsThere here next)
-further_there start front next here p = place_of start front true (λ (line : List ℕ). line ≡ 60 ∷ 32 ∷ next) (IsThere here next) (λ line e same. e) p
+pub further_there : (start front next here : List ℕ) → IsPlaceInEntry start front true (λ (line : List ℕ). line ≡ 60 ∷ 32 ∷ next) →
+    IsPlaceInEntry start front true (IsThere here next)
+further_there start front next here p = place_of start front true (λ (line : List ℕ). line ≡ 60 ∷ 32 ∷ next) (IsThere here next)
+    (λ line e same. e) p

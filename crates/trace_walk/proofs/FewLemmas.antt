@@ -1,5 +1,6 @@
 -- The numbers in a reply have 64 bits.
-use Rattle.std.proofs.Common.{◌≡◌, ℕ, suc, zero, ◌+◌, ◌-◌, ◌<◌, ◌≤◌, ◌^◌, ◌==◌, ◌&&◌, ◌||◌, Bool, true, false, not, cond, nat_le, nat_lt, List, [], ◌∷◌, ◌++◌, length, map, take, filter, fold, Option, Some, None, is_some, inl, inr}
+use Rattle.std.proofs.Common.{◌≡◌, ℕ, suc, zero, ◌+◌, ◌-◌, ◌<◌, ◌≤◌, ◌^◌, ◌==◌, ◌&&◌, ◌||◌, Bool, true, false, not, cond, nat_le, nat_lt}
+use Rattle.std.proofs.Common.{List, [], ◌∷◌, ◌++◌, length, map, take, filter, fold, Option, Some, None, is_some, inl, inr}
 use Rattle.std.proofs.Common.{refl, sym, ap, subst, arith, length-append, length-take, length-drop}
 use Rattle.std.specs.List.{find}
 use Rattle.std.specs.Option.{option_map, option_map_or, option_and_then}
@@ -28,7 +29,8 @@ use Rattle.ds_feed.specs.Feed.{from}
 use Rattle.ds_feed.specs.Page.{is_floor, is_after_key, still_to_come, floors_of, changes_of, page_of}
 use Rattle.ds_feed.specs.Since.{prefix, piece, since_of}
 use Rattle.ds_feed.specs.declared.cursor.Cursor.{Cursor}
-use Rattle.ds_machine.specs.Asking.{AskedChange, published, deleted, name_of, asked_in, against_asked, against_sweep, cause_against, sweep_cause}
+use Rattle.ds_machine.specs.Asking.{AskedChange, published, deleted, name_of, asked_in, against_asked, against_sweep, cause_against}
+use Rattle.ds_machine.specs.Asking.{sweep_cause}
 use Rattle.ds_machine.specs.Calling.{against_check, against_merge, against_subscribe, against_scope, against_since, against_page}
 use Rattle.ds_names.specs.Limits.{last_place}
 use Rattle.ds_machine.specs.Machine.{Step, outcome, answer_for, sweep_answer, found_or, live_at}
@@ -43,14 +45,16 @@ use Rattle.ds_machine.specs.Subscription.{Subscription, is_unseen}
 use Rattle.ds_machine.specs.Watching.{shows, check_case, checking_at, subscribe_case}
 use Rattle.ds_machine.specs.Within.{IsWithin}
 use Rattle.ds_machine.specs.declared.command.Command.{Command}
-use Rattle.ds_machine.specs.declared.command.Command.TheVariants.{Publish, Delete, Sweep, Retrieve, NameOf, Subscribe, Check, Since, Snapshot, Page, Merge}
+use Rattle.ds_machine.specs.declared.command.Command.TheVariants.{Publish, Delete, Sweep, Retrieve, NameOf, Subscribe, Check, Since}
+use Rattle.ds_machine.specs.declared.command.Command.TheVariants.{Snapshot, Page, Merge}
 use Rattle.ds_machine.specs.declared.command.Scope.{Scope}
 use Rattle.ds_machine.specs.declared.refusal.Cause.{Cause}
 use Rattle.ds_machine.specs.declared.refusal.Cause.TheVariants as causes
 use Rattle.ds_machine.specs.declared.refusal.Refusal.{Refusal}
 use Rattle.ds_machine.specs.declared.refusal.Refusal.TheVariants as refusals
 use Rattle.ds_machine.specs.declared.reply.Reply.{Reply}
-use Rattle.ds_machine.specs.declared.reply.Reply.TheVariants.{Swept, Found, Named, Subscribed, Checked, Journaled, Snapped, Paged, Merged, MergeStopped, Refused}
+use Rattle.ds_machine.specs.declared.reply.Reply.TheVariants.{Swept, Found, Named, Subscribed, Checked, Journaled, Snapped, Paged, Merged}
+use Rattle.ds_machine.specs.declared.reply.Reply.TheVariants.{MergeStopped, Refused}
 use Rattle.ds_machine.proofs.OneStepLemmas.{none_some}
 use Rattle.ds_machine.proofs.PartLemmas.{found, missing, changes_in-from}
 use Rattle.ds_machine.proofs.ReachedLemmas.{held_is_top}
@@ -139,13 +143,15 @@ fault_few : (r : Refusal) → is_wide r ≡ false → IsFewFault r
 fault_few (refusals.Clash v) e = narrow_few v e
 fault_few _ e = tt
 
-change_cause : (v : Version) (stands : Cause → Bool) (c : Cause) → IsNarrow v → first_cause (Some v) stands ≡ Some c → is_wide_cause c ≡ false
+change_cause : (v : Version) (stands : Cause → Bool) (c : Cause) → IsNarrow v → first_cause (Some v) stands ≡ Some c →
+    is_wide_cause c ≡ false
 change_cause v stands c is e =
     let order : List Cause = map causes.Refused by_command ++ by_version (Some v) ++ map causes.Refused by_room in
     none_pass is_wide_cause order c (ap (λ (b : Bool). b || false) (narrow_test v is)) (found stands order c e).0
 
 floor_cause : (stands : Cause → Bool) (c : Cause) → first_cause None stands ≡ Some c → is_wide_cause c ≡ false
-floor_cause stands c e = let order : List Cause = map causes.Refused by_command ++ by_version None ++ map causes.Refused by_room in none_pass is_wide_cause order c refl (found stands order c e).0
+floor_cause stands c e = let order : List Cause = map causes.Refused by_command ++ by_version None ++ map causes.Refused by_room in
+    none_pass is_wide_cause order c refl (found stands order c e).0
 
 other_cause : (stands : Refusal → Bool) (r : Refusal) → first_refusal stands ≡ Some r → is_wide r ≡ false
 other_cause stands r e = let order : List Refusal = by_command ++ by_room in none_pass is_wide order r refl (found stands order r e).0
@@ -166,7 +172,8 @@ body_value : (b : Body) (v : Value) → IsBody b → value_in b ≡ Some v → I
 body_value (Put x) v is e = subst IsValue (same_Some x v e) is
 body_value Gone v is e = absurd (none_some v e)
 
-found_value : (o : Option ChangeRecord) (v : Value) → ((c : ChangeRecord) → o ≡ Some c → IsChange c) → option_and_then value_of o ≡ Some v → IsValue v
+found_value : (o : Option ChangeRecord) (v : Value) → ((c : ChangeRecord) → o ≡ Some c → IsChange c) →
+    option_and_then value_of o ≡ Some v → IsValue v
 found_value (Some c) v all e = body_value c.body v (all c refl).body e
 found_value None v all e = absurd (none_some v e)
 
@@ -178,7 +185,8 @@ named_few : (o : Option (List ℕ)) → ((n : List ℕ) → o ≡ Some n → len
 named_few (Some n) all = all n refl
 named_few None all = tt
 
-name_few : (b : Bool) (o : Option ChangeRecord) (n : List ℕ) → ((c : ChangeRecord) → o ≡ Some c → IsChange c) → cond b (Some rs_name) (option_map (λ (c : ChangeRecord). c.key.name) o) ≡ Some n → length n ≤ 64
+name_few : (b : Bool) (o : Option ChangeRecord) (n : List ℕ) → ((c : ChangeRecord) → o ≡ Some c → IsChange c) →
+    cond b (Some rs_name) (option_map (λ (c : ChangeRecord). c.key.name) o) ≡ Some n → length n ≤ 64
 name_few true o n all e = omega (arith, ap length (same_Some rs_name n e))
 name_few false (Some c) n all e = subst (λ (l : List ℕ). length l ≤ 64) (same_Some c.key.name n e) (all c refl).name.limit
 name_few false None n all e = absurd (none_some n e)
@@ -202,18 +210,32 @@ item_cause s (Floored f) c is e = floor_cause (against_floor (floor_standing_of 
 stopped_counts : (k : Course) (n : ℕ) (r : Refusal) → Counts k n → is_wide r ≡ false → Counts (record k { stop = Some r }) (n + 1)
 stopped_counts k n r x e = record { done = omega (arith, x.done); taken = omega (arith, x.taken); stale = omega (arith, x.stale); stop = e }
 
-judged_counts : (k : Course) (n : ℕ) (i : Item) (o : Option Cause) → Counts k n → ((c : Cause) → o ≡ Some c → is_wide_cause c ≡ false) → Counts (item_judged k i o) (n + 1)
-judged_counts k n i None x all = record { done = omega (arith, x.done); taken = omega (arith, x.taken, length-append k.taken (i ∷ [])); stale = omega (arith, x.stale); stop = x.stop }
-judged_counts k n i (Some causes.Known) x all = record { done = omega (arith, x.done); taken = omega (arith, x.taken); stale = omega (arith, x.stale); stop = x.stop }
-judged_counts k n i (Some (causes.Refused refusals.Stale)) x all = record { done = omega (arith, x.done); taken = omega (arith, x.taken); stale = omega (arith, x.stale); stop = x.stop }
+judged_counts : (k : Course) (n : ℕ) (i : Item) (o : Option Cause) → Counts k n → ((c : Cause) → o ≡ Some c → is_wide_cause c ≡ false) →
+    Counts (item_judged k i o) (n + 1)
+judged_counts k n i None x all =
+    record {
+      done = omega (arith, x.done);
+      taken = omega (arith, x.taken, length-append k.taken (i ∷ []));
+      stale = omega (arith, x.stale);
+      stop =
+          x.stop;
+    }
+judged_counts k n i (Some causes.Known) x all =
+    record { done = omega (arith, x.done); taken = omega (arith, x.taken); stale = omega (arith, x.stale); stop = x.stop }
+judged_counts k n i (Some (causes.Refused refusals.Stale)) x all =
+    record { done = omega (arith, x.done); taken = omega (arith, x.taken); stale = omega (arith, x.stale); stop = x.stop }
 judged_counts k n i (Some (causes.Refused r)) x all = stopped_counts k n r x (all (causes.Refused r) refl)
 
-merged_counts : (k : Course) (n : ℕ) (i : Item) (stop : Option Refusal) → IsItem i → Counts k n → Counts (option_map_or {U = Course} (λ (r : Refusal). k) stop (item_judged k i (cause_of k.state i))) (n + 1)
-merged_counts k n i (Some r) is x = record { done = omega (arith, x.done); taken = omega (arith, x.taken); stale = omega (arith, x.stale); stop = x.stop }
+merged_counts : (k : Course) (n : ℕ) (i : Item) (stop : Option Refusal) → IsItem i → Counts k n →
+    Counts (option_map_or {U = Course} (λ (r : Refusal). k) stop (item_judged k i (cause_of k.state i))) (n + 1)
+merged_counts k n i (Some r) is x = record
+    { done = omega (arith, x.done); taken = omega (arith, x.taken); stale = omega (arith, x.stale); stop = x.stop }
 merged_counts k n i None is x = judged_counts k n i (cause_of k.state i) x (λ c e. item_cause k.state i c is e)
 
-course_counts : (items : List Item) (k : Course) (n : ℕ) → AreItems items → Counts k n → Counts (fold item_merged k items) (n + length items)
-course_counts [] k n are x = record { done = omega (arith, x.done); taken = omega (arith, x.taken); stale = omega (arith, x.stale); stop = x.stop }
+course_counts : (items : List Item) (k : Course) (n : ℕ) → AreItems items → Counts k n →
+    Counts (fold item_merged k items) (n + length items)
+course_counts [] k n are x =
+    record { done = omega (arith, x.done); taken = omega (arith, x.taken); stale = omega (arith, x.stale); stop = x.stop }
 course_counts (i ∷ items) k n are x =
     let one = merged_counts k n i k.stop (are i (Contains-head i items)) x in
     let all = course_counts items (item_merged k i) (n + 1) (λ j m. are j (Contains-tail i items j m)) one in
@@ -237,31 +259,39 @@ few_or : {X : Type 0} (s : State) (o : Option X) (f : X → Reply) (reply : Repl
 few_or s (Some x) f reply new each own = each x refl
 few_or s None f reply new each own = own refl
 
-refusal_or : (s : State) (stands : Refusal → Bool) (reply : Reply) (new : State) → (first_refusal stands ≡ None → IsFewReply reply) → IsFewReply (option_map_or {U = Reply × State} (λ r. (Refused r, s)) (first_refusal stands) (reply, new)).0
+refusal_or : (s : State) (stands : Refusal → Bool) (reply : Reply) (new : State) → (first_refusal stands ≡ None → IsFewReply reply) →
+    IsFewReply (option_map_or {U = Reply × State} (λ r. (Refused r, s)) (first_refusal stands) (reply, new)).0
 refusal_or s stands reply new own = few_or s (first_refusal stands) Refused reply new (λ r e. fault_few r (other_cause stands r e)) own
 
-module _ (s : State) (reached : IsReached s) (within : IsWithin s) (are : AreItems s.feed.accepted) (incarnation : IsFew s.feed.incarnation) where
+module _ (s : State) (reached : IsReached s) (within : IsWithin s) (are : AreItems s.feed.accepted)
+    (incarnation : IsFew s.feed.incarnation) where
   held_few : length (held s) ≤ 5000
   held_few = omega (arith, parts_are (held s), within.keys, within.floors, (few_limits s.limits reached.limits).1)
 
   held_change : (test : ChangeRecord → Bool) (c : ChangeRecord) → find test (changes_in (held s)) ≡ Some c → IsChange c
-  held_change test c e = are (Changed c) ((held_is_top s reached).among (Changed c) (changes_in-from (held s) c (found test (changes_in (held s)) c e).0))
+  held_change test c e = are (Changed c) ((held_is_top s reached).among (Changed c)
+      (changes_in-from (held s) c (found test (changes_in (held s)) c e).0))
 
   cursor_few : IsFewCursor (cursor s)
   cursor_few = (incarnation, omega (arith, within.position))
 
-  shows_few : (sub : ℕ) (seer : Subscription) (items : List Item) → seer.stamp ≤ s.stamp → length items ≤ 5000 → IsFewReply (shows s sub seer items).0
+  shows_few : (sub : ℕ) (seer : Subscription) (items : List Item) → seer.stamp ≤ s.stamp → length items ≤ 5000 →
+      IsFewReply (shows s sub seer items).0
   shows_few sub seer [] stamp few = (omega arith, omega (arith, stamp, within.stamp), omega (arith, stamp, within.stamp))
   shows_few sub seer (i ∷ items) stamp few = (omega (arith, few), omega (arith, stamp, within.stamp), omega (arith, within.stamp))
 
   unseen_few : (max : ℕ) (seer : Subscription) → length (take max (unseen s seer)) ≤ 5000
   unseen_few max seer = omega (arith, length-take max (unseen s seer), filter_few (is_unseen seer.query seer.shown) (held s), held_few)
 
-  check_few : (sub max : ℕ) (o : Option Subscription) → ((seer : Subscription) → o ≡ Some seer → seer.stamp ≤ s.stamp) → IsFewReply (checking_at s sub max o).0
-  check_few sub max o stamps = by_cause o (first_refusal (against_check (check_case s sub max o))) stamps (λ r e. other_cause (against_check (check_case s sub max o)) r e)
+  check_few : (sub max : ℕ) (o : Option Subscription) → ((seer : Subscription) → o ≡ Some seer → seer.stamp ≤ s.stamp) →
+      IsFewReply (checking_at s sub max o).0
+  check_few sub max o stamps = by_cause o (first_refusal (against_check (check_case s sub max o))) stamps
+      (λ r e. other_cause (against_check (check_case s sub max o)) r e)
     where
-      by_cause : (o : Option Subscription) (p : Option Refusal) → ((seer : Subscription) → o ≡ Some seer → seer.stamp ≤ s.stamp) → ((r : Refusal) → p ≡ Some r → is_wide r ≡ false) →
-          IsFewReply (option_map_or {U = Reply × State} (λ r. (Refused r, s)) p (option_map_or {U = Reply × State} (λ f. shows s sub f (take max (unseen s f))) o (Refused refusals.NotFound, s))).0
+      by_cause : (o : Option Subscription) (p : Option Refusal) → ((seer : Subscription) → o ≡ Some seer → seer.stamp ≤ s.stamp) →
+          ((r : Refusal) → p ≡ Some r → is_wide r ≡ false) →
+          IsFewReply (option_map_or {U = Reply × State} (λ r. (Refused r, s)) p
+          (option_map_or {U = Reply × State} (λ f. shows s sub f (take max (unseen s f))) o (Refused refusals.NotFound, s))).0
       by_cause o (Some r) stamps all = fault_few r (all r refl)
       by_cause None None stamps all = tt
       by_cause (Some seer) None stamps all = shows_few sub seer (take max (unseen s seer)) (stamps seer refl) (unseen_few max seer)
@@ -271,7 +301,8 @@ module _ (s : State) (reached : IsReached s) (within : IsWithin s) (are : AreIte
       let all : next_position s ≤ last_place = within.position in
       omega (arith, prefix_few test max (from s.feed at.position), length-drop (at.position - s.feed.first) s.feed.accepted, all)
 
-  since_few : (scope : Scope) (at : Cursor) (max : ℕ) → first_refusal (against_since s.feed scope at max) ≡ None → IsFewReply (Journaled (since_of s.feed (is_kept scope) at max))
+  since_few : (scope : Scope) (at : Cursor) (max : ℕ) → first_refusal (against_since s.feed scope at max) ≡ None →
+      IsFewReply (Journaled (since_of s.feed (is_kept scope) at max))
   since_few scope at max e =
       let order : List Refusal = by_command ++ by_room in
       let stands : Refusal → Bool = against_since s.feed scope at max in
@@ -317,32 +348,53 @@ module _ (s : State) (reached : IsReached s) (within : IsWithin s) (are : AreIte
       (λ e. tt)
   few_outcome (Delete caller key version) proper small =
       let a : AskedChange = deleted caller key version in
-      few_or s (cause_against s a Gone) answer_for _ _ (λ c e. answer_few c (change_cause version (against_asked (standing_of s (asked_in s a Gone)) (name_of (held s) a.caller) a Gone) c (proper.epoch, proper.seq) e)) (λ e. tt)
+      few_or s (cause_against s a Gone) answer_for _ _
+      (λ c e. answer_few c (change_cause version (against_asked (standing_of s (asked_in s a Gone)) (name_of (held s) a.caller) a Gone) c
+      (proper.epoch, proper.seq) e)) (λ e. tt)
   few_outcome (Sweep caller owner generation) proper small =
       let f : Floor = floor_of owner generation in
-      few_or s (sweep_cause s caller f) sweep_answer _ _ (λ c e. sweep_few c (floor_cause (against_sweep (floor_standing_of s f) caller f) c e))
-      (λ e. omega (arith, filter_few (λ (c : ChangeRecord). voids f c && is_some (value_of c)) (changes_in (held s)), within.keys, (few_limits s.limits reached.limits).1))
-  few_outcome (Retrieve key) proper small = found_few (live_at s key) (λ v e. found_value (held_at (held s) key) v (λ c q. held_change _ c q) e)
-  few_outcome (NameOf endpoint) proper small = named_few (name_of (held s) endpoint) (λ n e. name_few (is_rs endpoint) (find (names_endpoint endpoint) (changes_in (held s))) n (λ c q. held_change (names_endpoint endpoint) c q) e)
-  few_outcome (Subscribe sub query initial overwrite) proper small = refusal_or s (against_subscribe (subscribe_case s sub query overwrite)) _ _ (λ e. omega (arith, within.stamp))
+      few_or s (sweep_cause s caller f) sweep_answer _ _
+      (λ c e. sweep_few c (floor_cause (against_sweep (floor_standing_of s f) caller f) c e))
+      (λ e.
+      omega (
+        arith,
+        filter_few (λ (c : ChangeRecord). voids f c && is_some (value_of c)) (changes_in (held s)),
+        within.keys,
+        (few_limits s.limits reached.limits).1,
+      ))
+  few_outcome (Retrieve key) proper small = found_few (live_at s key)
+      (λ v e. found_value (held_at (held s) key) v (λ c q. held_change _ c q) e)
+  few_outcome (NameOf endpoint) proper small =
+      named_few (name_of (held s) endpoint) (λ n e.
+      name_few (is_rs endpoint) (find (names_endpoint endpoint) (changes_in (held s))) n (λ c q. held_change (names_endpoint endpoint) c q)
+      e)
+  few_outcome (Subscribe sub query initial overwrite) proper small =
+      refusal_or s (against_subscribe (subscribe_case s sub query overwrite)) _ _ (λ e. omega (arith, within.stamp))
   few_outcome (Check sub max) proper small = check_few sub max (subscription_at s sub) (λ seer e. (reached.served sub seer e).stamp)
   few_outcome (Since scope at max) proper small = refusal_or s (against_since s.feed scope at max) _ _ (λ e. since_few scope at max e)
-  few_outcome (Snapshot scope) proper small = refusal_or s (against_scope scope) _ _ (λ e. (omega (arith, filter_few (is_kept scope) (held s), held_few), cursor_few))
+  few_outcome (Snapshot scope) proper small =
+      refusal_or s (against_scope scope) _ _ (λ e. (omega (arith, filter_few (is_kept scope) (held s), held_few), cursor_few))
   few_outcome (Page scope after max) proper small = refusal_or s (against_page scope max) _ _ (λ e. page_few (is_kept scope) after max)
-  few_outcome (Merge items) proper small = by_cause (first_refusal (against_merge (length items))) (λ r e. other_cause (against_merge (length items)) r e)
+  few_outcome (Merge items) proper small = by_cause (first_refusal (against_merge (length items)))
+      (λ r e. other_cause (against_merge (length items)) r e)
     where
       by_cause : (o : Option Refusal) → ((r : Refusal) → o ≡ Some r → is_wide r ≡ false) → IsFewReply (merging s items o).0
       by_cause (Some r) all = fault_few r (all r refl)
       by_cause None all =
-          let x = course_counts items (begun s) 0 proper (record { done = omega arith; taken = omega arith; stale = omega arith; stop = refl }) in
-          merge_few s (course s items) (course s items).stop (omega (arith, x.done, small)) (omega (arith, x.taken, small)) (omega (arith, x.stale, small)) x.stop
+          let x = course_counts items (begun s) 0 proper
+          (record { done = omega arith; taken = omega arith; stale = omega arith; stop = refl }) in
+          merge_few s (course s items) (course s items).stop (omega (arith, x.done, small)) (omega (arith, x.taken, small))
+          (omega (arith, x.stale, small)) x.stop
 
 -- ---- steps
 
-few_step : (s t : State) (command : Command) (reply : Reply) → IsReached s → IsWithin s → AreItems s.feed.accepted → IsFew s.feed.incarnation → IsProper command → IsSmall command → Step s command reply t → IsFewReply reply
-few_step s t command reply r w are i proper small (inl (inl a)) = subst IsFewReply (sym a.reply_is) (few_outcome s r w are i command proper small)
+few_step : (s t : State) (command : Command) (reply : Reply) → IsReached s → IsWithin s → AreItems s.feed.accepted →
+    IsFew s.feed.incarnation → IsProper command → IsSmall command → Step s command reply t → IsFewReply reply
+few_step s t command reply r w are i proper small (inl (inl a)) =
+    subst IsFewReply (sym a.reply_is) (few_outcome s r w are i command proper small)
 few_step s t command reply r w are i proper small (inl (inr a)) = subst IsFewReply (sym a.reply_is) tt
-few_step s t (Merge items) reply r w are i proper small (inr m) = subst IsFewReply (sym m.1.reply_is) (omega (arith, m.1.few, m.1.some_left), tt)
+few_step s t (Merge items) reply r w are i proper small (inr m) =
+    subst IsFewReply (sym m.1.reply_is) (omega (arith, m.1.few, m.1.some_left), tt)
 few_step s t _ reply r w are i proper small (inr m) = absurd m
 
 module _ (s : State) (owner : List ℕ) (generation : ℕ) where
@@ -362,18 +414,25 @@ module _ (s : State) (owner : List ℕ) (generation : ℕ) where
       by_tests true false e = tt
       by_tests false b e = tt
 
-few_traced : (format : Format) (s t : State) (command : Command) (reply : Reply) → IsTraced format s → IsProper command → IsSmall command → Step s command reply t → IsFewReply reply
-few_traced format s t command reply traced proper small step = few_step s t command reply traced.reached traced.within traced.items traced.incarnation proper small step
+few_traced : (format : Format) (s t : State) (command : Command) (reply : Reply) → IsTraced format s → IsProper command → IsSmall command →
+    Step s command reply t → IsFewReply reply
+few_traced format s t command reply traced proper small step =
+    few_step s t command reply traced.reached traced.within traced.items traced.incarnation proper small step
 
-by_format : (format : Format) (s t : State) (command : Command) (reply : Reply) → IsTraced format s → IsProper command → IsSmall command → StepOf format s command reply t → IsFewReply reply
+by_format : (format : Format) (s t : State) (command : Command) (reply : Reply) → IsTraced format s → IsProper command → IsSmall command →
+    StepOf format s command reply t → IsFewReply reply
 by_format Two s t command reply traced proper small x = few_traced Two s t command reply traced proper small x
-by_format One s t (Sweep caller owner generation) reply traced proper small (inl a) = subst IsFewReply (sym a.reply_is) (few_older s owner generation caller)
+by_format One s t (Sweep caller owner generation) reply traced proper small (inl a) =
+    subst IsFewReply (sym a.reply_is) (few_older s owner generation caller)
 by_format One s t (Sweep caller owner generation) reply traced proper small (inr a) = subst IsFewReply (sym a.reply_is) tt
-by_format One s t (Publish caller key version value overwrite) reply traced proper small x = few_traced One s t (Publish caller key version value overwrite) reply traced proper small x
-by_format One s t (Delete caller key version) reply traced proper small x = few_traced One s t (Delete caller key version) reply traced proper small x
+by_format One s t (Publish caller key version value overwrite) reply traced proper small x =
+    few_traced One s t (Publish caller key version value overwrite) reply traced proper small x
+by_format One s t (Delete caller key version) reply traced proper small x =
+    few_traced One s t (Delete caller key version) reply traced proper small x
 by_format One s t (Retrieve key) reply traced proper small x = few_traced One s t (Retrieve key) reply traced proper small x
 by_format One s t (NameOf endpoint) reply traced proper small x = few_traced One s t (NameOf endpoint) reply traced proper small x
-by_format One s t (Subscribe sub query initial overwrite) reply traced proper small x = few_traced One s t (Subscribe sub query initial overwrite) reply traced proper small x
+by_format One s t (Subscribe sub query initial overwrite) reply traced proper small x =
+    few_traced One s t (Subscribe sub query initial overwrite) reply traced proper small x
 by_format One s t (Check sub max) reply traced proper small x = few_traced One s t (Check sub max) reply traced proper small x
 by_format One s t (Since scope at max) reply traced proper small x = few_traced One s t (Since scope at max) reply traced proper small x
 by_format One s t (Snapshot scope) reply traced proper small x = few_traced One s t (Snapshot scope) reply traced proper small x
@@ -382,4 +441,6 @@ by_format One s t (Merge items) reply traced proper small x = few_traced One s t
 
 pub few_reply : (format : Format) (pass : ℕ) (s t : State) (asked : Asked) (command : Command) (reply : Reply)
     → IsTraced format s → MayAsk format pass asked → command_asked asked ≡ Some command → StepOf format s command reply t → IsFewReply reply
-few_reply format pass s t asked command reply traced may asks step = by_format format s t command reply traced (asked_proper format pass asked command may asks) (asked_small format pass asked command may asks) step
+few_reply format pass s t asked command reply traced may asks step =
+    by_format format s t command reply traced (asked_proper format pass asked command may asks)
+    (asked_small format pass asked command may asks) step

@@ -1,5 +1,6 @@
 -- Texts that begin with a line, and lines with their marks.
-use Rattle.std.proofs.Common.{◌≡◌, ◌≢◌, ℕ, ◌==◌, Bool, true, false, List, [], ◌∷◌, ◌++◌, length, drop, refl, sym, ap, ◌∙◌, arith, append_assoc, append-nil}
+use Rattle.std.proofs.Common.{◌≡◌, ◌≢◌, ℕ, ◌==◌, Bool, true, false, List, [], ◌∷◌, ◌++◌, length, drop, refl, sym, ap, ◌∙◌, arith}
+use Rattle.std.proofs.Common.{append_assoc, append-nil}
 use Rattle.std.proofs.lemmas.Bool.{eqb-true, eqb-false}
 use Rattle.std.proofs.lemmas.List.Elements.{All-nil}
 use Rattle.ds_held.specs.Limits.{LimitsRecord}
@@ -31,8 +32,22 @@ begins_line [] past = record { front = []; whole = All-nil (λ (x : ℕ). x ≢ 
 begins_line (b ∷ before) past = by_test (b == 10) refl (begins_line before past)
   where
     by_test : (t : Bool) → (b == 10) ≡ t → BeginsLine (before ++ 10 ∷ past) → BeginsLine (b ∷ (before ++ 10 ∷ past))
-    by_test true e more = record { front = []; whole = All-nil (λ (x : ℕ). x ≢ 10); rest = before ++ 10 ∷ past; is = ap (λ (x : ℕ). x ∷ (before ++ 10 ∷ past)) (eqb-true b 10 e) }
-    by_test false e more = record { front = b ∷ more.front; whole = unbroken_one b more.front (eqb-false b 10 e) more.whole; rest = more.rest; is = ap (λ (l : List ℕ). b ∷ l) more.is }
+    by_test true e more =
+        record {
+          front = [];
+          whole = All-nil (λ (x : ℕ). x ≢ 10);
+          rest = before ++ 10 ∷ past;
+          is =
+              ap (λ (x : ℕ). x ∷ (before ++ 10 ∷ past)) (eqb-true b 10 e);
+        }
+    by_test false e more =
+        record {
+          front = b ∷ more.front;
+          whole = unbroken_one b more.front (eqb-false b 10 e) more.whole;
+          rest = more.rest;
+          is =
+              ap (λ (l : List ℕ). b ∷ l) more.is;
+        }
 
 pub reply_begins : (wording : Wording) (reply : Reply) (limits : LimitsRecord) → BeginsLine (reply_lines wording reply limits)
 reply_begins wording reply limits =
@@ -57,7 +72,8 @@ within_line : (front rest : List ℕ) → Unbroken front → marked_from false (
 unfolding marked_from
 within_line [] rest whole = refl
 within_line (b ∷ front) rest whole =
-    ap (λ (t : Bool). b ∷ marked_from t (front ++ 10 ∷ rest)) (not_ten b (whole 0 0 (omega arith))) ∙ ap (λ (l : List ℕ). b ∷ l) (within_line front rest (unbroken_tail b front whole))
+    ap (λ (t : Bool). b ∷ marked_from t (front ++ 10 ∷ rest)) (not_ten b (whole 0 0 (omega arith))) ∙
+    ap (λ (l : List ℕ). b ∷ l) (within_line front rest (unbroken_tail b front whole))
 
 -- a line has its mark in front, and then the rest has its own
 pub marked_line : (front rest : List ℕ) → Unbroken front → marked (front ++ 10 ∷ rest) ≡ 60 ∷ 32 ∷ (front ++ 10 ∷ marked rest)
@@ -74,14 +90,16 @@ pub marked_more : (line more : List ℕ) → EndsLine line → marked (line ++ m
 marked_more line more e =
     ap (λ (l : List ℕ). marked l) (ap (λ (l : List ℕ). l ++ more) e.parts ∙ append_assoc e.front (10 ∷ []) more)
     ∙ marked_line e.front more e.none
-    ∙ ap (λ (l : List ℕ). 60 ∷ 32 ∷ l) (sym (append_assoc e.front (10 ∷ []) (marked more)) ∙ ap (λ (l : List ℕ). l ++ marked more) (sym e.parts))
+    ∙ ap (λ (l : List ℕ). 60 ∷ 32 ∷ l) (sym (append_assoc e.front (10 ∷ []) (marked more)) ∙
+    ap (λ (l : List ℕ). l ++ marked more) (sym e.parts))
 
 -- a line without a newline has it, too
 open_line : (line : List ℕ) → Unbroken line → marked_from false line ≡ line
 unfolding marked_from
 open_line [] whole = refl
 open_line (b ∷ line) whole =
-    ap (λ (t : Bool). b ∷ marked_from t line) (not_ten b (whole 0 0 (omega arith))) ∙ ap (λ (l : List ℕ). b ∷ l) (open_line line (unbroken_tail b line whole))
+    ap (λ (t : Bool). b ∷ marked_from t line) (not_ten b (whole 0 0 (omega arith))) ∙
+    ap (λ (l : List ℕ). b ∷ l) (open_line line (unbroken_tail b line whole))
 
 pub marked_open : (line : List ℕ) → Unbroken line → line ≢ [] → marked line ≡ 60 ∷ 32 ∷ line
 unfolding marked_from
@@ -93,10 +111,12 @@ pub none_more : (text rest whole : List ℕ) → (length rest == 0) ≡ true →
 none_more text [] whole e is = sym (append-nil text) ∙ ap (λ (l : List ℕ). text ++ l) (sym marked_none) ∙ is
 none_more text (b ∷ rest) whole e is = absurd (omega (arith, eqb-true (length (b ∷ rest)) 0 e))
 
-pub open_more : (text after rest whole : List ℕ) → Unbroken rest → (length rest == 0) ≡ false → after ≡ text ++ 60 ∷ 32 ∷ (rest ++ []) → text ++ marked rest ≡ whole → after ≡ whole
+pub open_more : (text after rest whole : List ℕ) → Unbroken rest → (length rest == 0) ≡ false → after ≡ text ++ 60 ∷ 32 ∷ (rest ++ []) →
+    text ++ marked rest ≡ whole → after ≡ whole
 open_more text after rest whole line e written is =
     written ∙ ap (λ (l : List ℕ). text ++ 60 ∷ 32 ∷ l) (append-nil rest)
-    ∙ ap (λ (l : List ℕ). text ++ l) (sym (marked_open rest line (λ none. eqb-false (length rest) 0 e (ap (λ (l : List ℕ). length l) none)))) ∙ is
+    ∙ ap (λ (l : List ℕ). text ++ l) (sym (marked_open rest line
+    (λ none. eqb-false (length rest) 0 e (ap (λ (l : List ℕ). length l) none)))) ∙ is
 
 -- the marks of a text that ends with a newline, and of what follows it
 from_append : (first : Bool) (a b : List ℕ) → marked_from first (a ++ 10 ∷ b) ≡ marked_from first (a ++ 10 ∷ []) ++ marked b
@@ -113,10 +133,13 @@ marked_append a b = ap (λ (l : List ℕ). marked l) (append_assoc a (10 ∷ [])
 pub marked_first : (a b r s : List ℕ) → BeginsLine a → BeginsLine b → marked a ++ r ≡ marked b ++ s → HaveOneFirst a b
 marked_first a b r s x y e =
     let left : marked a ++ r ≡ 60 ∷ 32 ∷ (x.front ++ 10 ∷ (marked x.rest ++ r)) =
-    ap (λ (l : List ℕ). l ++ r) (ap (λ (l : List ℕ). marked l) x.is ∙ marked_line x.front x.rest x.whole) ∙ ap (λ (l : List ℕ). 60 ∷ 32 ∷ l) (append_assoc x.front (10 ∷ marked x.rest) r) in
+    ap (λ (l : List ℕ). l ++ r) (ap (λ (l : List ℕ). marked l) x.is ∙ marked_line x.front x.rest x.whole) ∙
+    ap (λ (l : List ℕ). 60 ∷ 32 ∷ l) (append_assoc x.front (10 ∷ marked x.rest) r) in
     let right : marked b ++ s ≡ 60 ∷ 32 ∷ (y.front ++ 10 ∷ (marked y.rest ++ s)) =
-    ap (λ (l : List ℕ). l ++ s) (ap (λ (l : List ℕ). marked l) y.is ∙ marked_line y.front y.rest y.whole) ∙ ap (λ (l : List ℕ). 60 ∷ 32 ∷ l) (append_assoc y.front (10 ∷ marked y.rest) s) in
-    let one = split_same 10 x.front y.front (marked x.rest ++ r) (marked y.rest ++ s) x.whole y.whole (ap (drop 2) (sym left ∙ e ∙ right)) in
+    ap (λ (l : List ℕ). l ++ s) (ap (λ (l : List ℕ). marked l) y.is ∙ marked_line y.front y.rest y.whole) ∙
+    ap (λ (l : List ℕ). 60 ∷ 32 ∷ l) (append_assoc y.front (10 ∷ marked y.rest) s) in
+    let one = split_same 10 x.front y.front (marked x.rest ++ r) (marked y.rest ++ s) x.whole y.whole
+    (ap (drop 2) (sym left ∙ e ∙ right)) in
     record {
       line = x.front ++ 10 ∷ [];
       ends = record { front = x.front; parts = refl; none = x.whole };

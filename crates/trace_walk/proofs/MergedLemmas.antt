@@ -25,7 +25,8 @@ by_course s t items reply few room step =
     steps_one s t (outcome s (commands.Merge items)).1 (commands.Merge items) reply (outcome s (commands.Merge items)).0 step
     (inl (inl (record { reply_is = refl; state_is = refl })))
     (none_of (room_wanted reply) room ∙ sym (outcomes_take_none s (commands.Merge items))) in
-    let out : outcome s (commands.Merge items) ≡ (merge_reply s (course s items), (course s items).state) = ap (λ (o : Option Refusal). merging s items o) (none_stands (length items) few) in
+    let out : outcome s (commands.Merge items) ≡ (merge_reply s (course s items), (course s items).state) =
+    ap (λ (o : Option Refusal). merging s items o) (none_stands (length items) few) in
     (one.0 ∙ ap (λ (o : Reply × State). o.0) out, one.1 ∙ ap (λ (o : Reply × State). o.1) out)
 
 stop_none : (done taken stale mask : ℕ) (k : Course) (s : State) (o : Option Refusal)

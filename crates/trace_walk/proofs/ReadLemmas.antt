@@ -22,10 +22,12 @@ pub stays_at : {R : Type 0} (r : Reader R) (old new : LinesContent) (x : R) → 
 stays_at r old new x e = subst (λ (l : LinesContent). ReadsFurther r old x l x) (sym e) (stays r old x)
 
 -- one part after another
-pub on_and_on : {R : Type 0} (r : Reader R) (a b c : LinesContent) (x y z : R) → ReadsFurther r a x b y → ReadsFurther r b y c z → ReadsFurther r a x c z
+pub on_and_on : {R : Type 0} (r : Reader R) (a b c : LinesContent) (x y z : R) → ReadsFurther r a x b y → ReadsFurther r b y c z →
+    ReadsFurther r a x c z
 on_and_on r a b c x y z f g = (λ first led. g.0 first (f.0 first led), omega (arith, f.1, g.1))
 
-pub on_then : {R T : Type 0} (r : Reader R) (result : Result T WalkFault) (a b c : LinesContent) (x y z : R) → ReadsFurther r a x b y → Advances r result b y c z → Advances r result a x c z
+pub on_then : {R T : Type 0} (r : Reader R) (result : Result T WalkFault) (a b c : LinesContent) (x y z : R) → ReadsFurther r a x b y →
+    Advances r result b y c z → Advances r result a x c z
 on_then r (Ok v) a b c x y z f g = on_and_on r a b c x y z f g
 on_then r (Err fault) a b c x y z f g = λ first led. g first (f.0 first led)
 
@@ -49,12 +51,14 @@ pub room_blames : (fault : WalkFault) → fault ≡ NoRoom → IsBlameless fault
 room_blames fault e = subst IsBlameless (sym e) tt
 
 -- the fault of an entry's lines keeps its cause
-pub blames_walk : {R : Type 0} (r : Reader R) (fault : EntryFault) (old new : R) → BlamesLines r fault old new → BlamesReader r (of_entry fault) old new
+pub blames_walk : {R : Type 0} (r : Reader R) (fault : EntryFault) (old new : R) → BlamesLines r fault old new →
+    BlamesReader r (of_entry fault) old new
 blames_walk r (entries.BadLine number) old new c = tt
 blames_walk r entries.ReadFault old new c = c
 blames_walk r entries.NoRoom old new c = tt
 
-pub blames_reply : {R : Type 0} (r : Reader R) (fault : EntryFault) (old new : R) → BlamesLines r fault old new → BlamesReader r (of_reply fault) old new
+pub blames_reply : {R : Type 0} (r : Reader R) (fault : EntryFault) (old new : R) → BlamesLines r fault old new →
+    BlamesReader r (of_reply fault) old new
 blames_reply r (entries.BadLine number) old new c = tt
 blames_reply r entries.ReadFault old new c = c
 blames_reply r entries.NoRoom old new c = tt
@@ -64,6 +68,7 @@ asked_blames badly.BadLine number fault e = subst IsBlameless (sym e) tt
 asked_blames badly.NoRoom number fault e = subst IsBlameless (sym e) tt
 
 -- nothing was read, and memory ran out or nothing else happened
-pub refused_there : {R T : Type 0} (r : Reader R) (result : Result T WalkFault) (old new : LinesContent) (x : R) → IfOk result (λ v. new ≡ old) → IfErr result (λ fault. fault ≡ NoRoom) → Advances r result old x new x
+pub refused_there : {R T : Type 0} (r : Reader R) (result : Result T WalkFault) (old new : LinesContent) (x : R) →
+    IfOk result (λ v. new ≡ old) → IfErr result (λ fault. fault ≡ NoRoom) → Advances r result old x new x
 refused_there r (Ok v) old new x same fault = stays_at r old new x same
 refused_there r (Err e) old new x same fault = λ first led. no_cause r e first x (room_blames e fault)

@@ -1,5 +1,6 @@
 -- The first line of a reply determines whether memory ran out.
-use Rattle.std.proofs.Common.{◌≡◌, ◌≢◌, ℕ, ◌<◌, ◌≤◌, ◌^◌, ◌==◌, if◌then◌else◌, Bool, true, false, cond, nat_lt, List, [], ◌∷◌, ◌++◌, length, get_or, drop, codes, Option, None, Some, is_some, refl, sym, ap, subst, ◌∙◌, arith, append_assoc}
+use Rattle.std.proofs.Common.{◌≡◌, ◌≢◌, ℕ, ◌<◌, ◌≤◌, ◌^◌, ◌==◌, if◌then◌else◌, Bool, true, false, cond, nat_lt, List, [], ◌∷◌, ◌++◌, length}
+use Rattle.std.proofs.Common.{get_or, drop, codes, Option, None, Some, is_some, refl, sym, ap, subst, ◌∙◌, arith, append_assoc}
 use Rattle.std.specs.List.{All, list_all, flat_map}
 use Rattle.std.specs.Char.{is_ascii_digit}
 use Rattle.std.specs.Option.{option_map_or}
@@ -26,7 +27,8 @@ use Rattle.ds_machine.specs.Owed.{owed_by}
 use Rattle.ds_machine.specs.declared.refusal.Refusal.{Refusal}
 use Rattle.ds_machine.specs.declared.refusal.Refusal.TheVariants as refusals
 use Rattle.ds_machine.specs.declared.reply.Reply.{Reply}
-use Rattle.ds_machine.specs.declared.reply.Reply.TheVariants.{Changed as Accepted, Known, Swept, Found, Named, Subscribed, Checked, Journaled, Snapped, Paged, Merged, MergeStopped, Refused}
+use Rattle.ds_machine.specs.declared.reply.Reply.TheVariants.{Changed as Accepted, Known, Swept, Found, Named, Subscribed, Checked}
+use Rattle.ds_machine.specs.declared.reply.Reply.TheVariants.{Journaled, Snapped, Paged, Merged, MergeStopped, Refused}
 use Rattle.ds_replica.specs.CaughtUp.{AreItems}
 use Rattle.script_answers.specs.Reply.{refused, stopped, merged, refusal_words, reply_words, owed_line, reply_lines}
 use Rattle.ds_machine.specs.Given.{shown_by, done_by}
@@ -52,10 +54,14 @@ kind_letter kinds.Str r = (omega arith, λ e. omega (arith, e))
 kind_letter kinds.Mem r = (omega arith, λ e. omega (arith, e))
 
 -- the name of a change, a space, and the word of its kind
-change_begins : (c : ChangeRecord) (more : List ℕ) → (past : List ℕ) × (item_spelling (Changed c) ++ more ≡ c.key.name ++ 32 ∷ (kind_word c.key.kind ++ past))
+change_begins : (c : ChangeRecord) (more : List ℕ) →
+    (past : List ℕ) × (item_spelling (Changed c) ++ more ≡ c.key.name ++ 32 ∷ (kind_word c.key.kind ++ past))
 change_begins c more =
-    let parts : List ℕ = texts (drop 3 (change_parts c)) in
-    (parts ++ more, append_assoc c.key.name (32 ∷ (kind_word c.key.kind ++ parts)) more ∙ ap (λ (l : List ℕ). c.key.name ++ 32 ∷ l) (append_assoc (kind_word c.key.kind) parts more))
+    let parts : List ℕ = texts (drop 3 (change_parts c)) in (
+      parts ++ more,
+      append_assoc c.key.name (32 ∷ (kind_word c.key.kind ++ parts)) more ∙
+          ap (λ (l : List ℕ). c.key.name ++ 32 ∷ l) (append_assoc (kind_word c.key.kind) parts more),
+    )
 
 above_space : (word : List ℕ) → list_all (λ (x : ℕ). nat_lt 32 x) word ≡ true → All (λ (x : ℕ). x ≢ 32) word
 above_space word all = without 32 (λ (x : ℕ). nat_lt 32 x) refl word all
@@ -100,7 +106,8 @@ after_items : (items : List Item) (word more past : List ℕ)
     → more ≡ word ++ 32 ∷ past
 after_items [] word more past are none letter other e = e
 after_items (i ∷ items) word more past are none letter other e =
-    absurd (item_apart i word (flat_map item_spelling items ++ more) past (are i (Contains-head i items)) none letter other (sym (append_assoc (item_spelling i) (flat_map item_spelling items) more) ∙ e))
+    absurd (item_apart i word (flat_map item_spelling items ++ more) past (are i (Contains-head i items)) none letter other
+    (sym (append_assoc (item_spelling i) (flat_map item_spelling items) more) ∙ e))
 
 -- a refusal whose words are `noroom` is out of memory's
 fault_told : (fault : Refusal) (z rest : List ℕ) → (refusal_words fault ++ 10 ∷ []) ++ z ≡ codes "noroom\n" ++ rest → is_noroom fault ≡ true
@@ -132,15 +139,20 @@ refused_told : (fault : Refusal) (z rest : List ℕ) → with_newline (refused f
 refused_told fault z rest e = fault_told fault z rest (ap (drop 8) e)
 
 -- `stopped`, a number, some words, and what follows
-stopped_is : (done : ℕ) (words z : List ℕ) → with_newline (codes "stopped " ++ (decimal done ++ 32 ∷ words)) ++ z ≡ codes "stopped " ++ (decimal done ++ 32 ∷ ((words ++ 10 ∷ []) ++ z))
+stopped_is : (done : ℕ) (words z : List ℕ) →
+    with_newline (codes "stopped " ++ (decimal done ++ 32 ∷ words)) ++ z ≡ codes "stopped " ++
+    (decimal done ++ 32 ∷ ((words ++ 10 ∷ []) ++ z))
 stopped_is done words z =
-    ap (λ (l : List ℕ). codes "stopped " ++ (l ++ z)) (append_assoc (decimal done) (32 ∷ words) (10 ∷ [])) ∙ ap (λ (l : List ℕ). codes "stopped " ++ l) (append_assoc (decimal done) (32 ∷ (words ++ 10 ∷ [])) z)
+    ap (λ (l : List ℕ). codes "stopped " ++ (l ++ z)) (append_assoc (decimal done) (32 ∷ words) (10 ∷ [])) ∙
+    ap (λ (l : List ℕ). codes "stopped " ++ l) (append_assoc (decimal done) (32 ∷ (words ++ 10 ∷ [])) z)
 
 -- `stopped D noroom`
-stopped_told : (d done : ℕ) (fault : Refusal) (z rest : List ℕ) → d < 2 ^ 64 → done < 2 ^ 64 → with_newline (stopped AsMerge done fault) ++ z ≡ stopped_front d rest → (done ≡ d) × (is_noroom fault ≡ true)
+stopped_told : (d done : ℕ) (fault : Refusal) (z rest : List ℕ) → d < 2 ^ 64 → done < 2 ^ 64 →
+    with_newline (stopped AsMerge done fault) ++ z ≡ stopped_front d rest → (done ≡ d) × (is_noroom fault ≡ true)
 stopped_told d done fault z rest few less e =
     let words : List ℕ = refusal_words fault in
-    let one = number_one done d 32 ((words ++ 10 ∷ []) ++ z) (codes "noroom\n" ++ rest) less few refl (ap (drop 8) (sym (stopped_is done words z) ∙ e)) in
+    let one = number_one done d 32 ((words ++ 10 ∷ []) ++ z) (codes "noroom\n" ++ rest) less few refl
+    (ap (drop 8) (sym (stopped_is done words z) ∙ e)) in
     (one.0, fault_told fault z rest one.1)
 
 -- what an offer's answer begins with
@@ -153,7 +165,8 @@ offered_other true true z rest e = omega (arith, ap (λ (l : List ℕ). get_or l
 offered_other true false z rest e = omega (arith, ap (λ (l : List ℕ). get_or l 0 0) e)
 offered_other false b z rest e = omega (arith, ap (λ (l : List ℕ). get_or l 0 0) e)
 
-merged_other : (wording : Wording) (done taken stale : ℕ) (z rest : List ℕ) → with_newline (merged wording done taken stale) ++ z ≡ refused_front rest → ⊥
+merged_other : (wording : Wording) (done taken stale : ℕ) (z rest : List ℕ) →
+    with_newline (merged wording done taken stale) ++ z ≡ refused_front rest → ⊥
 unfolding offered
 merged_other AsOffer done taken stale z rest e = offered_other (taken == 0) (stale == 0) z rest e
 merged_other AsMerge done taken stale z rest e = omega (arith, ap (λ (l : List ℕ). get_or l 0 0) e)
@@ -169,9 +182,11 @@ refused_noted : (wording : Wording) (fault : Refusal) → is_noroom fault ≡ tr
 refused_noted AsOffer fault e = ap (λ (b : Bool). is_some (let whole : Option ℕ = None in cond b (Some whole) None)) e
 refused_noted AsMerge fault e = ap (λ (b : Bool). let whole : Option ℕ = None in cond b (Some whole) None) e
 
-words_refused : (wording : Wording) (reply : Reply) (z rest : List ℕ) → with_newline (reply_words wording reply) ++ z ≡ refused_front rest → Told wording reply
+words_refused : (wording : Wording) (reply : Reply) (z rest : List ℕ) →
+    with_newline (reply_words wording reply) ++ z ≡ refused_front rest → Told wording reply
 words_refused wording (Refused fault) z rest e = refused_noted wording fault (refused_told fault z rest e)
-words_refused AsOffer (MergeStopped done fault mask) z rest e = ap (λ (b : Bool). is_some (cond b (Some (Some done)) None)) (refused_told fault z rest e)
+words_refused AsOffer (MergeStopped done fault mask) z rest e =
+    ap (λ (b : Bool). is_some (cond b (Some (Some done)) None)) (refused_told fault z rest e)
 words_refused AsMerge (MergeStopped done fault mask) z rest e = absurd (omega (arith, ap (λ (l : List ℕ). get_or l 0 0) e))
 words_refused wording (Merged done taken stale mask) z rest e = absurd (merged_other wording done taken stale z rest e)
 words_refused wording (Accepted mask) z rest e = absurd (omega (arith, ap (λ (l : List ℕ). get_or l 0 0) e))
@@ -185,7 +200,8 @@ words_refused wording (Journaled since) z rest e = absurd (omega (arith, ap (λ 
 words_refused wording (Snapped snapshot) z rest e = absurd (omega (arith, ap (λ (l : List ℕ). get_or l 0 0) e))
 words_refused wording (Paged page) z rest e = absurd (omega (arith, ap (λ (l : List ℕ). get_or l 0 0) e))
 
-words_stopped : (d : ℕ) (reply : Reply) (z rest : List ℕ) → d < 2 ^ 64 → done_by reply < 2 ^ 64 → with_newline (reply_words AsMerge reply) ++ z ≡ stopped_front d rest → room_wanted reply ≡ Some (Some d)
+words_stopped : (d : ℕ) (reply : Reply) (z rest : List ℕ) → d < 2 ^ 64 → done_by reply < 2 ^ 64 →
+    with_newline (reply_words AsMerge reply) ++ z ≡ stopped_front d rest → room_wanted reply ≡ Some (Some d)
 words_stopped d (MergeStopped done fault mask) z rest few less e =
     let told = stopped_told d done fault z rest few less e in
     ap (λ (b : Bool). cond b (Some (Some done)) None) told.1 ∙ ap (λ (n : ℕ). Some (Some n)) told.0
@@ -204,12 +220,16 @@ words_stopped d (Paged page) z rest few less e = absurd (omega (arith, ap (λ (l
 
 -- ---- what a reply's text begins with
 
-refused_by : (wording : Wording) (limits : LimitsRecord) (reply : Reply) (rest : List ℕ) → AreItems (shown_by reply) → reply_lines wording reply limits ≡ refused_front rest → Told wording reply
+refused_by : (wording : Wording) (limits : LimitsRecord) (reply : Reply) (rest : List ℕ) → AreItems (shown_by reply) →
+    reply_lines wording reply limits ≡ refused_front rest → Told wording reply
 refused_by wording limits reply rest items e =
     let last : List ℕ = owed_line limits (owed_by reply) in
-    words_refused wording reply last rest (after_items (shown_by reply) (codes "refused") (with_newline (reply_words wording reply) ++ last) (codes "noroom\n" ++ rest) items (above_space (codes "refused") refl) (omega arith) (λ l. refl) e)
+    words_refused wording reply last rest (after_items (shown_by reply) (codes "refused")
+    (with_newline (reply_words wording reply) ++ last) (codes "noroom\n" ++ rest) items (above_space (codes "refused") refl) (omega arith)
+    (λ l. refl) e)
 
-stopped_by : (limits : LimitsRecord) (reply : Reply) (d : ℕ) (rest : List ℕ) → IsSpelt reply → d < 2 ^ 64 → reply_lines AsMerge reply limits ≡ stopped_front d rest → room_wanted reply ≡ Some (Some d)
+stopped_by : (limits : LimitsRecord) (reply : Reply) (d : ℕ) (rest : List ℕ) → IsSpelt reply → d < 2 ^ 64 →
+    reply_lines AsMerge reply limits ≡ stopped_front d rest → room_wanted reply ≡ Some (Some d)
 stopped_by limits reply d rest is few e =
     let last : List ℕ = owed_line limits (owed_by reply) in
     let past : List ℕ = decimal d ++ 32 ∷ (codes "noroom\n" ++ rest) in
@@ -239,36 +259,52 @@ inner_test false p q e = absurd (false≢true (ap (λ (o : Option (Option ℕ)).
 not_none : (q : Option ℕ) → None ≡ Some q → ⊥
 not_none q e = false≢true (ap (λ (o : Option (Option ℕ)). is_some o) e)
 
-refused_line : (limits : LimitsRecord) (wording : Wording) (fault : Refusal) → is_noroom fault ≡ true → (rest : List ℕ) × (reply_lines wording (Refused fault) limits ≡ refused_front rest)
+refused_line : (limits : LimitsRecord) (wording : Wording) (fault : Refusal) → is_noroom fault ≡ true →
+    (rest : List ℕ) × (reply_lines wording (Refused fault) limits ≡ refused_front rest)
 refused_line limits wording fault e = (owed_line limits 0, ap (λ (f : Refusal). reply_lines wording (Refused f) limits) (noroom_is fault e))
 
-refused_text : (wording : Wording) (limits : LimitsRecord) (reply : Reply) → Told wording reply → (rest : List ℕ) × (reply_lines wording reply limits ≡ refused_front rest)
-refused_text AsOffer limits (Refused fault) told = let whole : Option ℕ = None in refused_line limits AsOffer fault (some_test (is_noroom fault) whole told)
-refused_text AsMerge limits (Refused fault) told = let whole : Option ℕ = None in refused_line limits AsMerge fault (whole_test (is_noroom fault) whole told)
-refused_text AsOffer limits (MergeStopped done fault mask) told = (owed_line limits mask, ap (λ (f : Refusal). reply_lines AsOffer (MergeStopped done f mask) limits) (noroom_is fault (some_test (is_noroom fault) (Some done) told)))
-refused_text AsMerge limits (MergeStopped done fault mask) told = let whole : Option ℕ = None in absurd (false≢true (sym (ap (λ (p : Option ℕ). is_some p) (inner_test (is_noroom fault) (Some done) whole told).1)))
+refused_text : (wording : Wording) (limits : LimitsRecord) (reply : Reply) → Told wording reply →
+    (rest : List ℕ) × (reply_lines wording reply limits ≡ refused_front rest)
+refused_text AsOffer limits (Refused fault) told = let whole : Option ℕ = None in
+    refused_line limits AsOffer fault (some_test (is_noroom fault) whole told)
+refused_text AsMerge limits (Refused fault) told = let whole : Option ℕ = None in
+    refused_line limits AsMerge fault (whole_test (is_noroom fault) whole told)
+refused_text AsOffer limits (MergeStopped done fault mask) told = (
+  owed_line limits mask,
+  ap (λ (f : Refusal). reply_lines AsOffer (MergeStopped done f mask) limits)
+      (noroom_is fault (some_test (is_noroom fault) (Some done) told)),
+)
+refused_text AsMerge limits (MergeStopped done fault mask) told = let whole : Option ℕ = None in
+    absurd (false≢true (sym (ap (λ (p : Option ℕ). is_some p) (inner_test (is_noroom fault) (Some done) whole told).1)))
 refused_text AsOffer limits _ told = absurd (false≢true told)
 refused_text AsMerge limits _ told = let whole : Option ℕ = None in absurd (not_none whole told)
 
-stopped_text : (limits : LimitsRecord) (reply : Reply) (d : ℕ) → room_wanted reply ≡ Some (Some d) → (rest : List ℕ) × (reply_lines AsMerge reply limits ≡ stopped_front d rest) × (d ≡ done_by reply)
+stopped_text : (limits : LimitsRecord) (reply : Reply) (d : ℕ) → room_wanted reply ≡ Some (Some d) →
+    (rest : List ℕ) × (reply_lines AsMerge reply limits ≡ stopped_front d rest) × (d ≡ done_by reply)
 stopped_text limits (MergeStopped done fault mask) d e =
     let t = inner_test (is_noroom fault) (Some done) (Some d) e in
     let same : done ≡ d = ap (λ (o : Option ℕ). option_map_or (λ (n : ℕ). n) o 0) t.1 in
-    let text : reply_lines AsMerge (MergeStopped done fault mask) limits ≡ reply_lines AsMerge (MergeStopped d refusals.NoRoom mask) limits =
-    ap (λ (f : Refusal). reply_lines AsMerge (MergeStopped done f mask) limits) (noroom_is fault t.0) ∙ ap (λ (n : ℕ). reply_lines AsMerge (MergeStopped n refusals.NoRoom mask) limits) same in
+    let text : reply_lines AsMerge (MergeStopped done fault mask) limits ≡ reply_lines AsMerge (MergeStopped d refusals.NoRoom mask) limits
+    =
+    ap (λ (f : Refusal). reply_lines AsMerge (MergeStopped done f mask) limits) (noroom_is fault t.0) ∙
+    ap (λ (n : ℕ). reply_lines AsMerge (MergeStopped n refusals.NoRoom mask) limits) same in
     (owed_line limits mask, text ∙ stopped_is d (codes "noroom") (owed_line limits mask), sym same)
-stopped_text limits (Refused fault) d e = let whole : Option ℕ = None in absurd (false≢true (ap (λ (p : Option ℕ). is_some p) (inner_test (is_noroom fault) whole (Some d) e).1))
+stopped_text limits (Refused fault) d e = let whole : Option ℕ = None in
+    absurd (false≢true (ap (λ (p : Option ℕ). is_some p) (inner_test (is_noroom fault) whole (Some d) e).1))
 stopped_text limits _ d e = absurd (not_none (Some d) e)
 
 -- ---- the first line
 
 refused_ends : EndsLine (codes "refused noroom\n")
-refused_ends = record { front = codes "refused noroom"; parts = refl; none = without 10 (λ (b : ℕ). nat_lt 10 b) refl (codes "refused noroom") refl }
+refused_ends =
+    record { front = codes "refused noroom"; parts = refl; none = without 10 (λ (b : ℕ). nat_lt 10 b) refl (codes "refused noroom") refl }
 
 stopped_ends : (d : ℕ) → d < 2 ^ 64 → EndsLine (codes "stopped " ++ (decimal d ++ 32 ∷ codes "noroom\n"))
 stopped_ends d few =
-    let last : EndsLine (32 ∷ codes "noroom\n") = record { front = codes " noroom"; parts = refl; none = without 10 (λ (b : ℕ). nat_lt 10 b) refl (codes " noroom") refl } in
-    ends_after (codes "stopped ") (decimal d ++ 32 ∷ codes "noroom\n") (without 10 (λ (b : ℕ). nat_lt 10 b) refl (codes "stopped ") refl) (ends_after (decimal d) (32 ∷ codes "noroom\n") (unbroken_decimal d few) last)
+    let last : EndsLine (32 ∷ codes "noroom\n") =
+    record { front = codes " noroom"; parts = refl; none = without 10 (λ (b : ℕ). nat_lt 10 b) refl (codes " noroom") refl } in
+    ends_after (codes "stopped ") (decimal d ++ 32 ∷ codes "noroom\n") (without 10 (λ (b : ℕ). nat_lt 10 b) refl (codes "stopped ") refl)
+    (ends_after (decimal d) (32 ∷ codes "noroom\n") (unbroken_decimal d few) last)
 
 -- the line that one begins with, the other begins with
 same_front : (a b line rest : List ℕ) → EndsLine line → HaveOneFirst a b → a ≡ line ++ rest → (more : List ℕ) × (b ≡ line ++ more)
@@ -279,10 +315,12 @@ same_front a b line rest ends h e =
 turned : (a b : List ℕ) → HaveOneFirst a b → HaveOneFirst b a
 turned a b h = record { line = h.line; ends = h.ends; left = h.right; right = h.left; a_is = h.b_is; b_is = h.a_is }
 
-refused_both : (wording : Wording) (limits : LimitsRecord) (reply other : Reply) → IsSpelt other → HaveOneFirst (reply_lines wording reply limits) (reply_lines wording other limits) → Told wording reply → Told wording other
+refused_both : (wording : Wording) (limits : LimitsRecord) (reply other : Reply) → IsSpelt other →
+    HaveOneFirst (reply_lines wording reply limits) (reply_lines wording other limits) → Told wording reply → Told wording other
 refused_both wording limits reply other is h told =
     let t = refused_text wording limits reply told in
-    let f = same_front (reply_lines wording reply limits) (reply_lines wording other limits) (codes "refused noroom\n") t.0 refused_ends h t.1 in
+    let f = same_front (reply_lines wording reply limits) (reply_lines wording other limits) (codes "refused noroom\n") t.0 refused_ends h
+    t.1 in
     refused_by wording limits other f.0 is.items f.1
 
 stopped_nested : (d : ℕ) (rest : List ℕ) → stopped_front d rest ≡ (codes "stopped " ++ (decimal d ++ 32 ∷ codes "noroom\n")) ++ rest
@@ -295,13 +333,15 @@ stopped_both : (limits : LimitsRecord) (reply other : Reply) (d : ℕ)
 stopped_both limits reply other d is_r is h e =
     let t = stopped_text limits reply d e in
     let few : d < 2 ^ 64 = subst (λ (n : ℕ). n < 2 ^ 64) (sym t.2) is_r.few in
-    let f = same_front (reply_lines AsMerge reply limits) (reply_lines AsMerge other limits) (codes "stopped " ++ (decimal d ++ 32 ∷ codes "noroom\n")) t.0 (stopped_ends d few) h (t.1 ∙ stopped_nested d t.0) in
+    let f = same_front (reply_lines AsMerge reply limits) (reply_lines AsMerge other limits)
+    (codes "stopped " ++ (decimal d ++ 32 ∷ codes "noroom\n")) t.0 (stopped_ends d few) h (t.1 ∙ stopped_nested d t.0) in
     stopped_by limits other d f.0 is few (f.1 ∙ sym (stopped_nested d f.0))
 
 pub first_lines_tell : FirstLinesTell
 first_lines_tell limits reply other is_r is_o h = by_wanted (room_wanted reply) refl (room_wanted other) refl
   where
-    by_wanted : (p : Option (Option ℕ)) → room_wanted reply ≡ p → (q : Option (Option ℕ)) → room_wanted other ≡ q → room_wanted reply ≡ room_wanted other
+    by_wanted : (p : Option (Option ℕ)) → room_wanted reply ≡ p → (q : Option (Option ℕ)) → room_wanted other ≡ q →
+        room_wanted reply ≡ room_wanted other
     by_wanted (Some None) e q f = e ∙ sym (refused_both AsMerge limits reply other is_o h e)
     by_wanted (Some (Some d)) e q f = e ∙ sym (stopped_both limits reply other d is_r is_o h e)
     by_wanted None e None f = e ∙ sym f
@@ -311,7 +351,8 @@ first_lines_tell limits reply other is_r is_o h = by_wanted (room_wanted reply) 
 pub offer_lines_tell : OfferLinesTell
 offer_lines_tell limits reply other is_r is_o h = by_test (is_some (room_wanted reply)) refl (is_some (room_wanted other)) refl
   where
-    by_test : (a : Bool) → is_some (room_wanted reply) ≡ a → (b : Bool) → is_some (room_wanted other) ≡ b → is_some (room_wanted reply) ≡ is_some (room_wanted other)
+    by_test : (a : Bool) → is_some (room_wanted reply) ≡ a → (b : Bool) → is_some (room_wanted other) ≡ b →
+        is_some (room_wanted reply) ≡ is_some (room_wanted other)
     by_test true e b f = e ∙ sym (refused_both AsOffer limits reply other is_o h e)
     by_test false e true f = refused_both AsOffer limits other reply is_r (turned _ _ h) f ∙ sym f
     by_test false e false f = e ∙ sym f

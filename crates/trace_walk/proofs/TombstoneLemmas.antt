@@ -1,5 +1,6 @@
 -- The tombstones of a sweep of format 1 all take effect.
-use Rattle.std.proofs.Common.{◌≡◌, ◌≢◌, ℕ, ◌<◌, ◌≤◌, ◌==◌, Bool, true, false, not, ◌&&◌, cond, nat_le, List, [], ◌∷◌, length, map, filter, is_some, Contains, inl, inr, ◌⊎◌, refl, sym, ap, subst, ◌∙◌, arith}
+use Rattle.std.proofs.Common.{◌≡◌, ◌≢◌, ℕ, ◌<◌, ◌≤◌, ◌==◌, Bool, true, false, not, ◌&&◌, cond, nat_le, List, [], ◌∷◌, length, map, filter}
+use Rattle.std.proofs.Common.{is_some, Contains, inl, inr, ◌⊎◌, refl, sym, ap, subst, ◌∙◌, arith}
 use Rattle.std.specs.List.Sorted.{IsStrictlySortedBy}
 use Rattle.std.specs.Cmp.{nat_cmp_is}
 use Rattle.std.specs.Cmp.Lexicographic.{same_text}
@@ -50,7 +51,8 @@ changes_apart (Changed c ∷ items) sorted = (other, changes_apart items sorted.
   where
     other : (d : ChangeRecord) → Contains (changes_in items) d → c.key ≡ d.key → ⊥
     other d h e =
-        let less : key_cmp c.key d.key ≡ Less = from_along (λ (y : Item). item_cmp (Changed c) y ≡ Less) items (Changed d) sorted.0 (In-from_Contains (Changed d) items (changes_in-from items d h)) in
+        let less : key_cmp c.key d.key ≡ Less = from_along (λ (y : Item). item_cmp (Changed c) y ≡ Less) items (Changed d) sorted.0
+        (In-from_Contains (Changed d) items (changes_in-from items d h)) in
         let tied : key_cmp c.key d.key ≡ Equal = subst (λ (k : Key). key_cmp c.key k ≡ Equal) e (tied_itself keys_total c.key) in
         let no : Less ≡ Equal = sym less ∙ tied in
         cc
@@ -72,7 +74,8 @@ map_apart owner generation [] apart = tt
 map_apart owner generation (c ∷ cs) apart = (other, map_apart owner generation cs apart.1)
   where
     other : (d : ChangeRecord) → Contains (map (gone_of owner generation) cs) d → c.key ≡ d.key → ⊥
-    other d h e = let from = Contains-from_map (gone_of owner generation) cs d h in apart.0 from.0 from.1 (e ∙ ap (λ (x : ChangeRecord). x.key) (sym from.2))
+    other d h e = let from = Contains-from_map (gone_of owner generation) cs d h in
+        apart.0 from.0 from.1 (e ∙ ap (λ (x : ChangeRecord). x.key) (sym from.2))
 
 -- ---- what is swept
 
@@ -83,7 +86,8 @@ swept_in s owner generation = filter (is_swept owner generation) (changes_in (he
 abbrev gone_in : State → List ℕ → ℕ → List ChangeRecord
 gone_in s owner generation = map (gone_of owner generation) (swept_in s owner generation)
 
-tombstones_are : (owner : List ℕ) (generation : ℕ) (cs : List ChangeRecord) → map Changed (map (gone_of owner generation) cs) ≡ map (tombstone owner generation) cs
+tombstones_are : (owner : List ℕ) (generation : ℕ) (cs : List ChangeRecord) →
+    map Changed (map (gone_of owner generation) cs) ≡ map (tombstone owner generation) cs
 tombstones_are owner generation [] = refl
 tombstones_are owner generation (c ∷ cs) = ap (λ (l : List Item). tombstone owner generation c ∷ l) (tombstones_are owner generation cs)
 
@@ -107,17 +111,27 @@ swept_is owner generation c e =
     let a = and_parts (one && two && three) four e in
     let b = and_parts (one && two) three a.0 in
     let d = and_parts one two b.0 in
-    record { kind = not_true (is_label c.key.kind) d.0; put = d.1; owner_is = same_text c.owner owner (sym b.1); epoch = leb-true c.version.epoch generation a.1 }
+    record {
+      kind = not_true (is_label c.key.kind) d.0;
+      put = d.1;
+      owner_is = same_text c.owner owner (sym b.1);
+      epoch =
+          leb-true c.version.epoch generation a.1;
+    }
 
 -- a put of no label has a number below the last one
-below_last : (c : ChangeRecord) (kind : Kind) (body : Body) → is_label kind ≡ false → c.key.kind ≡ kind → c.body ≡ body → is_some (value_of c) ≡ true → KeepsRule kind c → c.version.seq < last_seq
+below_last : (c : ChangeRecord) (kind : Kind) (body : Body) → is_label kind ≡ false → c.key.kind ≡ kind → c.body ≡ body →
+    is_some (value_of c) ≡ true → KeepsRule kind c → c.version.seq < last_seq
 below_last c kinds.Label body other same is put rule = absurd (false≢true (sym other))
 below_last c kinds.U32 (Put v) other same is put rule = subst (λ (b : Body). IsBelowSweeps c.version b) is rule
 below_last c kinds.Str (Put v) other same is put rule = subst (λ (b : Body). IsBelowSweeps c.version b) is rule
 below_last c kinds.Mem (Put v) other same is put rule = subst (λ (b : Body). IsBelowSweeps c.version b) is rule
-below_last c kinds.U32 Gone other same is put rule = absurd (false≢true (sym (ap (λ (b : Body). is_some (value_of (record c { body = b }))) is) ∙ put))
-below_last c kinds.Str Gone other same is put rule = absurd (false≢true (sym (ap (λ (b : Body). is_some (value_of (record c { body = b }))) is) ∙ put))
-below_last c kinds.Mem Gone other same is put rule = absurd (false≢true (sym (ap (λ (b : Body). is_some (value_of (record c { body = b }))) is) ∙ put))
+below_last c kinds.U32 Gone other same is put rule =
+    absurd (false≢true (sym (ap (λ (b : Body). is_some (value_of (record c { body = b }))) is) ∙ put))
+below_last c kinds.Str Gone other same is put rule =
+    absurd (false≢true (sym (ap (λ (b : Body). is_some (value_of (record c { body = b }))) is) ∙ put))
+below_last c kinds.Mem Gone other same is put rule =
+    absurd (false≢true (sym (ap (λ (b : Body). is_some (value_of (record c { body = b }))) is) ∙ put))
 
 equal_is : (m n : ℕ) → m ≡ n → nat_cmp m n ≡ Equal
 equal_is m n e = sym (nat_cmp_is m n Equal e)
@@ -125,7 +139,8 @@ equal_is m n e = sym (nat_cmp_is m n Equal e)
 older_version : (v w : Version) → v.epoch ≤ w.epoch → v.seq < w.seq → version_cmp v w ≡ Less
 older_version v w le lt = elim (split v.epoch w.epoch le) [
   | inl less ↦ ap (λ (o : Ordering). ordering_then o (nat_cmp v.seq w.seq)) (sym (nat_cmp_is v.epoch w.epoch Less less))
-  | inr same ↦ ap (λ (o : Ordering). ordering_then o (nat_cmp v.seq w.seq)) (equal_is v.epoch w.epoch same) ∙ sym (nat_cmp_is v.seq w.seq Less lt)
+  | inr same ↦ ap (λ (o : Ordering). ordering_then o (nat_cmp v.seq w.seq)) (equal_is v.epoch w.epoch same) ∙
+      sym (nat_cmp_is v.seq w.seq Less lt)
 ]
   where
     split : (m n : ℕ) → m ≤ n → (m < n) ⊎ (m ≡ n)
@@ -136,7 +151,8 @@ older_version v w le lt = elim (split v.epoch w.epoch le) [
         by_test false e = let other : m ≢ n = eqb-false m n e in inl (omega (arith, l, other))
 
 -- each tombstone replaces the entry that it ends
-takes : (s : State) (owner : List ℕ) (generation : ℕ) → IsReached s → AreItems s.feed.accepted → (c : ChangeRecord) → Contains (gone_in s owner generation) c → TakesHeld s c
+takes : (s : State) (owner : List ℕ) (generation : ℕ) → IsReached s → AreItems s.feed.accepted → (c : ChangeRecord) →
+    Contains (gone_in s owner generation) c → TakesHeld s c
 takes s owner generation r items c h =
     let from = Contains-from_map (gone_of owner generation) (swept_in s owner generation) c h in
     let d : ChangeRecord = from.0 in
@@ -146,18 +162,26 @@ takes s owner generation r items c h =
     let change : IsChange d = items (Changed d) ((held_is_top s r).among (Changed d) here) in
     let low : d.version.seq < last_seq = below_last d d.key.kind d.body is.kind refl refl is.put change.rule in
     subst (λ (x : ChangeRecord). TakesHeld s x) from.2
-    (record { over = d; here = here; key = refl; place = (is.owner_is, older_version d.version (record { epoch = generation; seq = last_seq }) is.epoch low) })
+    (record {
+      over = d;
+      here = here;
+      key = refl;
+      place =
+          (is.owner_is, older_version d.version (record { epoch = generation; seq = last_seq }) is.epoch low);
+    })
 
 pub tombstones_are_free : TombstonesAreFree
 tombstones_are_free s owner generation r items floors left =
     let cs : List ChangeRecord = gone_in s owner generation in
     let same : map Changed cs ≡ tombstones (held s) owner generation = tombstones_are owner generation (swept_in s owner generation) in
-    let apart : KeysApart cs = map_apart owner generation (swept_in s owner generation) (filter_apart (is_swept owner generation) (changes_in (held s)) (changes_apart (held s) (held_is_top s r).in_order)) in
+    let apart : KeysApart cs = map_apart owner generation (swept_in s owner generation)
+    (filter_apart (is_swept owner generation) (changes_in (held s)) (changes_apart (held s) (held_is_top s r).in_order)) in
     let count : length cs ≡ length (tombstones (held s) owner generation) = sym (length-map cs Changed) ∙ ap length same in
     subst (AreFree s) same (places_are_free s cs r floors (takes s owner generation r items) apart (omega (arith, left, count)))
 
 pub tombstones_are_taken : TombstonesAreTaken
-tombstones_are_taken s owner generation r items floors left = free_are_taken s (tombstones (held s) owner generation) (tombstones_are_free s owner generation r items floors left)
+tombstones_are_taken s owner generation r items floors left =
+    free_are_taken s (tombstones (held s) owner generation) (tombstones_are_free s owner generation r items floors left)
 
 -- ---- each is an item
 
@@ -167,7 +191,8 @@ gone_rule kinds.U32 c other e = subst (λ (b : Body). IsBelowSweeps c.version b)
 gone_rule kinds.Str c other e = subst (λ (b : Body). IsBelowSweeps c.version b) (sym e) tt
 gone_rule kinds.Mem c other e = subst (λ (b : Body). IsBelowSweeps c.version b) (sym e) tt
 
-pub tombstones_are_items : (s : State) (owner : List ℕ) (generation : ℕ) → IsReached s → AreItems s.feed.accepted → IsName owner → generation ≤ 2097151 → AreItems (tombstones (held s) owner generation)
+pub tombstones_are_items : (s : State) (owner : List ℕ) (generation : ℕ) → IsReached s → AreItems s.feed.accepted → IsName owner →
+    generation ≤ 2097151 → AreItems (tombstones (held s) owner generation)
 tombstones_are_items s owner generation r items name few i h =
     let from = Contains-from_map (tombstone owner generation) (swept_in s owner generation) i h in
     let d : ChangeRecord = from.0 in
@@ -187,7 +212,8 @@ tombstones_are_items s owner generation r items name few i h =
     subst IsItem from.2 gone
 
 -- and none is a floor
-pub no_floor_tombstone : (s : State) (owner : List ℕ) (generation : ℕ) (f : Floor) → Contains (tombstones (held s) owner generation) (Floored f) → ⊥
+pub no_floor_tombstone : (s : State) (owner : List ℕ) (generation : ℕ) (f : Floor) →
+    Contains (tombstones (held s) owner generation) (Floored f) → ⊥
 no_floor_tombstone s owner generation f h =
     let from = Contains-from_map (tombstone owner generation) (swept_in s owner generation) (Floored f) h in
     let e : Changed (gone_of owner generation from.0) ≡ Floored f = from.2 in

@@ -7,7 +7,7 @@ use std::fmt;
 macro_rules! refusals {
     ($($name:ident $word:literal $number:literal $said:literal;)*) => {
         /// Why a call was refused: first by a store or a map, in the order in which a store judges; then by RS, of an event and of settings;
-        /// then by a table.
+        /// then by a table; then at a desk.
         #[derive(Clone, Copy, Debug, PartialEq, Eq)]
         #[non_exhaustive]
         pub enum Refusal {
@@ -97,6 +97,8 @@ refusals! {
     TwoIds "twoids" 41 "the request's number isn't above all that were accepted";
     NoDevice "nodevice" 42 "the unit has no driver";
     NotPending "notpending" 43 "no such request waits for a reply";
+    IsBusy "isbusy" 44 "another seat of the desk has the turn";
+    NoSeat "noseat" 45 "the desk has no seat left";
 }
 
 impl fmt::Display for Refusal {

@@ -2,7 +2,7 @@
 
 use std::ffi::c_void;
 
-/// `struct ds_handle`, `struct ds_map` and `struct ds_table`: null is closed.
+/// `struct ds_handle`, `struct ds_map`, `struct ds_table`, `struct ds_desk` and `struct ds_seat`: null is closed.
 pub type Handle = *mut c_void;
 
 /// `struct ds_request`.
@@ -59,6 +59,20 @@ pub struct Given {
     pub count: u64,
     pub length: u64,
     pub stop: u32,
+}
+
+/// `struct ds_map_key`.
+#[repr(C)]
+#[derive(Clone, Copy, Debug)]
+pub struct MapKey {
+    pub kind: u8,
+    pub name_length: u8,
+    pub name: [u8; 64],
+}
+
+impl MapKey {
+    /// Comes before every key.
+    pub const FIRST: MapKey = MapKey { kind: 0, name_length: 0, name: [0; 64] };
 }
 
 /// `struct ds_move`.
@@ -209,6 +223,10 @@ extern "C" {
     pub fn ds_map_new(map: *mut Handle, kinds: u8, pattern: *const u8, length: usize) -> u32;
     pub fn ds_map_take(map: *mut Handle, lines: *const u8, length: usize, answer: *mut Answer) -> u32;
     pub fn ds_map_label(map: *mut Handle, name: *const u8, length: usize, answer: *mut Answer) -> u32;
+    pub fn ds_map_value(
+        map: *mut Handle, kind: u8, name: *const u8, length: usize, answer: *mut Answer, room: *mut u8, room_length: usize, given: *mut Given,
+    ) -> u32;
+    pub fn ds_map_next(map: *mut Handle, key: *mut MapKey) -> u32;
     pub fn ds_map_close(map: *mut Handle) -> u32;
     pub fn ds_table_new(table: *mut Handle, server: u32) -> u32;
     pub fn ds_table_assign(table: *mut Handle, unit: u8, class: u8, label: *const u8, length: usize, answer: *mut Answer) -> u32;
@@ -217,6 +235,18 @@ extern "C" {
     pub fn ds_table_reply(table: *mut Handle, generation: u32, slot: u16, id: u64, answer: *mut Answer) -> u32;
     pub fn ds_table_moves(table: *mut Handle, first: usize, moves: *mut Move, count: usize, given: *mut usize) -> u32;
     pub fn ds_table_close(table: *mut Handle) -> u32;
+    pub fn ds_desk_open(desk: *mut Handle, incarnation: u64, first: u64, ring: u32, seats: u32) -> u32;
+    pub fn ds_seat_open(desk: *mut Handle, seat: *mut Handle) -> u32;
+    pub fn ds_seat_call(
+        seat: *mut Handle, request: *const Request, texts: *const u8, length: usize, answer: *mut Answer, place: *mut u64,
+    ) -> u32;
+    pub fn ds_seat_wait(
+        seat: *mut Handle, request: *const Request, texts: *const u8, length: usize, answer: *mut Answer, place: *mut u64,
+    ) -> u32;
+    pub fn ds_seat_items(seat: *mut Handle, first: usize, room: *mut u8, length: usize, given: *mut Given) -> u32;
+    pub fn ds_seat_take(seat: *mut Handle, server: u32, bits: *mut u8, floor: *mut u64) -> u32;
+    pub fn ds_seat_close(seat: *mut Handle) -> u32;
+    pub fn ds_desk_close(desk: *mut Handle) -> u32;
     pub fn ds_version() -> *const std::os::raw::c_char;
 }
 
@@ -253,7 +283,7 @@ impl Service {
 mod tests {
     use super::*;
 
-    /// A call on a closed handle is refused, and so is opening an open one. A `Store`, an `Rs`, a `Map` and a `Table` make no such call.
+    /// A call on a closed handle is refused, and so is opening an open one. The types of this crate make no such call.
     #[test]
     fn closed_and_open() {
         let (mut store, mut map, mut answer) = (std::ptr::null_mut(), std::ptr::null_mut(), Answer::default());
@@ -275,6 +305,12 @@ mod tests {
             assert_eq!((ds_map_close(&mut map), ds_map_close(&mut map)), (0, 23));
             assert_eq!(ds_table_submit(&mut table, &mut map, 1, 3, &mut answer), 23);
             assert_eq!((ds_table_close(&mut table), ds_table_close(&mut table)), (0, 23));
+            let (mut desk, mut seat) = (std::ptr::null_mut(), std::ptr::null_mut());
+            assert_eq!(ds_seat_open(&mut desk, &mut seat), 23);
+            assert_eq!((ds_desk_open(&mut desk, 1, 0, 1, 1), ds_desk_open(&mut desk, 1, 0, 1, 1)), (0, 24));
+            assert_eq!((ds_seat_open(&mut desk, &mut seat), ds_seat_open(&mut desk, &mut seat)), (0, 24));
+            assert_eq!((ds_desk_close(&mut desk), ds_seat_close(&mut seat), ds_seat_close(&mut seat)), (44, 0, 23));
+            assert_eq!((ds_desk_close(&mut desk), ds_desk_close(&mut desk)), (0, 23));
         }
     }
 }

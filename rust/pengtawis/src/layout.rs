@@ -39,6 +39,7 @@ fn as_the_header() {
         count, taken, stale, before, after, pieces, word, refusal, epoch, seq, value, value_slot, kind, last, owed
     }));
     lines.extend(layout!("ds_given" ffi::Given { count, length, stop }));
+    lines.extend(layout!("ds_map_key" ffi::MapKey { kind, name_length, name }));
     lines.extend(layout!("ds_move" ffi::Move { id, kind, generation, slot, unit }));
     lines.extend(layout!("ds_settings_fault" ffi::SettingsFault { line, cause, service }));
     lines.extend(layout!("ds_rs_event" ffi::Event { tick, kind, cause, generation, slot, label_length, label }));
@@ -46,13 +47,15 @@ fn as_the_header() {
     lines.extend(layout!("ds_rs_service" ffi::Service {
         until, state, generation, failures, period, limit, slot, service_class, has_unit, unit, label_length, label
     }));
-    lines.push(format!("struct ds_handle {}", size_of::<ffi::Handle>()));
+    lines.extend(["ds_handle", "ds_desk", "ds_seat"].map(|it| format!("struct {it} {}", size_of::<ffi::Handle>())));
     lines.push(format!("number DS_MAX_PIECE {}", ffi::MAX_PIECE));
     lines.extend(NUMBERS.iter().map(|it| format!("number {} {}", it.0, it.1)));
     let is_recorded = |it: &str| recorded.lines().any(|line| line == it);
     assert_eq!(lines.iter().filter(|it| !is_recorded(it)).collect::<Vec<_>>(), Vec::<&String>::new());
     let members = |of: &str| recorded.lines().filter(|it| it.starts_with(&format!("member {of}."))).count();
-    let structs = ["ds_request", "ds_answer", "ds_given", "ds_move", "ds_settings_fault", "ds_rs_event", "ds_rs_action", "ds_rs_service"];
+    let structs = [
+        "ds_request", "ds_answer", "ds_given", "ds_map_key", "ds_move", "ds_settings_fault", "ds_rs_event", "ds_rs_action", "ds_rs_service",
+    ];
     let of_all: usize = structs.iter().map(|it| members(it)).sum();
     assert_eq!(of_all, lines.iter().filter(|it| it.starts_with("member")).count());
     assert_eq!(align_of::<ffi::Request>(), 8);

@@ -1,16 +1,18 @@
 //! Pengtawis: where drivers are that crash and restart. `docs/guide/rust.md` is its page.
 //!
-//! A [`Store`], an [`Rs`] beside one, a [`Map`] and a [`Table`] are in this process, over the library for C, which is proved; this crate
-//! around it is tested. Every refusal is a variant of [`Refusal`]. No call panics. A [`Client`] sends lines to a dsfleet or a dsrs, and an
-//! [`Instance`] is the side of a process that dsrs started.
+//! A [`Store`], an [`Rs`] beside one, a [`Map`] and a [`Table`] are in this process, and a store that threads share is at a [`Desk`]. They
+//! are over the library for C, which is proved; this crate around it is tested. Every refusal is a variant of [`Refusal`]. No call panics.
+//! A [`Client`] sends lines to a dsfleet or a dsrs, and an [`Instance`] is the side of a process that dsrs started.
 //!
-//! If memory runs out, a call of a `Store`, an `Rs`, a `Map` or a `Table` is refused as [`Refusal::NoRoom`], and you can repeat it. Keep
-//! the [`Shown`] of a check until [`items`](Shown::items) succeeded; dropping it loses its items. Iterating over [`Items`] allocates by
-//! the standard library, which aborts the program if memory runs out.
+//! If memory runs out, a call of a `Store`, an `Rs`, a `Map`, a `Table` or a `Seat` is refused as [`Refusal::NoRoom`], and you can repeat
+//! it. Keep the [`Shown`] of a check until [`items`](Shown::items) succeeded; dropping it loses its items. Iterating over [`Items`]
+//! allocates by the standard library, which aborts the program if memory runs out.
 
 #![doc(test(attr(deny(unused_must_use))))] // an example that drops an answer fails
 
 mod client;
+mod commands;
+mod desk;
 mod error;
 mod ffi;
 mod instance;
@@ -18,6 +20,7 @@ mod items;
 #[cfg(test)]
 mod layout;
 mod map;
+mod publisher;
 mod rs;
 mod shown;
 mod sockets;
@@ -27,15 +30,18 @@ mod values;
 mod watch;
 
 pub use client::Client;
+pub use commands::{Found, Publishes};
+pub use desk::{Desk, Seat};
 pub use error::{ClientError, Error, Refusal, Stopped};
 pub use instance::Instance;
 pub use items::{Body, Change, Item, Items, ItemsIter, OwnedItem, OwnedItems};
-pub use map::Map;
+pub use map::{Entries, Entry, Map};
+pub use publisher::Publisher;
 pub use rs::{Acted, Action, Cause, Rs, Service, SettingsFault, State};
 pub use shown::Shown;
-pub use store::{Found, Store};
+pub use store::Store;
 pub use table::{Class, Move, Moves, Server, Table};
-pub use values::{Cursor, Done, Endpoint, Kind, Kinds, Merged, NoEndpoint, Owed, Scope, Subscribed, Swept, Value, Version, RS};
+pub use values::{Cursor, Done, Endpoint, Kind, Kinds, Merged, NoEndpoint, Notices, Owed, Scope, Subscribed, Swept, Value, Version, RS};
 pub use watch::{Event, Watch};
 
 /// The examples of the guide.

@@ -1,5 +1,6 @@
-//! The text of a store's last answer.
+//! The text of the last answer of a store, or at a seat.
 
+use crate::commands::Asks;
 use crate::error::Refusal;
 use crate::ffi::{self, stop, word, Answer, Given, MAX_PIECE};
 use crate::items::Items;
@@ -11,9 +12,9 @@ const ROOM: usize = 1 << 16; // bytes that are asked for at a time
 
 /// The answer to a check, a since, a snapshot, a page or a line, whose text isn't fetched yet.
 ///
-/// It borrows the store, so no other request can replace the answer. The library copies each byte only once, straight into the caller's
-/// text. A call that is refused as [`Refusal::NoRoom`] may be made again, and loses nothing. Keep the `Shown` of a check until `items`
-/// succeeded; dropping it loses its items.
+/// It borrows the store or the seat, so no other request can replace the answer. The library copies each byte only once, straight into the
+/// caller's text. A call that is refused as [`Refusal::NoRoom`] may be made again, and loses nothing. Keep the `Shown` of a check until
+/// `items` succeeded; dropping it loses its items.
 ///
 /// ```compile_fail
 /// # let mut store = pengtawis::Store::open(1).unwrap();
@@ -23,21 +24,21 @@ const ROOM: usize = 1 << 16; // bytes that are asked for at a time
 /// # Ok::<(), pengtawis::Error>(())
 /// ```
 #[must_use = "dropping it loses the answer, and the items of a check"]
-pub struct Shown<'store> {
-    store: &'store mut Store,
+pub struct Shown<'store, T: Asks = Store> {
+    store: &'store mut T,
     answer: Answer,
     fetched: u64,
     text: Vec<u8>,
 }
 
-impl fmt::Debug for Shown<'_> {
+impl<T: Asks> fmt::Debug for Shown<'_, T> {
     fn fmt(&self, to: &mut fmt::Formatter<'_>) -> fmt::Result {
         to.debug_struct("Shown").field("count", &self.count()).field("cursor", &self.cursor()).finish_non_exhaustive()
     }
 }
 
-impl<'store> Shown<'store> {
-    pub(crate) fn new(store: &'store mut Store, answer: Answer) -> Shown<'store> {
+impl<'store, T: Asks> Shown<'store, T> {
+    pub(crate) fn new(store: &'store mut T, answer: Answer) -> Shown<'store, T> {
         Shown { store, answer, fetched: 0, text: Vec::new() }
     }
 
@@ -84,7 +85,9 @@ impl<'store> Shown<'store> {
         }
         Ok(())
     }
+}
 
+impl Shown<'_> {
     /// Returns the whole answer as `dsctl` prints it.
     ///
     /// ```

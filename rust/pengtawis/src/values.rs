@@ -250,6 +250,15 @@ impl Owed {
     }
 }
 
+/// The notices that a server took at a seat.
+#[derive(Clone, Copy, Debug, PartialEq, Eq)]
+pub struct Notices {
+    /// The subscriptions whose notices were pending.
+    pub owed: Owed,
+    /// Each of these notices is owed by a call whose place is below the floor.
+    pub floor: u64,
+}
+
 /// The answer that a change is held. `changed` is false if it was held already.
 #[derive(Clone, Copy, Debug, PartialEq, Eq)]
 pub struct Done {

@@ -209,6 +209,24 @@ fn replicas_and_maps() {
 }
 
 #[test]
+fn the_entries_of_a_map() {
+    let mut map = Map::new("a.*", Kinds::ALL).unwrap();
+    let text = "a.m mem a 3.2 = 00ff\na u32 a 3.0 = 7\na label rs 3.0 = 3/16\na.s str a 3.1 = \"x \\\"y\\\"\"\na.z u32 a 3.3 -\nb u32 a 3.4 = 1\n";
+    assert_eq!(map.take(&lines(text)).map(|it| (it.done, it.taken)), Ok((6, 5)));
+    assert_eq!((map.get("a"), map.get("a"), map.get("a.s")), (Ok(ETH), Ok(7), Ok(String::from("x \"y\""))));
+    assert_eq!(map.get("a.m"), Ok(vec![0u8, 255]));
+    for name in ["a.z", "b", "c"] {
+        assert_eq!(map.get::<u32>(name), Err(Error::Refused(Refusal::NotFound)));
+    }
+    assert_eq!(map.get::<u32>("a b"), Err(Error::NoRequest));
+    let held: Vec<_> = map.iter().map(|it| (it.name, it.body)).collect();
+    let wanted = [("a", Body::Label(ETH)), ("a", Body::U32(7)), ("a.m", Body::Mem(vec![0, 255])), ("a.s", Body::Str("x \"y\"".into()))];
+    assert_eq!(held, wanted.map(|it| (String::from(it.0), it.1)));
+    map.take(&lines("! a 3\n")).unwrap();
+    assert_eq!(map.iter().map(|it| it.name).collect::<Vec<_>>(), ["a"]);
+}
+
+#[test]
 fn a_merge_stops_where_an_item_is_refused() {
     let mut store = with_eth();
     store.subscribe(7, Scope::new("a.*", Kinds::ALL), false, false).unwrap();

@@ -1,5 +1,7 @@
 //! A store for each thread, a store that moves between threads, and a store that threads share by a lock.
 
+mod memory;
+
 use pengtawis::{Endpoint, Kind, Map, Store, Version, RS};
 use std::sync::{Arc, Mutex};
 use std::thread;
@@ -60,12 +62,7 @@ fn a_store_by_a_lock() {
 /// 500 stores of 200 KB would be 100 MB.
 #[test]
 fn memory_goes_back() {
-    let most = || {
-        let status = std::fs::read_to_string("/proc/self/status").unwrap();
-        let line = status.lines().find(|it| it.starts_with("VmHWM:")).unwrap();
-        line.split_whitespace().nth(1).unwrap().parse::<u64>().unwrap()
-    };
-    let before = most();
+    let before = memory::most();
     for _ in 0..500 {
         let (mut store, mut map) = (with_drivers(1), Map::new(".*", Kind::Mem).unwrap());
         for at in 0..100 {
@@ -73,7 +70,7 @@ fn memory_goes_back() {
         }
         map.take(&store.snapshot(None).unwrap().items().unwrap()).unwrap();
     }
-    assert!(most() < before + 60_000, "{before} and then {} kB", most());
+    assert!(memory::most() < before + 60_000, "{before} and then {} kB", memory::most());
 }
 
 #[test]

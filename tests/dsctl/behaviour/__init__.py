@@ -45,6 +45,7 @@ ALL = [
     at_a_terminal.goes_on_at_a_terminal,
     at_a_terminal.stops_where_it_is_asked_to,
     at_a_terminal.takes_words_of_its_own_at_the_prompt,
+    at_a_terminal.understands_capitals_and_spaces_at_the_prompt,
     at_a_terminal.shows_the_commonest_lines_on_one_screen,
     at_a_terminal.explains_refusals_at_the_prompt,
     at_a_terminal.reads_format_2_at_the_prompt,

@@ -25,17 +25,20 @@ def points_at_the_place(program):
     sentence = b"dsctl: line 1, byte 8: KINDS was expected, 1 to 15 (label 1, u32 2, str 4, mem 8); `16` was found\n"
     ran = terminal.session(program, [], [line])
     wanted = b'> map "a" 16\nbadline 1 8\n  map "a" 16\n' + b" " * 10 + b"^\n" + sentence + b"> \n"
-    assert ran.seen.endswith(wanted) and ran.status == 1, f"{ran}"
+    assert ran.seen.endswith(wanted) and ran.status == 0, f"{ran}"
     expect(harness.run([program], line), b"badline 1 8\n", 1, sentence)
 
 
 def goes_on_at_a_terminal(program):
-    """At a terminal a line that can't be read is answered, and the program prompts for the next one; with --keep-going, too."""
+    """At a terminal a line that can't be read is answered, and the program prompts for the next one; with --keep-going, too. Such lines don't
+    count: the status is 0, where the user types `exit`, too."""
     sentence = b"dsctl: line 1, byte 0: `shwo` isn't a command, the nearest is `show`: see help\n"
     wanted = b"> shwo\nbadline 1 0\n  shwo\n  ^\n" + sentence + b"> show\nshown 0\n> \n"
     for words in ([], ["replay"], ["replay", "--keep-going"]):
         ran = terminal.session(program, words, [b"shwo\n", b"show\n"])
-        assert (ran.seen, ran.status) == (GREETING + wanted, 1), f"{words}: {ran}"
+        assert (ran.seen, ran.status) == (GREETING + wanted, 0), f"{words}: {ran}"
+    ran = terminal.session(program, [], [b"shwo\n", b"exit\n"])
+    assert ran.seen.endswith(sentence + b"> exit\n") and ran.status == 0, f"{ran}"
 
 
 def stops_where_it_is_asked_to(program):
@@ -53,12 +56,42 @@ def takes_words_of_its_own_at_the_prompt(program):
     for words, shown in (((b"help", b"?", b" help  ", b"HELP", b"help help"), b"The commonest lines:\n"), ((b"help all", b"? ALL"), lines)):
         for word in words:
             ran = terminal.session(program, [], [b"\n", b"  \n", b"# a comment\n", word + b"\n", b"shwo\n"])
-            assert shown in ran.seen and b"badline 1 0" in ran.seen and ran.status == 1, f"{word}: {ran}"
+            assert shown in ran.seen and b"badline 1 0" in ran.seen and ran.status == 0, f"{word}: {ran}"
     for word in (b"quit", b"exit", b"Quit", b"quit now"):
         ran = terminal.session(program, [], [b"show\n", word + b"\n"])
         assert (ran.seen, ran.status) == (GREETING + b"> show\nshown 0\n> " + word + b"\n", 0), f"{ran}"
     for word in (b"help", b"help nocaller", b"?", b"quit", b"exit", b""):
         expect(harness.run([program], word + b"\n"), b"badline 1 0\n", 1)
+
+
+# A line as somebody types it, its spelling in a script, and the answer.
+TYPED = [
+    (b"SHOW", b"show", b"shown 0\n"),
+    (b"Show   ", b"show", b"shown 0\n"),
+    (b"show\t", b"show", b"shown 0\n"),
+    (b"Offer X mem o 1.0 =   ", b"offer X mem o 1.0 = ", b"taken\n"),
+    (b"RETRIEVE X mem ", b"retrieve X mem", b"found \n"),
+    (b"retrieve x mem", b"retrieve x mem", b"refused notfound\ndsctl: notfound: there is no such live entry, label or subscription\n"),
+    (b"map \"X\" 15 ", b"map \"X\" 15", b"map 0\n"),
+    (b"Settings  ", b"settings ", b"services 0 slots 64\n"),
+    (b"retrieve X MEM ", b"retrieve X MEM", b"badline 9 11\n"),
+    (b"Shwo ", b"shwo", b"badline 10 0\n  shwo\n  ^\n"),
+]
+
+
+def understands_capitals_and_spaces_at_the_prompt(program):
+    """At the prompt a command in capitals is understood, and so are blanks after a line: an empty value and empty settings keep their space.
+    Elsewhere both are bad, and names keep their capitals. The model's prompt answers alike."""
+    ran = terminal.session(program, [], [line + b"\n" for line, _, _ in TYPED])
+    shown = dict(re.findall(rb"^> (.*)\n((?:(?!> ).*\n)*)", ran.seen, re.MULTILINE))
+    modelled = terminal.session(harness.TESTS.parent / "tools" / "model", [], [line + b"\n" for line, _, _ in TYPED])
+    assert ran.status == modelled.status == 0, f"{ran} {modelled}"
+    for line, spelled, answer in TYPED:
+        assert shown.get(line, b"").startswith(answer), f"{line}: {ran}"
+        assert answer.partition(b"\n")[0] + b"\n" in modelled.seen.partition(b"> " + line + b"\n")[2].partition(b"> ")[0], f"{line}: {modelled}"
+        if line.rstrip() not in (b"retrieve x mem", b"retrieve X MEM", b"Shwo"):
+            number = b"1 %d\n" % (len(spelled) if line.startswith(spelled) else 0)
+            expect(harness.run([program], line + b"\n"), b"badline " + number, 1)
 
 
 def shows_the_commonest_lines_on_one_screen(program):
@@ -182,7 +215,7 @@ def said_at_the_prompt(program, line):
 def takes_a_line_in_two_pieces(program):
     """A line that ^D cut in two is one line, whatever the second piece is, and not a word of the prompt."""
     ran = terminal.pieces(program, [b"sh", b"\x04", b"ow\n", b"cle", b"\x04", b"help\n"])
-    assert b"shown 0\n" in ran.seen and b"badline 2 0" in ran.seen and ran.status == 1, f"{ran}"
+    assert b"shown 0\n" in ran.seen and b"badline 2 0" in ran.seen and ran.status == 0, f"{ran}"
 
 
 def ends_at_one_end(program):
@@ -198,7 +231,7 @@ def names_the_keys_of_a_terminal(program):
     for bytes_, name, place in ((b"\x1b[A", b"Up", 0), (b"\x1bOB", b"Down", 0), (b"show\x1b[C", b"Right", 4), (b"nameof 3/1\x1b[D", b"Left", 10)):
         ran = terminal.session(program, [], [bytes_ + b"\n", b"show\n"])
         sentence = b"dsctl: line 1, byte %d: the %s key was found: `rlwrap dsctl` adds history and editing\n> show\nshown 0\n> \n" % (place, name)
-        assert ran.seen.endswith(sentence) and ran.status == 1, f"{name}: {ran}"
+        assert ran.seen.endswith(sentence) and ran.status == 0, f"{name}: {ran}"
 
 
 def greets_who_types_settings(program):

@@ -131,11 +131,12 @@ def explains_each_refusal(program):
 
 
 def says_what_is_wrong_with_its_words(program):
-    """Standard error reports two files, a file for `live`, or an option of `replay` without that word, and only then."""
+    """Standard error reports two files, a file for `live`, a line of a script, or an option of `replay` without that word, and only then."""
     tips = [(["a.ds", "b.ds"], b"dsctl: one file is read"), (["verify", "a.trace", "b.trace"], b"dsctl: one file is read")]
     tips += [(["live", "script.ds"], b"dsctl: live reads nothing")]
     tips += [([near, "a.trace"], b"dsctl: the nearest command is `verify`") for near in ("verfy", "Verify")]
     tips += [(["live", "--publishers", it], b"dsctl: a number in the option's range was expected") for it in ("x", "9", "")]
+    tips += [(it.split(), b"dsctl: `%s` begins a line of a script" % it.split()[0].encode()) for it in ("show", "retrieve mtu u32", "publish 0/2 new")]
     tips += [([it], b"dsctl replay --ends") for it in ("--keep-going", "--stop", "--ends")]
     for words, tip in tips:
         ran = harness.run([program, *words], b"")

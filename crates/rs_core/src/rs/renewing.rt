@@ -35,8 +35,8 @@ impl Rs {
         Ok(())
     }
 
-    // Returns the first fault against other settings, or `None`. Without one, only lack of memory can refuse them.
-    fn renewal_fault(&self, settings: &Settings) -> Option<RenewFault>
+    /// Returns the first fault against other settings, or `None`. Without one, only lack of memory can refuse them.
+    pub fn renewal_fault(&self, settings: &Settings) -> Option<RenewFault>
         ensures value { result ≡ renewal_fault self.now settings.now }
         ensures other { IfSome result (λ fault. fault ≢ RenewFault.NoRoom) }
     {

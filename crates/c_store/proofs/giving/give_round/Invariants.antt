@@ -8,5 +8,6 @@ use Rattle.c_store.proofs.giving.give_round.Given as goal
 abbrev pub invariant-loop-index : goal.invariant-loop-index
 invariant-loop-index l = record {
   from : l.fn.first ≤ l.index;
-  given : (moves : List Move) (place : List TableMove) → GivesMoves moves place l.fn.count l.fn.room → GivesMoves (moves ++ drop l.fn.first (take l.index l.round)) place l.count l.room;
+  given : (moves : List Move) (place : List TableMove) → GivesMoves moves place l.fn.count l.fn.room →
+      GivesMoves (moves ++ drop l.fn.first (take l.index l.round)) place l.count l.room;
 }

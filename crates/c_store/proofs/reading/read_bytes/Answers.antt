@@ -24,5 +24,7 @@ pub returns-else-place-gt-LONGEST_LINE : goal.returns-else-place-gt-LONGEST_LINE
 returns-else-place-gt-LONGEST_LINE c =
     let bytes = c.args.bytes.now in
     let place = c.in-Some.place in
-    of_ended bytes (take place bytes) c.in-Some.ensures.line (sym (take_all (suc place) bytes (omega (arith, c.if-place-bytes.false))) ∙ c.in-Some.ensures.parts)
-    (omega (arith, length-take-le place bytes, c.in-Some.ensures.within, c.if-place-gt-LONGEST_LINE.false)) c.read_line.result c.read_line.ensures
+    of_ended bytes (take place bytes) c.in-Some.ensures.line
+    (sym (take_all (suc place) bytes (omega (arith, c.if-place-bytes.false))) ∙ c.in-Some.ensures.parts)
+    (omega (arith, length-take-le place bytes, c.in-Some.ensures.within, c.if-place-gt-LONGEST_LINE.false)) c.read_line.result
+    c.read_line.ensures

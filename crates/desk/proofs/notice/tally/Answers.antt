@@ -7,4 +7,5 @@ loop-bit-init c = counts_none c.args.rows.now c.args.server c.args.bits
 
 pub returns : goal.returns
 returns c = let all : c.loop-bit.bit ≡ 8 = omega arith in
-    counts_all c.args.rows.now c.loop-bit.rows c.args.server c.args.bits (subst (λ k. CountsBelow c.args.rows.now c.args.server c.args.bits k c.loop-bit.rows) all c.loop-bit.invariant)
+    counts_all c.args.rows.now c.loop-bit.rows c.args.server c.args.bits
+    (subst (λ k. CountsBelow c.args.rows.now c.args.server c.args.bits k c.loop-bit.rows) all c.loop-bit.invariant)

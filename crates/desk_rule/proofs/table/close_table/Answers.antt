@@ -16,22 +16,28 @@ take-slot-requires g c =
 
 pub pending_words-pending-requires : goal.pending_words-pending-requires
 pending_words-pending-requires g c =
-    subst (λ w. IsFull w × (slots_len w ≡ 17)) (sym c.take-slot.ensures.others.3) (c.close_with-closed.ensures.values.0, c.close_with-closed.ensures.counts.0 ∙ c.requires.at.1)
+    subst (λ w. IsFull w × (slots_len w ≡ 17)) (sym c.take-slot.ensures.others.3)
+    (c.close_with-closed.ensures.values.0, c.close_with-closed.ensures.counts.0 ∙ c.requires.at.1)
 
 pub machine_of-requires : goal.machine_of-requires
-machine_of-requires g c = let e = final_machine _ _ _ _ _ _ _ _ _ _ _ c.close_with-closed.ensures.values.2 c.requires.resting c.requires.all c.take-slot.ensures.value
-    (λ t small. c.pending_words-pending.ensures t small ∙ ap (λ w. slice_index (slots_items w) (t + 1)) c.take-slot.ensures.others.3) in some_is _ _ e.1
+machine_of-requires g c = let e = final_machine _ _ _ _ _ _ _ _ _ _ _ c.close_with-closed.ensures.values.2 c.requires.resting
+    c.requires.all c.take-slot.ensures.value
+    (λ t small. c.pending_words-pending.ensures t small ∙ ap (λ w. slice_index (slots_items w) (t + 1)) c.take-slot.ensures.others.3) in
+    some_is _ _ e.1
 
 pub returns-clause-closed : goal.returns-clause-closed
 returns-clause-closed g c =
-    closed_machine _ _ _ _ _ _ _ _ (final_machine _ _ _ _ _ _ _ _ _ _ _ c.close_with-closed.ensures.values.2 c.requires.resting c.requires.all c.take-slot.ensures.value
-    (λ t small. c.pending_words-pending.ensures t small ∙ ap (λ w. slice_index (slots_items w) (t + 1)) c.take-slot.ensures.others.3)) c.machine_of.ensures
+    closed_machine _ _ _ _ _ _ _ _ (final_machine _ _ _ _ _ _ _ _ _ _ _ c.close_with-closed.ensures.values.2 c.requires.resting
+    c.requires.all c.take-slot.ensures.value
+    (λ t small. c.pending_words-pending.ensures t small ∙ ap (λ w. slice_index (slots_items w) (t + 1)) c.take-slot.ensures.others.3))
+    c.machine_of.ensures
 
 pub returns-clause-bits : goal.returns-clause-bits
 returns-clause-bits g c = record {
   balanced = λ server bit small. (final_notices _ _ _ _ _ _ _ _ _ c.close_with-closed.ensures.values.2 c.requires.all server bit small).0
       ∙ ap (λ n. taken_by c.args.seat.me.0.passes server bit + bit_at n bit)
-      (sym (c.pending_words-pending.ensures server small ∙ ap (λ w. slice_index (slots_items w) (server + 1)) c.take-slot.ensures.others.3));
+      (sym (c.pending_words-pending.ensures server small ∙
+      ap (λ w. slice_index (slots_items w) (server + 1)) c.take-slot.ensures.others.3));
   few = λ server bit small. (final_notices _ _ _ _ _ _ _ _ _ c.close_with-closed.ensures.values.2 c.requires.all server bit small).1;
 }
 
@@ -45,4 +51,5 @@ free-requires g c k below =
     let few : slots_len now.slots ≡ 1 = t.2 ∙ one in
     let none : k ≡ 0 = omega (arith, below, few) in
     let within : 0 < length (slots_filled was.slots) = omega (arith, one, (slots_counts was.slots).1) in
-    ap (λ (l : List Bool). get_or l k false) t.1 ∙ (ap (λ j. get_or (set (slots_filled was.slots) 0 false) j false) none ∙ get_or-set_same (slots_filled was.slots) 0 false false within)
+    ap (λ (l : List Bool). get_or l k false) t.1 ∙
+    (ap (λ j. get_or (set (slots_filled was.slots) 0 false) j false) none ∙ get_or-set_same (slots_filled was.slots) 0 false false within)

@@ -1,13 +1,14 @@
-use Rattle.std.proofs.Common.{◌≡◌, ◌<◌, None, Some, ap, arith, length, refl, sym, ◌∙◌}
+use Rattle.std.proofs.Common.{◌≡◌, ◌≢◌, ◌<◌, [], None, Some, ap, arith, length, refl, subst, sym, ◌∙◌}
 use Rattle.std.proofs.lemmas.Result.{err_from_is_err_and}
 use Rattle.ds_names.specs.Limits.{most_items}
+use Rattle.ds_pattern.specs.declared.query.Query.{Query}
 use Rattle.ds_machine.specs.declared.command.Command.TheVariants.{Check}
 use Rattle.ds_machine.specs.declared.reply.Reply.TheVariants.{Checked, Subscribed}
 use Rattle.ds_reader.specs.Asked.{subscribe_anew}
 use Rattle.desk_store.specs.Follower.{FollowerRecord, follower_of}
 use Rattle.desk_store.proofs.CheckLemmas.{map_ends, map_never_stops, map_stands, subscribe_stands}
 use Rattle.desk_store.proofs.OnlyLemmas.{only_none}
-use Rattle.desk_store.proofs.RoomLemmas.{fails_asking, fails_unasked}
+use Rattle.desk_store.proofs.RoomLemmas.{fails_asking, fails_unasked, next_checks, next_subscribes}
 use Rattle.desk_store.proofs.calling.call_once.Goals as goal
 
 -- the query couldn't be copied
@@ -19,28 +20,38 @@ returns-in_err-query-clause-fault g c =
     let f = c.follower.inside in
     let parts : c.args.follower.now ≡ follower_of f.sub f.stamp f.map = sym c.follower.view_is in
     let lost : c.args.follower.now.stamp ≡ None = ap (λ (x : FollowerRecord). x.stamp) parts ∙ c.in_default.is in
+    let some : c.args.follower.now.map.query.text ≢ [] = subst (λ (x : FollowerRecord). x.map.query.text ≢ []) c.follower.view_is
+    (subst (λ (q : Query). q.text ≢ []) (sym c.follower.invariant) c.in_err-query.ensures.room) in
     let exit = err_from_is_err_and c.from_residual.result c.from_residual.ensures.1 in
-    rw (exit.1, exit.2) (fails_unasked (g.S.StoreSeat.seat c.args.seat.now).pass c.args.follower.now lost)
+    rw (exit.1, exit.2) (fails_unasked (g.S.StoreSeat.seat c.args.seat.now).pass c.args.follower.now lost some)
 
 -- the question failed
 pub returns-in_err-told-clause-fault : goal.returns-in_err-told-clause-fault
 returns-in_err-told-clause-fault g c =
+    let f = c.follower.inside in
+    let next = next_subscribes c.args.follower.now f.sub f.stamp f.map (sym c.follower.view_is) c.in_ok-query.query c.in_default.is
+    (c.in_ok-query.ensures.same ∙ sym c.follower.invariant) in
     let exit = err_from_is_err_and c.from_residual-in_err-told.result c.from_residual-in_err-told.ensures.1 in
     rw (exit.1, exit.2)
-    (fails_asking (g.S.StoreSeat.seat c.args.seat.now).pass (g.S.StoreSeat.seat c.subscribe.new.self).pass c.args.follower.now (subscribe_anew c.follower.inside.sub c.in_ok-query.query) c.in_err-told.field-0.0 c.in_err-told.ensures.fault)
+    (fails_asking (g.S.StoreSeat.seat c.args.seat.now).pass (g.S.StoreSeat.seat c.subscribe.new.self).pass c.args.follower.now
+    (subscribe_anew f.sub c.in_ok-query.query) c.in_err-told.field-0.0 next c.in_err-told.ensures.fault)
 
 pub returns-in_err-items-clause-fault : goal.returns-in_err-items-clause-fault
 returns-in_err-items-clause-fault g c =
+    let f = c.follower.inside in
+    let next = next_checks c.args.follower.now f.sub f.stamp f.map (sym c.follower.view_is) c.in-Some.stamp c.in-Some.is in
     let exit = err_from_is_err_and c.from_residual-in_err-items.result c.from_residual-in_err-items.ensures.1 in
     rw (exit.1, exit.2)
-    (fails_asking (g.S.StoreSeat.seat c.args.seat.now).pass (g.S.StoreSeat.seat c.check.new.self).pass c.args.follower.now (Check c.follower.inside.sub most_items) c.in_err-items.field-0.0 c.in_err-items.ensures.fault)
+    (fails_asking (g.S.StoreSeat.seat c.args.seat.now).pass (g.S.StoreSeat.seat c.check.new.self).pass c.args.follower.now
+    (Check f.sub most_items) c.in_err-items.field-0.0 next c.in_err-items.ensures.fault)
 
 pub returns-in_default-clause-keeps : goal.returns-in_default-clause-keeps
 returns-in_default-clause-keeps g c =
     let f = c.follower.inside in
     let told = c.in_ok-told.ensures.told in
-    subscribe_stands (g.S.StoreSeat.seat c.args.seat.now).pass (g.S.StoreSeat.seat c.subscribe.new.self).pass f.sub f.map.query c.in_ok-query.query c.clear.new.self c.in_ok-told.told told.1 (Subscribed c.in_ok-told.told told.0)
-    c.clear.ensures (c.in_ok-query.ensures ∙ sym c.follower.invariant) told.2 (told.0, refl)
+    subscribe_stands (g.S.StoreSeat.seat c.args.seat.now).pass (g.S.StoreSeat.seat c.subscribe.new.self).pass f.sub f.map.query
+    c.in_ok-query.query c.clear.new.self c.in_ok-told.told told.1 (Subscribed c.in_ok-told.told told.0)
+    c.clear.ensures (c.in_ok-query.ensures.same ∙ sym c.follower.invariant) told.2 (told.0, refl)
 
 pub unreachable-requires : goal.unreachable-requires
 unreachable-requires g c =
@@ -51,7 +62,8 @@ unreachable-requires g c =
     c.in_default-fault.not-NoRoom
     (map_never_stops (g.S.StoreSeat.seat c.args.seat.now).pass (g.S.StoreSeat.seat c.check.new.self).pass c.args.follower.now f.sub f.stamp
     f.map c.take.new.self c.in-Some.stamp at.before at.after at.place at.items (Checked at.items at.before at.after)
-    parts stamped c.requires c.in_ok-items.ensures.told refl c.if-before-stamp.false c.in-Err.stop c.held-is_map.ensures.map c.in-Err.ensures.joined c.in-Err.ensures.stopped)
+    parts stamped c.requires c.in_ok-items.ensures.told refl c.if-before-stamp.false c.in-Err.stop c.held-is_map.ensures.map
+    c.in-Err.ensures.joined c.in-Err.ensures.stopped)
 
 pub returns-then-len-lt-MOST_ITEMS-clause-called : goal.returns-then-len-lt-MOST_ITEMS-clause-called
 returns-then-len-lt-MOST_ITEMS-clause-called g c =
@@ -62,7 +74,8 @@ returns-then-len-lt-MOST_ITEMS-clause-called g c =
     let stamped : c.args.follower.now.stamp ≡ Some c.in-Some.stamp = ap (λ (x : FollowerRecord). x.stamp) parts ∙ c.in-Some.is in
     map_ends (g.S.StoreSeat.seat c.args.seat.now).pass (g.S.StoreSeat.seat c.check.new.self).pass c.args.follower.now f.sub f.stamp f.map
     c.take.new.self c.in-Some.stamp at.before at.after at.place at.items (Checked at.items at.before at.after)
-    parts stamped c.requires c.in_ok-items.ensures.told refl c.if-before-stamp.false c.in_default-take.ensures.query c.in_default-take.ensures.joined few
+    parts stamped c.requires c.in_ok-items.ensures.told refl c.if-before-stamp.false c.in_default-take.ensures.query
+    c.in_default-take.ensures.joined few
 
 pub returns-then-len-lt-MOST_ITEMS-clause-keeps : goal.returns-then-len-lt-MOST_ITEMS-clause-keeps
 returns-then-len-lt-MOST_ITEMS-clause-keeps g c =
@@ -72,7 +85,8 @@ returns-then-len-lt-MOST_ITEMS-clause-keeps g c =
     let stamped : c.args.follower.now.stamp ≡ Some c.in-Some.stamp = ap (λ (x : FollowerRecord). x.stamp) parts ∙ c.in-Some.is in
     map_stands (g.S.StoreSeat.seat c.args.seat.now).pass (g.S.StoreSeat.seat c.check.new.self).pass c.args.follower.now f.sub f.stamp f.map
     c.take.new.self c.in-Some.stamp at.before at.after at.place at.items (Checked at.items at.before at.after)
-    parts stamped c.requires c.in_ok-items.ensures.told refl c.if-before-stamp.false c.in_default-take.ensures.query c.in_default-take.ensures.joined
+    parts stamped c.requires c.in_ok-items.ensures.told refl c.if-before-stamp.false c.in_default-take.ensures.query
+    c.in_default-take.ensures.joined
 
 pub returns-clause-keeps : goal.returns-clause-keeps
 returns-clause-keeps g c =
@@ -82,4 +96,5 @@ returns-clause-keeps g c =
     let stamped : c.args.follower.now.stamp ≡ Some c.in-Some.stamp = ap (λ (x : FollowerRecord). x.stamp) parts ∙ c.in-Some.is in
     map_stands (g.S.StoreSeat.seat c.args.seat.now).pass (g.S.StoreSeat.seat c.check.new.self).pass c.args.follower.now f.sub f.stamp f.map
     c.take.new.self c.in-Some.stamp at.before at.after at.place at.items (Checked at.items at.before at.after)
-    parts stamped c.requires c.in_ok-items.ensures.told refl c.if-before-stamp.false c.in_default-take.ensures.query c.in_default-take.ensures.joined
+    parts stamped c.requires c.in_ok-items.ensures.told refl c.if-before-stamp.false c.in_default-take.ensures.query
+    c.in_default-take.ensures.joined

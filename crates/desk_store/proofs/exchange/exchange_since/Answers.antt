@@ -7,15 +7,20 @@ use Rattle.desk_store.proofs.exchange.exchange_since.Goals as goal
 pub returns-in_err-items-clause-only : goal.returns-in_err-items-clause-only
 returns-in_err-items-clause-only g c =
     let here = g.A.ClientSeat.seat in
-    let there = g.B.ClientSeat.seat in
-    (c.in_err-items.ensures.same, refl, since_fails (here c.args.a.now).pass (here c.since.new.seat).pass c.args.from (there c.args.b.now).pass c.in_err-items.field-0.0 c.in_err-items.ensures.fault)
+    let there = g.B.ClientSeat.seat in (
+      c.in_err-items.ensures.same,
+      refl,
+      since_fails (here c.args.a.now).pass (here c.since.new.seat).pass c.args.from
+          (there c.args.b.now).pass c.in_err-items.field-0.0 c.in_err-items.ensures.fault,
+    )
 
 pub returns-in_err-items-clause-fault : goal.returns-in_err-items-clause-fault
 returns-in_err-items-clause-fault g c =
     let here = g.A.ClientSeat.seat in
     let there = g.B.ClientSeat.seat in
     let exit = err_from_is_err_and c.from_residual.result c.from_residual.ensures.1 in
-    rw (exit.1, exit.2) (since_fault (here c.args.a.now).pass (here c.since.new.seat).pass c.args.from (there c.args.b.now).pass c.in_err-items.field-0.0 c.in_err-items.ensures.fault)
+    rw (exit.1, exit.2) (since_fault (here c.args.a.now).pass (here c.since.new.seat).pass c.args.from (there c.args.b.now).pass
+    c.in_err-items.field-0.0 c.in_err-items.ensures.fault)
 
 pub returns-in_err-taken-clause-only : goal.returns-in_err-taken-clause-only
 returns-in_err-taken-clause-only g c =
@@ -24,7 +29,8 @@ returns-in_err-taken-clause-only g c =
     let only = c.in_err-taken.ensures.only in (
       c.in_ok-items.ensures.same,
       only.0,
-      since_only (here c.args.a.now).pass (here c.since.new.seat).pass c.args.from (there c.args.b.now).pass (there c.give.new.seat).pass c.in_ok-items.field-0 c.in_ok-items.ensures.told only.1,
+      since_only (here c.args.a.now).pass (here c.since.new.seat).pass c.args.from (there c.args.b.now).pass (there c.give.new.seat).pass
+          c.in_ok-items.field-0 c.in_ok-items.ensures.told only.1,
     )
 
 pub returns-in_err-taken-clause-fault : goal.returns-in_err-taken-clause-fault
@@ -33,7 +39,8 @@ returns-in_err-taken-clause-fault g c =
     let there = g.B.ClientSeat.seat in
     let exit = err_from_is_err_and c.from_residual-in_err-taken.result c.from_residual-in_err-taken.ensures.1 in
     rw (exit.1, exit.2)
-    (since_stops (here c.args.a.now).pass (here c.since.new.seat).pass c.args.from (there c.args.b.now).pass (there c.give.new.seat).pass c.in_ok-items.field-0 c.in_ok-items.ensures.told
+    (since_stops (here c.args.a.now).pass (here c.since.new.seat).pass c.args.from (there c.args.b.now).pass (there c.give.new.seat).pass
+    c.in_ok-items.field-0 c.in_ok-items.ensures.told
     c.in_err-taken.field-0.0 c.in_err-taken.ensures.fault)
 
 pub returns-clause-only : goal.returns-clause-only
@@ -43,7 +50,8 @@ returns-clause-only g c =
     let only = c.in_ok-taken.ensures.only in (
       c.in_ok-items.ensures.same,
       only.0,
-      since_only (here c.args.a.now).pass (here c.since.new.seat).pass c.args.from (there c.args.b.now).pass (there c.give.new.seat).pass c.in_ok-items.field-0 c.in_ok-items.ensures.told only.1,
+      since_only (here c.args.a.now).pass (here c.since.new.seat).pass c.args.from (there c.args.b.now).pass (there c.give.new.seat).pass
+          c.in_ok-items.field-0 c.in_ok-items.ensures.told only.1,
     )
 
 pub returns-clause-exchanged : goal.returns-clause-exchanged
@@ -56,5 +64,6 @@ returns-clause-exchanged g c =
     let s = (there c.give.new.seat).pass in
     let since = c.in_ok-items.field-0 in
     let taken = c.in_ok-taken.taken in
-    subst (λ (n : ℕ). Exchanges p q r s (Some c.args.from) (record { cursor = since.cursor; done = n; taken = taken; more = nat_le 256 n })) (sym c.len-done.ensures)
+    subst (λ (n : ℕ). Exchanges p q r s (Some c.args.from)
+    (record { cursor = since.cursor; done = n; taken = taken; more = nat_le 256 n })) (sym c.len-done.ensures)
     (since_ends p q c.args.from r s since c.in_ok-items.ensures.told taken c.in_ok-taken.ensures.given)

@@ -19,7 +19,8 @@ returns-in-Ok-Some-clause-only g c =
     let l = c.loop-made in
     let e = c.in-Ok-Some.ensures in (
       e.only.0 ∙ l.invariant.0,
-      only_more (g.S.StoreSeat.seat c.args.seat.now).pass (g.S.StoreSeat.seat l.seat).pass c.args.follower.now l.follower l._made l.invariant.1 (g.S.StoreSeat.seat c.call_once.new.seat).pass c.args.limit c.loop-made-test.true e.only.1,
+      only_more (g.S.StoreSeat.seat c.args.seat.now).pass (g.S.StoreSeat.seat l.seat).pass c.args.follower.now l.follower l._made
+          l.invariant.1 (g.S.StoreSeat.seat c.call_once.new.seat).pass c.args.limit c.loop-made-test.true e.only.1,
     )
 
 pub returns-in-Ok-Some-clause-fresh : goal.returns-in-Ok-Some-clause-fresh
@@ -28,21 +29,25 @@ returns-in-Ok-Some-clause-fresh g c =
     let some : c.in-Ok-Some.field-0 ≡ Some c.in-Ok-Some.place = cc in
     gone_ends (g.S.StoreSeat.seat c.args.seat.now).pass (g.S.StoreSeat.seat l.seat).pass (g.S.StoreSeat.seat c.call_once.new.seat).pass
     c.args.follower.now l.follower c.call_once.new.follower l._made l.invariant.1 c.args.limit c.in-Ok-Some.place c.loop-made-test.true
-    (subst (λ (o : Option ℕ). TakesOneCall (g.S.StoreSeat.seat l.seat).pass (g.S.StoreSeat.seat c.call_once.new.seat).pass l.follower c.call_once.new.follower o) some c.in-Ok-Some.ensures.called)
+    (subst (λ (o : Option ℕ). TakesOneCall (g.S.StoreSeat.seat l.seat).pass (g.S.StoreSeat.seat c.call_once.new.seat).pass l.follower
+    c.call_once.new.follower o) some c.in-Ok-Some.ensures.called)
 
 pub returns-in-Err-clause-only : goal.returns-in-Err-clause-only
 returns-in-Err-clause-only g c =
     let l = c.loop-made in
     let e = c.in-Err.ensures in (
       e.only.0 ∙ l.invariant.0,
-      only_more (g.S.StoreSeat.seat c.args.seat.now).pass (g.S.StoreSeat.seat l.seat).pass c.args.follower.now l.follower l._made l.invariant.1 (g.S.StoreSeat.seat c.call_once.new.seat).pass c.args.limit c.loop-made-test.true e.only.1,
+      only_more (g.S.StoreSeat.seat c.args.seat.now).pass (g.S.StoreSeat.seat l.seat).pass c.args.follower.now l.follower l._made
+          l.invariant.1 (g.S.StoreSeat.seat c.call_once.new.seat).pass c.args.limit c.loop-made-test.true e.only.1,
     )
 
 pub returns-in-Err-clause-kept : goal.returns-in-Err-clause-kept
 returns-in-Err-clause-kept g c =
     let l = c.loop-made in
     let e = c.in-Err.ensures in
-    subst (λ (m : SubMapRecord). (m ≡ c.args.follower.now.map) ⊎ HadAccepted (g.S.StoreSeat.seat c.args.seat.now).pass (g.S.StoreSeat.seat c.call_once.new.seat).pass) (sym (ap (λ (x : FollowerRecord). x.map) c.lose-in-Err.ensures))
+    subst (λ (m : SubMapRecord). (m ≡ c.args.follower.now.map) ⊎
+    HadAccepted (g.S.StoreSeat.seat c.args.seat.now).pass (g.S.StoreSeat.seat c.call_once.new.seat).pass)
+    (sym (ap (λ (x : FollowerRecord). x.map) c.lose-in-Err.ensures))
     (map_kept (g.S.StoreSeat.seat c.args.seat.now).pass (g.S.StoreSeat.seat l.seat).pass (g.S.StoreSeat.seat c.call_once.new.seat).pass
     c.args.follower.now l.follower c.call_once.new.follower l._made 1 l.invariant.1 l.invariant.2 e.only.1 e.kept)
 
@@ -51,7 +56,9 @@ returns-in-Err-clause-fault g c =
     let l = c.loop-made in (
       search rules,
       search rules,
-      fails_refreshing (g.S.StoreSeat.seat c.args.seat.now).pass (g.S.StoreSeat.seat l.seat).pass (g.S.StoreSeat.seat c.call_once.new.seat).pass c.args.follower.now l.follower l._made c.in-Err.fault l.invariant.1 c.in-Err.ensures.fault,
+      fails_refreshing (g.S.StoreSeat.seat c.args.seat.now).pass (g.S.StoreSeat.seat l.seat).pass
+          (g.S.StoreSeat.seat c.call_once.new.seat).pass c.args.follower.now l.follower l._made c.in-Err.fault l.invariant.1
+          c.in-Err.ensures.fault,
     )
 
 pub loop-made-preserved : goal.loop-made-preserved
@@ -59,13 +66,19 @@ loop-made-preserved g c =
     let l = c.loop-made in
     let e = c.in-Ok-None.ensures in
     let none : c.in-Ok-None.field-0 ≡ None = cc in
-    let on = subst (λ (o : Option ℕ). TakesOneCall (g.S.StoreSeat.seat l.seat).pass (g.S.StoreSeat.seat c.call_once.new.seat).pass l.follower c.call_once.new.follower o) none e.called in (
+    let on = subst (λ (o : Option ℕ). TakesOneCall (g.S.StoreSeat.seat l.seat).pass (g.S.StoreSeat.seat c.call_once.new.seat).pass
+    l.follower c.call_once.new.follower o) none e.called in (
       e.only.0 ∙ l.invariant.0,
-      gone_on (g.S.StoreSeat.seat c.args.seat.now).pass (g.S.StoreSeat.seat l.seat).pass (g.S.StoreSeat.seat c.call_once.new.seat).pass c.args.follower.now l.follower c.call_once.new.follower l._made l.invariant.1 e.same on e.keeps,
-      inr (goes_on_accepted (g.S.StoreSeat.seat c.args.seat.now).pass (g.S.StoreSeat.seat l.seat).pass (g.S.StoreSeat.seat c.call_once.new.seat).pass c.args.follower.now l.follower c.call_once.new.follower l._made l.invariant.1 on),
+      gone_on (g.S.StoreSeat.seat c.args.seat.now).pass (g.S.StoreSeat.seat l.seat).pass (g.S.StoreSeat.seat c.call_once.new.seat).pass
+          c.args.follower.now l.follower c.call_once.new.follower l._made l.invariant.1 e.same on e.keeps,
+      inr (goes_on_accepted (g.S.StoreSeat.seat c.args.seat.now).pass (g.S.StoreSeat.seat l.seat).pass
+          (g.S.StoreSeat.seat c.call_once.new.seat).pass c.args.follower.now l.follower c.call_once.new.follower l._made l.invariant.1 on),
     )
 
 pub returns-clause-only : goal.returns-clause-only
 returns-clause-only g c =
-    let l = c.loop-made in
-    (l.invariant.0, only_gone (g.S.StoreSeat.seat c.args.seat.now).pass (g.S.StoreSeat.seat l.seat).pass c.args.follower.now l.follower l._made l.invariant.1 c.args.limit l.auto._made-end)
+    let l = c.loop-made in (
+      l.invariant.0,
+      only_gone (g.S.StoreSeat.seat c.args.seat.now).pass (g.S.StoreSeat.seat l.seat).pass c.args.follower.now l.follower
+          l._made l.invariant.1 c.args.limit l.auto._made-end,
+    )

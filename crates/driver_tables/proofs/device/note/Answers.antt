@@ -9,13 +9,15 @@ use Rattle.driver_tables.proofs.device.note.Goals.{then-eq, else-eq}
 
 pub unit_at-requires : goal.unit_at-requires
 unit_at-requires c =
-    let same : length c.loop-i.devices.entries ≡ length c.args.devices.now.entries = ap length c.loop-i.invariant ∙ length-half (noted c.args.label.now c.args.state.now) c.loop-i.i c.args.devices.now.entries in
+    let same : length c.loop-i.devices.entries ≡ length c.args.devices.now.entries =
+    ap length c.loop-i.invariant ∙ length-half (noted c.args.label.now c.args.state.now) c.loop-i.i c.args.devices.now.entries in
     let end = c.len-i-end.ensures.len in
     omega arith
 
 pub index_mut-requires : goal.index_mut-requires
 index_mut-requires c =
-    let same : length c.loop-i.devices.entries ≡ length c.args.devices.now.entries = ap length c.loop-i.invariant ∙ length-half (noted c.args.label.now c.args.state.now) c.loop-i.i c.args.devices.now.entries in
+    let same : length c.loop-i.devices.entries ≡ length c.args.devices.now.entries =
+    ap length c.loop-i.invariant ∙ length-half (noted c.args.label.now c.args.state.now) c.loop-i.i c.args.devices.now.entries in
     let end = c.len-i-end.ensures.len in
     omega arith
 
@@ -25,13 +27,18 @@ loop-i-preserved c =
     let all = c.args.devices.now.entries in
     let i = c.loop-i.i in
     let u : ℕ × Device = (c.unit_at.result.0, c.unit_at.result.1.now) in
-    let there : slice_get all i ≡ Some u = sym (half_get f i all) ∙ (ap (λ (l : List (ℕ × Device)). slice_get l i) (sym c.loop-i.invariant) ∙ c.unit_at.ensures) in
+    let there : slice_get all i ≡ Some u = sym (half_get f i all) ∙
+    (ap (λ (l : List (ℕ × Device)). slice_get l i) (sym c.loop-i.invariant) ∙ c.unit_at.ensures) in
     elim c.if-eq.branch [
       | then-eq w ↦
-          (let same : f u ≡ (u.0, w.with_state.result) = ap (λ (b : Bool). (u.0, cond b (device_with c.args.state.now u.1) u.1)) (sym c.eq.ensures ∙ w.if-eq.true) ∙ ap (λ (d : Device). (u.0, d)) (sym w.with_state.ensures) in
-          ap (λ m. m.entries) w.devices-is ∙ (ap (λ (l : List (ℕ × Device)). set_value_at l i w.with_state.result) c.loop-i.invariant ∙ half_set f i all u.0 u.1 w.with_state.result there same))
+          (let same : f u ≡ (u.0, w.with_state.result) =
+          ap (λ (b : Bool). (u.0, cond b (device_with c.args.state.now u.1) u.1)) (sym c.eq.ensures ∙ w.if-eq.true) ∙
+          ap (λ (d : Device). (u.0, d)) (sym w.with_state.ensures) in
+          ap (λ m. m.entries) w.devices-is ∙ (ap (λ (l : List (ℕ × Device)). set_value_at l i w.with_state.result) c.loop-i.invariant ∙
+          half_set f i all u.0 u.1 w.with_state.result there same))
       | else-eq w ↦
-          (let same : f u ≡ u = ap (λ (b : Bool). (u.0, cond b (device_with c.args.state.now u.1) u.1)) (sym c.eq.ensures ∙ w.if-eq.false) in
+          (let same : f u ≡ u = ap (λ (b : Bool). (u.0, cond b (device_with c.args.state.now u.1) u.1))
+          (sym c.eq.ensures ∙ w.if-eq.false) in
           ap (λ m. m.entries) w.devices-is ∙ (c.loop-i.invariant ∙ half_next f i all u there same))
     ]
 

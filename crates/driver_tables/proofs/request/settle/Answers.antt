@@ -4,4 +4,5 @@ use Rattle.driver_tables.proofs.ListLemmas.{retained}
 use Rattle.driver_tables.proofs.request.settle.Goals as goal
 
 pub returns : goal.returns
-returns c = retained _ (is_kept_in c.args.devices.now.entries c.args.label.now c.args.state.now) (kept_in c.args.devices.now.entries c.args.label.now c.args.state.now) _ (λ p b g q r. search rules) _ _ c.retain_mut.ensures.filtered
+returns c = retained _ (is_kept_in c.args.devices.now.entries c.args.label.now c.args.state.now)
+    (kept_in c.args.devices.now.entries c.args.label.now c.args.state.now) _ (λ p b g q r. search rules) _ _ c.retain_mut.ensures.filtered

@@ -9,7 +9,9 @@ use Rattle.ds_held.proofs.floors.floor_at.Goals as goal
 pub returns-in-Ok : goal.returns-in-Ok
 returns-in-Ok c =
     let here : IsFloorPlace c.args.floors.now c.args.owner.now (Ok c.in-Ok.i) = c.in-Ok.ensures in
-    sym (get_there name_cmp nat_list_cmp_total exact_bytes owned c.args.floors.now c.args.owner.now c.in-Ok.i c.index-floors-i.result c.requires here)
+    sym (get_there name_cmp nat_list_cmp_total exact_bytes owned c.args.floors.now c.args.owner.now c.in-Ok.i c.index-floors-i.result
+    c.requires here)
 
 pub returns-in-Err : goal.returns-in-Err
-returns-in-Err c = sym (get_none name_cmp nat_list_cmp_total exact_bytes owned c.args.floors.now c.args.owner.now c.in-Err.field-0 c.in-Err.ensures)
+returns-in-Err c = sym (get_none name_cmp nat_list_cmp_total exact_bytes owned c.args.floors.now c.args.owner.now c.in-Err.field-0
+    c.in-Err.ensures)

@@ -10,5 +10,7 @@ use Rattle.ds_held.proofs.floors.place_of.Goals as goal
 
 pub returns : goal.returns
 returns c =
-    place_from_search name_cmp nat_list_cmp_total exact_bytes owned c.args.floors.now c.args.owner.now c.binary_search_by.result c.requires c.binary_search_by.ensures.bound
-    (c.binary_search_by.ensures.position (λ (x : Floor). name_cmp x.owner c.args.owner.now) (always_returns_same _ _ _ (λ a r f' t. search rules)))
+    place_from_search name_cmp nat_list_cmp_total exact_bytes owned c.args.floors.now c.args.owner.now c.binary_search_by.result c.requires
+    c.binary_search_by.ensures.bound
+    (c.binary_search_by.ensures.position (λ (x : Floor). name_cmp x.owner c.args.owner.now)
+    (always_returns_same _ _ _ (λ a r f' t. search rules)))

@@ -13,14 +13,17 @@ use Rattle.ds_held.proofs.floors.raise.Goals as goal
 pub returns-in-Ok-clause-answer : goal.returns-in-Ok-clause-answer
 returns-in-Ok-clause-answer c =
     let fs = c.args.floors.now.items in
-    let here : IsFloorPlace c.args.floors.now.items c.args.floor.owner (Ok c.in-Ok.i) = subst (λ l. IsFloorPlace l c.args.floor.owner (Ok c.in-Ok.i)) c.deref.ensures.value c.in-Ok.ensures in
+    let here : IsFloorPlace c.args.floors.now.items c.args.floor.owner (Ok c.in-Ok.i) =
+    subst (λ l. IsFloorPlace l c.args.floor.owner (Ok c.in-Ok.i)) c.deref.ensures.value c.in-Ok.ensures in
     subst (λ o. AnswersFloor o (len (floors_map fs)) c.args.floor.generation (Ok c.replace.result))
-    (sym (get_there name_cmp nat_list_cmp_total exact_bytes owned fs c.args.floor.owner c.in-Ok.i c.args.floor c.requires.rising here)) c.replace.ensures.answer
+    (sym (get_there name_cmp nat_list_cmp_total exact_bytes owned fs c.args.floor.owner c.in-Ok.i c.args.floor c.requires.rising here))
+    c.replace.ensures.answer
 
 pub returns-in-Err-clause-answer : goal.returns-in-Err-clause-answer
 returns-in-Err-clause-answer c =
     let fs = c.args.floors.now.items in
-    let gap : IsFloorPlace c.args.floors.now.items c.args.floor.owner (Err c.in-Err.i) = subst (λ l. IsFloorPlace l c.args.floor.owner (Err c.in-Err.i)) c.deref.ensures.value c.in-Err.ensures in
+    let gap : IsFloorPlace c.args.floors.now.items c.args.floor.owner (Err c.in-Err.i) =
+    subst (λ l. IsFloorPlace l c.args.floor.owner (Err c.in-Err.i)) c.deref.ensures.value c.in-Err.ensures in
     subst (λ o. AnswersFloor o (len (floors_map fs)) c.args.floor.generation c.add.result)
     (sym (get_none name_cmp nat_list_cmp_total exact_bytes owned fs c.args.floor.owner c.in-Err.i gap))
     (subst (λ n. AnswersNew n 64 c.add.result) (sym (count_floors fs c.requires.rising)) c.add.ensures.answer)

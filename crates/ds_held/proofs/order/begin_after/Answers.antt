@@ -21,7 +21,8 @@ loop-low-preserved-then-comes_after c =
       omega arith,
       omega (arith, inside, i.1),
       i.2,
-      failed_from (λ (x : ChangeRecord). not (comes_after after x)) xs (after_partitioned after xs (rising_order key_cmp keys_total exact_keys keyed xs c.requires))
+      failed_from (λ (x : ChangeRecord). not (comes_after after x)) xs
+          (after_partitioned after xs (rising_order key_cmp keys_total exact_keys keyed xs c.requires))
           middle c.at.result.now (omega (arith, inside, i.1)) c.at.ensures (ap not (sym c.comes_after.ensures ∙ c.if-comes_after.true)),
     )
 
@@ -34,7 +35,8 @@ loop-low-preserved c =
     let inside : middle < c.loop-low.high = omega (arith, c.loop-low-test.true) in (
       omega (arith, inside),
       i.1,
-      passed_upto (λ (x : ChangeRecord). not (comes_after after x)) xs (after_partitioned after xs (rising_order key_cmp keys_total exact_keys keyed xs c.requires))
+      passed_upto (λ (x : ChangeRecord). not (comes_after after x)) xs
+          (after_partitioned after xs (rising_order key_cmp keys_total exact_keys keyed xs c.requires))
           middle c.at.result.now (omega (arith, inside, i.1)) c.at.ensures (ap not (sym c.comes_after.ensures ∙ c.if-comes_after.false)),
       i.3,
     )
@@ -44,5 +46,8 @@ returns-clause-begin c =
     let after = option_copied c.args.after in
     let xs = c.args.changes.now in
     let i = c.loop-low.invariant in
-    all_after (comes_after after) xs c.loop-low.low
-    (i.2, subst (λ n. AllWithin (λ (x : ChangeRecord). not (comes_after after x) ≡ false) xs n (length xs)) {x = c.loop-low.high} {y = c.loop-low.low} (omega (arith, i.0, c.loop-low-test.false)) i.3)
+    all_after (comes_after after) xs c.loop-low.low (
+      i.2,
+      subst (λ n. AllWithin (λ (x : ChangeRecord). not (comes_after after x) ≡ false) xs n (length xs)) {x = c.loop-low.high}
+          {y = c.loop-low.low} (omega (arith, i.0, c.loop-low-test.false)) i.3,
+    )

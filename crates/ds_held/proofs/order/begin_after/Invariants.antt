@@ -7,7 +7,8 @@ use Rattle.ds_held.proofs.order.begin_after.Given as goal
 
 abbrev pub invariant-loop-low : goal.invariant-loop-low
 invariant-loop-low l =
-    (l.low ≤ l.high) × (l.high ≤ length l.changes) × AllWithin (λ (c : ChangeRecord). not (comes_after (option_copied l.after) c) ≡ true) l.changes 0 l.low
+    (l.low ≤ l.high) × (l.high ≤ length l.changes) ×
+    AllWithin (λ (c : ChangeRecord). not (comes_after (option_copied l.after) c) ≡ true) l.changes 0 l.low
     × AllWithin (λ (c : ChangeRecord). not (comes_after (option_copied l.after) c) ≡ false) l.changes l.high (length l.changes)
 
 abbrev pub decreases-loop-low : goal.decreases-loop-low

@@ -13,7 +13,8 @@ loop-low-preserved-in-Less c =
     let inside : middle < c.loop-low.high = omega (arith, c.loop-low-test.true) in (
       omega (arith, inside),
       i.1,
-      less_upto key_cmp keys_total exact_keys keyed c.args.key.now c.args.changes.now c.requires middle c.at.result.now (omega (arith, inside, i.1)) c.at.ensures
+      less_upto key_cmp keys_total exact_keys keyed c.args.key.now c.args.changes.now c.requires middle c.at.result.now
+          (omega (arith, inside, i.1)) c.at.ensures
           (ap (λ (k : Key). key_cmp k c.args.key.now) (sym c.key.ensures.value) ∙ sym c.in-Less.ensures),
       i.3,
     )
@@ -26,6 +27,7 @@ loop-low-preserved c =
       omega arith,
       omega (arith, inside, i.1),
       i.2,
-      greater_from key_cmp keys_total exact_keys keyed c.args.key.now c.args.changes.now c.requires middle c.at.result.now (omega (arith, inside, i.1)) c.at.ensures
+      greater_from key_cmp keys_total exact_keys keyed c.args.key.now c.args.changes.now c.requires middle c.at.result.now
+          (omega (arith, inside, i.1)) c.at.ensures
           (ap (λ (k : Key). key_cmp k c.args.key.now) (sym c.key.ensures.value) ∙ sym c.in-Greater.ensures),
     )

@@ -4,7 +4,8 @@ use Rattle.ds_held.proofs.reading.item_at.Goals as goal
 
 pub returns-then-index-floors : goal.returns-then-index-floors
 returns-then-index-floors c =
-    floor_item_at c.args.floors.now c.args.changes.now c.args.index c.index-floors-index.result c.if-index-floors.true c.index-floors-index.is
+    floor_item_at c.args.floors.now c.args.changes.now c.args.index c.index-floors-index.result c.if-index-floors.true
+    c.index-floors-index.is
 
 pub returns-in-Some : goal.returns-in-Some
 returns-in-Some c =

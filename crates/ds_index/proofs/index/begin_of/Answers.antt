@@ -6,4 +6,5 @@ use Rattle.ds_index.proofs.index.begin_of.Goals as goal
 
 pub returns : goal.returns
 returns c =
-    IsPartitionPoint-from_clause (begins_after c.args.endpoint) c.args.names.now c.partition_point.result c.partition_point.ensures.partitioned (begins_partitioned c.args.endpoint c.args.names.now c.requires) (λ a r f' t. search rules)
+    IsPartitionPoint-from_clause (begins_after c.args.endpoint) c.args.names.now c.partition_point.result
+    c.partition_point.ensures.partitioned (begins_partitioned c.args.endpoint c.args.names.now c.requires) (λ a r f' t. search rules)

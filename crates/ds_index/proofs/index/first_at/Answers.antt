@@ -17,6 +17,7 @@ returns-then-not-is_of_nth c =
     elim c.if-index-eq0.branch [
       | then-index-eq0 w ↦ first_at_front e xs c.requires p of c.args.index (omega (arith, w.if-index-eq0.true)) here
       | else-index-eq0 w ↦
-          (let other : passes_nth (holds_endpoint e) xs (c.args.index - 1) ≡ false = sym w.is_of_nth.ensures ∙ not-true w.is_of_nth.result (sym w.value-is ∙ c.if-not-is_of_nth.true) in
+          (let other : passes_nth (holds_endpoint e) xs (c.args.index - 1) ≡ false =
+          sym w.is_of_nth.ensures ∙ not-true w.is_of_nth.result (sym w.value-is ∙ c.if-not-is_of_nth.true) in
           first_after_other e xs c.requires p of c.args.index (c.args.index - 1) (omega (arith, w.if-index-eq0.false)) here other)
     ]

@@ -19,5 +19,6 @@ returns c = λ e.
           ))
       | else-place-gt0-via-else-place-gt0 w ↦
           (let none : c.args.place ≡ 0 = omega (arith, w.if-place-gt0.false) in
-          subst (λ n. (n ≤ length xs) × IsLabelPlace p xs n) (sym none) (omega arith, point_first (is_label_after p) xs parted (ap (after_nth p xs) (sym none) ∙ high)))
+          subst (λ n. (n ≤ length xs) × IsLabelPlace p xs n) (sym none)
+          (omega arith, point_first (is_label_after p) xs parted (ap (after_nth p xs) (sym none) ∙ high)))
     ]

@@ -6,4 +6,5 @@ use Rattle.ds_index.proofs.index.place_of.Goals as goal
 
 pub returns-clause-place : goal.returns-clause-place
 returns-clause-place c =
-    IsPartitionPoint-from_clause (is_label_after c.args.named.now) c.args.names.now c.partition_point.result c.partition_point.ensures.partitioned (after_partitioned c.args.named.now c.args.names.now c.requires) (λ a r f' t. search rules)
+    IsPartitionPoint-from_clause (is_label_after c.args.named.now) c.args.names.now c.partition_point.result
+    c.partition_point.ensures.partitioned (after_partitioned c.args.named.now c.args.names.now c.requires) (λ a r f' t. search rules)

@@ -1,5 +1,6 @@
 use Rattle.ds_join.proofs.ItemExistLemmas.{top_exists, tops_is_top}
-use Rattle.ds_join.proofs.ItemTopLemmas.{top_is_unique, held_is_top, greatest_floor, void_isnt_held, top_of_top, top_of_union, top_of_covered}
+use Rattle.ds_join.proofs.ItemTopLemmas.{top_is_unique, held_is_top, greatest_floor, void_isnt_held, top_of_top, top_of_union}
+use Rattle.ds_join.proofs.ItemTopLemmas.{top_of_covered}
 use Rattle.ds_join.proofs.laws.item_top_laws.Goals as goal
 
 pub returns-clause-exists : goal.returns-clause-exists

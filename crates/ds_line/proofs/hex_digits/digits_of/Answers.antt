@@ -7,7 +7,8 @@ loop-at-init c = spelled_first c.args.bytes.now _ refl
 
 pub loop-at-preserved : goal.loop-at-preserved
 loop-at-preserved c =
-    spelled_more c.args.bytes.now c.loop-at.digits c.loop-at.at c.digit_of.result c.digit_of-in-loop-at.result c.loop-at.invariant c.loop-at-test.true c.told-bytes c.digit_of.ensures c.digit_of-in-loop-at.ensures
+    spelled_more c.args.bytes.now c.loop-at.digits c.loop-at.at c.digit_of.result c.digit_of-in-loop-at.result c.loop-at.invariant
+    c.loop-at-test.true c.told-bytes c.digit_of.ensures c.digit_of-in-loop-at.ensures
 
 pub returns : goal.returns
 returns c =

@@ -11,7 +11,8 @@ pub loop-at-preserved : goal.loop-at-preserved
 loop-at-preserved c =
     let alone = c.loop-at.digits_alone in
     let number = c.number_of-number.result in
-    judged_more c.args.digits.now c.loop-at.numbers alone (alone && nat_lt number 16) c.loop-at.at number c.loop-at.invariant c.loop-at-test.true c.number_of-number.ensures.number
+    judged_more c.args.digits.now c.loop-at.numbers alone (alone && nat_lt number 16) c.loop-at.at number c.loop-at.invariant
+    c.loop-at-test.true c.number_of-number.ensures.number
     (λ t. let parts = and_parts alone (nat_lt number 16) t in (parts.0, grind (arith, nat_tests, parts.1)))
 
 pub returns-then-digits_alone : goal.returns-then-digits_alone

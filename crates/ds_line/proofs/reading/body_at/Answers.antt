@@ -4,11 +4,13 @@ use Rattle.ds_entry.specs.Change.{change_of, IsChange}
 use Rattle.ds_line.specs.Reading.{HasValue, with_body}
 use Rattle.ds_line.proofs.AnswerLemmas.{is_false}
 use Rattle.ds_line.proofs.BodyLemmas.{mark_missing, mark_then}
-use Rattle.ds_line.proofs.reading.body_at.Goals.{then-has_value+in_default, else-has_value, then-has_tombstone+in_default-read_byte, else-has_tombstone}
+use Rattle.ds_line.proofs.reading.body_at.Goals.{then-has_value+in_default, else-has_value, then-has_tombstone+in_default-read_byte}
+use Rattle.ds_line.proofs.reading.body_at.Goals.{else-has_tombstone}
 use Rattle.ds_line.proofs.reading.body_at.Goals as goal
 
 pub returns-in-Some : goal.returns-in-Some
-returns-in-Some c = mark_then c.args.key.now c.args.owner.now c.args.version 61 c.args.bytes.now c.in-Some.rest.now (with_body c.args.key.now c.args.owner.now c.args.version c.put_at.result) c.in-Some.ensures.found c.put_at.ensures
+returns-in-Some c = mark_then c.args.key.now c.args.owner.now c.args.version 61 c.args.bytes.now c.in-Some.rest.now
+    (with_body c.args.key.now c.args.owner.now c.args.version c.put_at.result) c.in-Some.ensures.found c.put_at.ensures
 
 pub returns-in-Some-read_byte : goal.returns-in-Some-read_byte
 returns-in-Some-read_byte c = mark_then c.args.key.now c.args.owner.now c.args.version 45 c.args.bytes.now c.in-Some-read_byte.rest.now

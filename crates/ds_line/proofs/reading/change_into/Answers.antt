@@ -17,5 +17,11 @@ returns-in-Err-BadPart c =
     let k = subst (λ (s : PartFault). ReadsChange [] c.args.bytes.now (Err s)) c.in-Err-BadPart.field-0-is c.in-Err-BadPart.ensures in
     record {
       none = no_line c.args.bytes.now k.0 k.1;
-      first = record { rest = k.0; stops = stops_at IsChange change_parts c.args.bytes.now k.0 k.1; begins = omega (arith, rest_fits c.args.bytes.now k.0 k.1, k.2) };
+      first =
+          record {
+            rest = k.0;
+            stops = stops_at IsChange change_parts c.args.bytes.now k.0 k.1;
+            begins =
+                omega (arith, rest_fits c.args.bytes.now k.0 k.1, k.2);
+          };
     }

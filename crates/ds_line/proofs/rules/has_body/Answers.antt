@@ -12,5 +12,11 @@ returns-then-is_label c =
     )
 
 pub returns-else-is_label : goal.returns-else-is_label
-returns-else-is_label c =
-    (λ h. (Gone, body_of_other c.args.key.now c.args.owner.now c.args.version.now (λ kind. is_false c.is_label.result c.if-is_label.false (c.is_label.ensures.label.1 kind)) c.requires (omega arith)), λ has. refl)
+returns-else-is_label c = (
+  λ h. (
+    Gone,
+    body_of_other c.args.key.now c.args.owner.now c.args.version.now
+        (λ kind. is_false c.is_label.result c.if-is_label.false (c.is_label.ensures.label.1 kind)) c.requires (omega arith),
+  ),
+  λ has. refl,
+)

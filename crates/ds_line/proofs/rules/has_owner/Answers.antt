@@ -11,5 +11,8 @@ returns-then-is_label c =
     )
 
 pub returns-else-is_label : goal.returns-else-is_label
-returns-else-is_label c =
-    (λ h. owner_of_other c.args.key.now (λ kind. is_false c.is_label.result c.if-is_label.false (c.is_label.ensures.label.1 kind)) c.bytes-name.ensures.name, λ has. refl)
+returns-else-is_label c = (
+  λ h. owner_of_other c.args.key.now (λ kind. is_false c.is_label.result c.if-is_label.false (c.is_label.ensures.label.1 kind))
+      c.bytes-name.ensures.name,
+  λ has. refl,
+)

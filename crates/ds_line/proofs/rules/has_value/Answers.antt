@@ -8,13 +8,15 @@ use Rattle.std.proofs.lemmas.Bool.{lt-ltb}
 pub returns-then-is_label : goal.returns-then-is_label
 returns-then-is_label c =
     let kind = c.is_label.ensures.label.0 c.if-is_label.true in (
-      λ h. body_of_put c.args.key.now c.args.owner.now c.args.version.now kind (seq_of_body c.args.key.now c.args.owner.now c.args.version.now c.requires) (is_number c.args.version.now.seq 0 h),
+      λ h. body_of_put c.args.key.now c.args.owner.now c.args.version.now kind
+          (seq_of_body c.args.key.now c.args.owner.now c.args.version.now c.requires) (is_number c.args.version.now.seq 0 h),
       λ has. number_is c.args.version.now.seq 0 (label_put_seq c.args.key.now c.args.owner.now c.args.version.now kind has),
     )
 
 pub returns-else-is_label : goal.returns-else-is_label
 returns-else-is_label c =
     let other : c.args.key.now.kind ≢ Label = λ kind. is_false c.is_label.result c.if-is_label.false (c.is_label.ensures.label.1 kind) in (
-      λ h. value_of_other c.args.key.now c.args.owner.now c.args.version.now other c.requires (is_below c.args.version.now.seq 4294967295 h),
+      λ h. value_of_other c.args.key.now c.args.owner.now c.args.version.now other c.requires
+          (is_below c.args.version.now.seq 4294967295 h),
       λ has. lt-ltb c.args.version.now.seq 4294967295 (other_put_seq c.args.key.now c.args.owner.now c.args.version.now other has),
     )

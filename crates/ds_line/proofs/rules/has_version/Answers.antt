@@ -11,5 +11,8 @@ returns-then-is_label c =
     )
 
 pub returns-else-is_label : goal.returns-else-is_label
-returns-else-is_label c =
-    (λ h. version_of_other c.args.key.now c.args.owner.now (λ kind. is_false c.is_label.result c.if-is_label.false (c.is_label.ensures.label.1 kind)) c.requires c.bytes-owner.ensures.name, λ has. refl)
+returns-else-is_label c = (
+  λ h. version_of_other c.args.key.now c.args.owner.now
+      (λ kind. is_false c.is_label.result c.if-is_label.false (c.is_label.ensures.label.1 kind)) c.requires c.bytes-owner.ensures.name,
+  λ has. refl,
+)

@@ -19,7 +19,8 @@ loop-group-preserved c =
     let more = paired_sixteen c.args.bytes.now c.loop-group.block c.loop-group.rest.now c.in-Some.after.now sixteen n c.loop-group.invariant
     (omega (arith, c.sixteen_at.array_long, c.loop-group-test.true)) c.in-Some.ensures.found c.in-Some.ensures.each in
     let end : n + length sixteen ≡ 16 * (c.loop-group.group + 1) = omega (arith, c.sixteen_at.array_long) in
-    rw c.put.ensures (subst (IsPaired c.args.bytes.now (take n c.loop-group.block ++ (sixteen ++ drop (n + length sixteen) c.loop-group.block)) c.in-Some.after.now) end more)
+    rw c.put.ensures (subst (IsPaired c.args.bytes.now
+    (take n c.loop-group.block ++ (sixteen ++ drop (n + length sixteen) c.loop-group.block)) c.in-Some.after.now) end more)
 
 pub returns-clause-found : goal.returns-clause-found
 returns-clause-found c =

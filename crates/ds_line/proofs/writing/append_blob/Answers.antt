@@ -8,7 +8,9 @@ pub returns-in-Ok-clause-written : goal.returns-in-Ok-clause-written
 returns-in-Ok-clause-written c =
     let blob = c.args.blob.now in
     let n : ℕ = c.write_sixteens-written.result in
-    let rest : c.encode_to_slice.new.output ≡ encode_lower (drop n blob) = c.in-Ok.ensures.written ∙ ap encode_lower (take_whole (drop n blob) (length blob - n) (length-drop n blob)) in
+    let rest : c.encode_to_slice.new.output ≡ encode_lower (drop n blob) =
+    c.in-Ok.ensures.written ∙ ap encode_lower (take_whole (drop n blob) (length blob - n) (length-drop n blob)) in
     subst (λ (t : List ℕ). OnOk c.append_all.result (c.append_all.new.buffer.items ≡ t))
-    (out_joined c.args.buffer.now.items c.args.before.now c.args.after.now blob c.write_sixteens-written.new.block c.encode_to_slice.new.output n c.write_sixteens-written.ensures.written rest)
+    (out_joined c.args.buffer.now.items c.args.before.now c.args.after.now blob c.write_sixteens-written.new.block
+    c.encode_to_slice.new.output n c.write_sixteens-written.ensures.written rest)
     c.append_all.ensures.written

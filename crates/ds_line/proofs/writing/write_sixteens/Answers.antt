@@ -14,7 +14,8 @@ loop-group-preserved c =
     let block = c.loop-group.block in
     let digits = c.digits_of-digits.result in
     let left : take (length blob - n) (drop n blob) ≡ drop n blob = take_whole (drop n blob) (length blob - n) (length-drop n blob) in
-    let le : n + 16 ≤ length blob = omega (arith, c.in-Some.ensures.cases.2, ap length left, length-drop n blob, c.loop-group.invariant.within) in
+    let le : n + 16 ≤ length blob =
+    omega (arith, c.in-Some.ensures.cases.2, ap length left, length-drop n blob, c.loop-group.invariant.within) in
     let is : c.in-Some.sixteen.now ≡ take 16 (drop n blob) = c.in-Some.ensures.cases.0 ∙ ap (λ (t : List ℕ). take 16 t) left in
     let more = out_more blob block c.in-Some.sixteen.now digits n c.loop-group.invariant le c.requires is c.digits_of-digits.ensures in
     let even : 2 * n ≡ 32 * group = omega arith in

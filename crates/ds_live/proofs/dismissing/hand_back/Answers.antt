@@ -10,4 +10,5 @@ returns-in-Ok-clause-cause c = same_fault _ c.args.fault
 
 pub returns-in-Err-clause-cause : goal.returns-in-Err-clause-cause
 returns-in-Err-clause-cause c =
-    subst (λ (o : Option LiveFault). IsFaultOr (λ told. told ≡ NoRoom) c.args.fault o) (sym c.or.ensures) (room_or c.args.fault c.in-Err.room c.in-Err.ensures.cause)
+    subst (λ (o : Option LiveFault). IsFaultOr (λ told. told ≡ NoRoom) c.args.fault o) (sym c.or.ensures)
+    (room_or c.args.fault c.in-Err.room c.in-Err.ensures.cause)

@@ -9,4 +9,11 @@ returns-clause-called g c = let only = c.in_ok-_fresh.ensures.only in (only.0, (
 
 pub returns-clause-refreshed : goal.returns-clause-refreshed
 returns-clause-refreshed g c =
-    refreshed c.args.seat.now.pass c.refresh.new.seat.pass c.args.follower.now c.refresh.new.follower c.in_ok-_fresh._fresh c.in_ok-_fresh.ensures.only.1 c.in_ok-_fresh.ensures.fresh
+    refreshed c.args.seat.now.pass c.refresh.new.seat.pass c.args.follower.now c.refresh.new.follower c.in_ok-_fresh._fresh
+    c.in_ok-_fresh.ensures.only.1 c.in_ok-_fresh.ensures.fresh
+
+pub returns-in_err-_fresh-clause-only : goal.returns-in_err-_fresh-clause-only
+returns-in_err-_fresh-clause-only g c = c.in_err-_fresh.ensures.only.1
+
+pub returns-clause-only : goal.returns-clause-only
+returns-clause-only g c = c.in_ok-_fresh.ensures.only.1

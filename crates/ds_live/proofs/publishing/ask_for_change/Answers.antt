@@ -10,4 +10,6 @@ returns-clause-fault g c =
     let q = c.ask.new.self.pass in
     let answer = c.in_ok-answer.answer in
     IfErr-weaker c.accepted.result _ _
-    (λ fault told. inr (told.0, answer.place, subst (λ (r : Reply). MadeCall p q c.args.command r answer.place) told.1 c.in_ok-answer.ensures.called, told.2)) c.accepted.ensures.refused
+    (λ fault told. inr
+    (told.0, answer.place, subst (λ (r : Reply). MadeCall p q c.args.command r answer.place) told.1 c.in_ok-answer.ensures.called, told.2))
+    c.accepted.ensures.refused

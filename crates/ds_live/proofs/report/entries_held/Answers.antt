@@ -16,7 +16,8 @@ use Rattle.ds_live.proofs.report.entries_held.Goals.{In-Some, in-Put+in_ok-copy+
 pub unreachable-requires : goal.unreachable-requires
 unreachable-requires c =
     let held = held_changes c.args.held.now in
-    let none : None ≡ slice_get held c.loop-index.index = subst (λ o. option_copied o ≡ slice_get held c.loop-index.index) c.in_default.is c.at.ensures.value in
+    let none : None ≡ slice_get held c.loop-index.index =
+    subst (λ o. option_copied o ≡ slice_get held c.loop-index.index) c.in_default.is c.at.ensures.value in
     elim (slice_get_cases held c.loop-index.index).1 [
       | inl h ↦ (let no : None ≡ Some h.0 = none ∙ h.2 in absurd (cc))
       | inr h ↦ omega (arith, h.0, c.loop-index-test.true, c.len-index-end.ensures.count, count_is c.args.held.now)
@@ -35,7 +36,8 @@ loop-index-preserved c =
     elim c.match-body.branch [
       | in-Put+in_ok-copy+in_ok-push w ↦
           (let put : leaves_value x ≡ true = ap (λ (b : Body). is_some (value_in b)) (sym c.body.ensures.value ∙ w.in-Put.is) in
-          let puts : c.match-body.puts ≡ c.loop-index.puts ++ Changed x ∷ [] = w.puts-is ∙ w.in_ok-push.ensures.ok ∙ ap (λ y. c.loop-index.puts ++ Changed y ∷ []) w.in_ok-copy.ensures.same in
+          let puts : c.match-body.puts ≡ c.loop-index.puts ++ Changed x ∷ [] =
+          w.puts-is ∙ w.in_ok-push.ensures.ok ∙ ap (λ y. c.loop-index.puts ++ Changed y ∷ []) w.in_ok-copy.ensures.same in
           puts ∙ ap (λ l. l ++ Changed x ∷ []) before ∙ put_added all i x at put)
       | in_default-body w ↦
           (let gone : leaves_value x ≡ false = ap (λ (b : Body). is_some (value_in b)) (sym c.body.ensures.value ∙ w.in_default-body.is) in
@@ -46,5 +48,6 @@ loop-index-preserved c =
 pub returns : goal.returns
 returns c =
     let held = held_changes c.args.held.now in
-    let many : length held ≤ c.loop-index.index = omega (arith, c.loop-index-test.false, c.len-index-end.ensures.count, count_is c.args.held.now) in
+    let many : length held ≤ c.loop-index.index =
+    omega (arith, c.loop-index-test.false, c.len-index-end.ensures.count, count_is c.args.held.now) in
     c.loop-index.invariant ∙ ap puts_of (take_all c.loop-index.index held many) ∙ sym (held_puts c.args.held.now)

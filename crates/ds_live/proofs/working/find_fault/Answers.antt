@@ -11,5 +11,6 @@ loop-place-preserved g c =
     (omega (arith, c.loop-place-test.true, c.len-place-end.ensures, c.args.jobs.now.ok.0)) c.index.ensures in
     elim c.match-own_fault.branch [
       | in-Some w ↦ w.lowest-is ∙ sym (more ∙ ap (λ f. fault_or f before) (sym c.own_fault.ensures ∙ w.in-Some.is))
-      | in_default w ↦ w.lowest-is ∙ c.loop-place.invariant ∙ sym (more ∙ ap (λ f. fault_or f before) (sym c.own_fault.ensures ∙ w.in_default.is))
+      | in_default w ↦ w.lowest-is ∙ c.loop-place.invariant ∙
+          sym (more ∙ ap (λ f. fault_or f before) (sym c.own_fault.ensures ∙ w.in_default.is))
     ]

@@ -9,13 +9,15 @@ pub returns-in_err-checked_mul : goal.returns-in_err-checked_mul
 returns-in_err-checked_mul c =
     let digit : is_ascii_digit (get_or c.args.bytes.now c.loop-at.at 0) ≡ true = grind (arith, nat_tests) in
     let more = goes_on c.args.bytes.now c.loop-at.at c.loop-at-test.true c.loop-at.invariant.run digit in
-    rw c.from_residual.ensures (too_large (take (prefix_len is_ascii_digit c.args.bytes.now) c.args.bytes.now) c.loop-at.at more.within more.digits (omega (arith, c.in_err-checked_mul.ensures, c.loop-at.invariant.value)))
+    rw c.from_residual.ensures (too_large (take (prefix_len is_ascii_digit c.args.bytes.now) c.args.bytes.now) c.loop-at.at more.within
+    more.digits (omega (arith, c.in_err-checked_mul.ensures, c.loop-at.invariant.value)))
 
 pub returns-in_err-number : goal.returns-in_err-number
 returns-in_err-number c =
     let digit : is_ascii_digit (get_or c.args.bytes.now c.loop-at.at 0) ≡ true = grind (arith, nat_tests) in
     let more = goes_on c.args.bytes.now c.loop-at.at c.loop-at-test.true c.loop-at.invariant.run digit in
-    rw c.from_residual-in_err-number.ensures (too_large (take (prefix_len is_ascii_digit c.args.bytes.now) c.args.bytes.now) c.loop-at.at more.within more.digits
+    rw c.from_residual-in_err-number.ensures (too_large (take (prefix_len is_ascii_digit c.args.bytes.now) c.args.bytes.now) c.loop-at.at
+    more.within more.digits
     (omega (arith, c.in_err-number.ensures, c.in_ok-checked_mul.ensures, c.from.ensures, c.loop-at.invariant.value, more.byte)))
 
 pub loop-at-preserved : goal.loop-at-preserved
@@ -24,7 +26,8 @@ loop-at-preserved c =
     let more = goes_on c.args.bytes.now c.loop-at.at c.loop-at-test.true c.loop-at.invariant.run digit in
     let value = value_more (take (prefix_len is_ascii_digit c.args.bytes.now) c.args.bytes.now) c.loop-at.at more.within more.digits in
     record {
-      value = omega (arith, value.2, more.byte, c.in_ok-number.ensures, c.in_ok-checked_mul.ensures, c.from.ensures, c.loop-at.invariant.value);
+      value =
+          omega (arith, value.2, more.byte, c.in_ok-number.ensures, c.in_ok-checked_mul.ensures, c.from.ensures, c.loop-at.invariant.value);
       limit = omega (arith, c.in_ok-number.ensures);
       run = more.run;
     }

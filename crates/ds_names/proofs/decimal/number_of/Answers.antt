@@ -24,6 +24,11 @@ loop-at-preserved c =
     let value = value_more (take (prefix_len is_ascii_digit c.args.bytes.now) c.args.bytes.now) c.loop-at.at more.within more.digits in
     record {
       value = omega (arith, value.2, more.byte, front.2, c.from.ensures, c.loop-at.invariant.value);
-      limit = omega (arith, short_more c.loop-at.number c.loop-at.at c.from.result c.loop-at.invariant.limit (omega arith) (omega (arith, value.1, more.byte)));
+      limit =
+          omega (
+            arith,
+            short_more c.loop-at.number c.loop-at.at c.from.result c.loop-at.invariant.limit (omega arith)
+                (omega (arith, value.1, more.byte)),
+          );
       run = more.run;
     }

@@ -4,7 +4,8 @@ use Rattle.ds_entry.specs.declared.item.Item.{Item}
 use Rattle.ds_pattern.specs.declared.query.Query.{Query}
 use Rattle.ds_reader.specs.Asked.{Asked, subscribe_anew}
 use Rattle.ds_reader.specs.ReadWhole.{AreChecked, IsReadWhole}
-use Rattle.ds_reader.proofs.StopLemmas.{nothing_read, has_room, has_room_still, by_fault, by_overtaken, stops_worn, stops_otherwise, stops_check, stops_subscribe}
+use Rattle.ds_reader.proofs.StopLemmas.{nothing_read, has_room, has_room_still, by_fault, by_overtaken, stops_worn, stops_otherwise}
+use Rattle.ds_reader.proofs.StopLemmas.{stops_check, stops_subscribe}
 use Rattle.ds_reader.proofs.CheckLemmas.{Checking, begun, all_full, checked_more, checked_on, gone, overtaken, read_each, read_whole}
 use Rattle.ds_reader.proofs.QuestionLemmas.{by_checks, checks_more, has_begun}
 use Rattle.ds_machine.specs.declared.reply.Reply.TheVariants as replies
@@ -14,12 +15,12 @@ pub returns-in_err-stamp-clause-stopped : goal.returns-in_err-stamp-clause-stopp
 returns-in_err-stamp-clause-stopped g c =
     let exit = err_from_is_err_and c.from_residual-in_err-stamp.result c.from_residual-in_err-stamp.ensures.1 in
     rw (exit.1, exit.2) (λ s stands. stops_subscribe c.laws.ensures g.A.Asks.stands g.A.Asks.is_worn c.args.asked.now c.subscribe.new.asked
-    s c.args.sub c.args.reading.now _ c.in_err-stamp.field-0.0 c.in_ok-query.ensures c.in_err-stamp.ensures.refused stands)
+    s c.args.sub c.args.reading.now _ c.in_err-stamp.field-0.0 c.in_ok-query.ensures.same c.in_err-stamp.ensures.refused stands)
 
 pub loop-question-init : goal.loop-question-init
 loop-question-init g c = (
   c.subscribe.ensures.same,
-  has_begun g.A.Asks.asks_once c.args.sub c.args.reading.now c.args.asked.now c.subscribe.new.asked _ c.in_ok-query.ensures
+  has_begun g.A.Asks.asks_once c.args.sub c.args.reading.now c.args.asked.now c.subscribe.new.asked _ c.in_ok-query.ensures.same
       c.subscribe.ensures.only,
   λ s stands.
       (let reading = c.args.reading.now in
@@ -27,7 +28,8 @@ loop-question-init g c = (
       let stamp = c.in_ok-stamp.stamp in
       let made = c.in_ok-stamp.ensures.made in
       let m = made.1 s stands in
-      let a = subst (λ (q : Query). Asked s (subscribe_anew c.args.sub q) (replies.Subscribed stamp made.0) m.0) c.in_ok-query.ensures m.1
+      let a = subst (λ (q : Query). Asked s (subscribe_anew c.args.sub q) (replies.Subscribed stamp made.0) m.0) c.in_ok-query.ensures.same
+      m.1
       in
       subst (λ (l : List Item). Checking stood s c.args.sub reading.max reading.query l stamp 0) (sym c.new-items.ensures)
       (begun c.laws.ensures stood s m.0 c.args.sub reading.max reading.query stamp made.0 a m.2)),
@@ -72,7 +74,8 @@ returns-in_err-append_copies-clause-stopped g c =
       a.2,
       inr
           (checked_more c.laws.ensures (g.A.Asks.stands q.asked) s c.args.sub q.stamp q._question reading q.items shown.items k a.0
-          shown.before shown.after a.1 c.if-shown-stamp.false c.in_err-append_copies.ensures.room (omega (arith, c.loop-question-test.true))),
+          shown.before shown.after a.1 c.if-shown-stamp.false c.in_err-append_copies.ensures.room
+          (omega (arith, c.loop-question-test.true))),
     )))
 
 pub returns-then-len-reading-clause-whole : goal.returns-then-len-reading-clause-whole
@@ -133,13 +136,15 @@ pub returns-in_err-stamp-clause-only : goal.returns-in_err-stamp-clause-only
 returns-in_err-stamp-clause-only g c =
     let reading = c.args.reading.now in
     by_checks g.A.Asks.asks_once c.args.sub reading 0 c.args.asked.now c.subscribe.new.asked (omega arith)
-    (has_begun g.A.Asks.asks_once c.args.sub reading c.args.asked.now c.subscribe.new.asked _ c.in_ok-query.ensures c.subscribe.ensures.only)
+    (has_begun g.A.Asks.asks_once c.args.sub reading c.args.asked.now c.subscribe.new.asked _ c.in_ok-query.ensures.same
+    c.subscribe.ensures.only)
 
 pub returns-in_err-shown-clause-only : goal.returns-in_err-shown-clause-only
 returns-in_err-shown-clause-only g c =
     let q = c.loop-question in
     let reading = c.args.reading.now in
-    by_checks g.A.Asks.asks_once c.args.sub reading (q._question + 1) c.args.asked.now c.check.new.asked (omega (arith, c.loop-question-test.true))
+    by_checks g.A.Asks.asks_once c.args.sub reading (q._question + 1) c.args.asked.now c.check.new.asked
+    (omega (arith, c.loop-question-test.true))
     (checks_more g.A.Asks.asks_once c.args.sub reading q._question c.args.asked.now q.asked c.check.new.asked q.invariant.1
     c.check.ensures.only)
 
@@ -147,7 +152,8 @@ pub returns-then-shown-stamp-clause-only : goal.returns-then-shown-stamp-clause-
 returns-then-shown-stamp-clause-only g c =
     let q = c.loop-question in
     let reading = c.args.reading.now in
-    by_checks g.A.Asks.asks_once c.args.sub reading (q._question + 1) c.args.asked.now c.check.new.asked (omega (arith, c.loop-question-test.true))
+    by_checks g.A.Asks.asks_once c.args.sub reading (q._question + 1) c.args.asked.now c.check.new.asked
+    (omega (arith, c.loop-question-test.true))
     (checks_more g.A.Asks.asks_once c.args.sub reading q._question c.args.asked.now q.asked c.check.new.asked q.invariant.1
     c.check.ensures.only)
 
@@ -155,7 +161,8 @@ pub returns-in_err-append_copies-clause-only : goal.returns-in_err-append_copies
 returns-in_err-append_copies-clause-only g c =
     let q = c.loop-question in
     let reading = c.args.reading.now in
-    by_checks g.A.Asks.asks_once c.args.sub reading (q._question + 1) c.args.asked.now c.check.new.asked (omega (arith, c.loop-question-test.true))
+    by_checks g.A.Asks.asks_once c.args.sub reading (q._question + 1) c.args.asked.now c.check.new.asked
+    (omega (arith, c.loop-question-test.true))
     (checks_more g.A.Asks.asks_once c.args.sub reading q._question c.args.asked.now q.asked c.check.new.asked q.invariant.1
     c.check.ensures.only)
 
@@ -163,7 +170,8 @@ pub returns-then-len-reading-clause-only : goal.returns-then-len-reading-clause-
 returns-then-len-reading-clause-only g c =
     let q = c.loop-question in
     let reading = c.args.reading.now in
-    by_checks g.A.Asks.asks_once c.args.sub reading (q._question + 1) c.args.asked.now c.check.new.asked (omega (arith, c.loop-question-test.true))
+    by_checks g.A.Asks.asks_once c.args.sub reading (q._question + 1) c.args.asked.now c.check.new.asked
+    (omega (arith, c.loop-question-test.true))
     (checks_more g.A.Asks.asks_once c.args.sub reading q._question c.args.asked.now q.asked c.check.new.asked q.invariant.1
     c.check.ensures.only)
 
@@ -184,7 +192,8 @@ returns-in_err-query-clause-same g c = refl
 pub returns-in_err-stamp-clause-worn : goal.returns-in_err-stamp-clause-worn
 returns-in_err-stamp-clause-worn g c =
     by_fault c.from_residual-in_err-stamp.result c.in_err-stamp.field-0.0 c.from_residual-in_err-stamp.ensures.1
-    (stops_worn c.laws.ensures g.A.Asks.stands g.A.Asks.is_worn c.args.asked.now c.subscribe.new.asked _ c.in_err-stamp.field-0.0 c.in_err-stamp.ensures.refused)
+    (stops_worn c.laws.ensures g.A.Asks.stands g.A.Asks.is_worn c.args.asked.now c.subscribe.new.asked _ c.in_err-stamp.field-0.0
+    c.in_err-stamp.ensures.refused)
 
 pub returns-in_err-stamp-clause-same : goal.returns-in_err-stamp-clause-same
 returns-in_err-stamp-clause-same g c = c.subscribe.ensures.same
@@ -192,13 +201,15 @@ returns-in_err-stamp-clause-same g c = c.subscribe.ensures.same
 pub returns-in_err-shown-clause-worn : goal.returns-in_err-shown-clause-worn
 returns-in_err-shown-clause-worn g c =
     by_fault c.from_residual-in_err-shown.result c.in_err-shown.field-0.0 c.from_residual-in_err-shown.ensures.1
-    (stops_worn c.laws.ensures g.A.Asks.stands g.A.Asks.is_worn c.loop-question.asked c.check.new.asked _ c.in_err-shown.field-0.0 c.in_err-shown.ensures.refused)
+    (stops_worn c.laws.ensures g.A.Asks.stands g.A.Asks.is_worn c.loop-question.asked c.check.new.asked _ c.in_err-shown.field-0.0
+    c.in_err-shown.ensures.refused)
 
 pub returns-in_err-shown-clause-same : goal.returns-in_err-shown-clause-same
 returns-in_err-shown-clause-same g c = c.check.ensures.same ∙ c.loop-question.invariant.0
 
 pub returns-in_err-append_copies-clause-worn : goal.returns-in_err-append_copies-clause-worn
-returns-in_err-append_copies-clause-worn g c = has_room c.from_residual-in_err-append_copies.result c.from_residual-in_err-append_copies.ensures.1
+returns-in_err-append_copies-clause-worn g c =
+    has_room c.from_residual-in_err-append_copies.result c.from_residual-in_err-append_copies.ensures.1
 
 pub returns-in_err-append_copies-clause-same : goal.returns-in_err-append_copies-clause-same
 returns-in_err-append_copies-clause-same g c = c.check.ensures.same ∙ c.loop-question.invariant.0
@@ -240,7 +251,8 @@ pub returns-in_err-shown-clause-whole : goal.returns-in_err-shown-clause-whole
 returns-in_err-shown-clause-whole g c = nothing_read c.from_residual-in_err-shown.result _ _ c.from_residual-in_err-shown.ensures.1
 
 pub returns-in_err-append_copies-clause-whole : goal.returns-in_err-append_copies-clause-whole
-returns-in_err-append_copies-clause-whole g c = nothing_read c.from_residual-in_err-append_copies.result _ _ c.from_residual-in_err-append_copies.ensures.1
+returns-in_err-append_copies-clause-whole g c =
+    nothing_read c.from_residual-in_err-append_copies.result _ _ c.from_residual-in_err-append_copies.ensures.1
 
 pub returns-in_err-query-clause-stopped : goal.returns-in_err-query-clause-stopped
 returns-in_err-query-clause-stopped g c =
@@ -282,7 +294,8 @@ pub returns-in_err-shown-clause-items : goal.returns-in_err-shown-clause-items
 returns-in_err-shown-clause-items g c = nothing_read c.from_residual-in_err-shown.result _ _ c.from_residual-in_err-shown.ensures.1
 
 pub returns-in_err-append_copies-clause-items : goal.returns-in_err-append_copies-clause-items
-returns-in_err-append_copies-clause-items g c = nothing_read c.from_residual-in_err-append_copies.result _ _ c.from_residual-in_err-append_copies.ensures.1
+returns-in_err-append_copies-clause-items g c =
+    nothing_read c.from_residual-in_err-append_copies.result _ _ c.from_residual-in_err-append_copies.ensures.1
 
 -- ---- how many Checks it sent before it was overtaken
 
@@ -292,12 +305,14 @@ returns-in_err-query-clause-overtaken g c = has_room_still c.from_residual.resul
 pub returns-in_err-stamp-clause-overtaken : goal.returns-in_err-stamp-clause-overtaken
 returns-in_err-stamp-clause-overtaken g c =
     by_overtaken c.from_residual-in_err-stamp.result c.in_err-stamp.field-0.0 c.from_residual-in_err-stamp.ensures.1
-    (stops_otherwise g.A.Asks.stands g.A.Asks.is_worn c.args.asked.now c.subscribe.new.asked _ c.in_err-stamp.field-0.0 c.in_err-stamp.ensures.refused)
+    (stops_otherwise g.A.Asks.stands g.A.Asks.is_worn c.args.asked.now c.subscribe.new.asked _ c.in_err-stamp.field-0.0
+    c.in_err-stamp.ensures.refused)
 
 pub returns-in_err-shown-clause-overtaken : goal.returns-in_err-shown-clause-overtaken
 returns-in_err-shown-clause-overtaken g c =
     by_overtaken c.from_residual-in_err-shown.result c.in_err-shown.field-0.0 c.from_residual-in_err-shown.ensures.1
-    (stops_otherwise g.A.Asks.stands g.A.Asks.is_worn c.loop-question.asked c.check.new.asked _ c.in_err-shown.field-0.0 c.in_err-shown.ensures.refused)
+    (stops_otherwise g.A.Asks.stands g.A.Asks.is_worn c.loop-question.asked c.check.new.asked _ c.in_err-shown.field-0.0
+    c.in_err-shown.ensures.refused)
 
 pub returns-then-shown-stamp-clause-overtaken : goal.returns-then-shown-stamp-clause-overtaken
 returns-then-shown-stamp-clause-overtaken g c e =
@@ -305,7 +320,8 @@ returns-then-shown-stamp-clause-overtaken g c e =
     let reading = c.args.reading.now in (
       q._question,
       omega (arith, c.loop-question-test.true),
-      checks_more g.A.Asks.asks_once c.args.sub reading q._question c.args.asked.now q.asked c.check.new.asked q.invariant.1 c.check.ensures.only,
+      checks_more g.A.Asks.asks_once c.args.sub reading q._question c.args.asked.now q.asked c.check.new.asked q.invariant.1
+          c.check.ensures.only,
       λ s stands.
           (let stood = g.A.Asks.stands q.asked in
           let shown = c.in_ok-shown.shown in
@@ -321,7 +337,8 @@ returns-then-shown-stamp-clause-overtaken g c e =
     )
 
 pub returns-in_err-append_copies-clause-overtaken : goal.returns-in_err-append_copies-clause-overtaken
-returns-in_err-append_copies-clause-overtaken g c = has_room_still c.from_residual-in_err-append_copies.result c.from_residual-in_err-append_copies.ensures.1
+returns-in_err-append_copies-clause-overtaken g c =
+    has_room_still c.from_residual-in_err-append_copies.result c.from_residual-in_err-append_copies.ensures.1
 
 pub returns-then-len-reading-clause-overtaken : goal.returns-then-len-reading-clause-overtaken
 returns-then-len-reading-clause-overtaken g c = λ e. absurd (cc)

@@ -111,13 +111,15 @@ pub returns-in_err-scope-clause-only : goal.returns-in_err-scope-clause-only
 returns-in_err-scope-clause-only g c =
     let q = c.loop-question in
     let reading = c.args.reading.now in
-    fewer g.A.Asks.asks_once (IsSinceOf reading) q._question reading.questions c.args.asked.now q.asked (omega (arith, c.loop-question-test.true)) q.invariant.1
+    fewer g.A.Asks.asks_once (IsSinceOf reading) q._question reading.questions c.args.asked.now q.asked
+    (omega (arith, c.loop-question-test.true)) q.invariant.1
 
 pub returns-in_err-given-clause-only : goal.returns-in_err-given-clause-only
 returns-in_err-given-clause-only g c =
     let q = c.loop-question in
     let reading = c.args.reading.now in
-    fewer g.A.Asks.asks_once (IsSinceOf reading) (q._question + 1) reading.questions c.args.asked.now c.since.new.asked (omega (arith, c.loop-question-test.true))
+    fewer g.A.Asks.asks_once (IsSinceOf reading) (q._question + 1) reading.questions c.args.asked.now c.since.new.asked
+    (omega (arith, c.loop-question-test.true))
     (sinces_more g.A.Asks.asks_once reading q._question c.args.asked.now q.asked c.since.new.asked _ q.at c.in_ok-scope.ensures
     q.invariant.1 c.since.ensures.only)
 
@@ -125,7 +127,8 @@ pub returns-in_err-append_copies-clause-only : goal.returns-in_err-append_copies
 returns-in_err-append_copies-clause-only g c =
     let q = c.loop-question in
     let reading = c.args.reading.now in
-    fewer g.A.Asks.asks_once (IsSinceOf reading) (q._question + 1) reading.questions c.args.asked.now c.since.new.asked (omega (arith, c.loop-question-test.true))
+    fewer g.A.Asks.asks_once (IsSinceOf reading) (q._question + 1) reading.questions c.args.asked.now c.since.new.asked
+    (omega (arith, c.loop-question-test.true))
     (sinces_more g.A.Asks.asks_once reading q._question c.args.asked.now q.asked c.since.new.asked _ q.at c.in_ok-scope.ensures
     q.invariant.1 c.since.ensures.only)
 
@@ -133,7 +136,8 @@ pub returns-then-len-reading-clause-only : goal.returns-then-len-reading-clause-
 returns-then-len-reading-clause-only g c =
     let q = c.loop-question in
     let reading = c.args.reading.now in
-    fewer g.A.Asks.asks_once (IsSinceOf reading) (q._question + 1) reading.questions c.args.asked.now c.since.new.asked (omega (arith, c.loop-question-test.true))
+    fewer g.A.Asks.asks_once (IsSinceOf reading) (q._question + 1) reading.questions c.args.asked.now c.since.new.asked
+    (omega (arith, c.loop-question-test.true))
     (sinces_more g.A.Asks.asks_once reading q._question c.args.asked.now q.asked c.since.new.asked _ q.at c.in_ok-scope.ensures
     q.invariant.1 c.since.ensures.only)
 
@@ -155,13 +159,15 @@ returns-in_err-scope-clause-same g c = c.loop-question.invariant.0
 pub returns-in_err-given-clause-worn : goal.returns-in_err-given-clause-worn
 returns-in_err-given-clause-worn g c =
     by_fault c.from_residual-in_err-given.result c.in_err-given.field-0.0 c.from_residual-in_err-given.ensures.1
-    (stops_worn c.laws.ensures g.A.Asks.stands g.A.Asks.is_worn c.loop-question.asked c.since.new.asked _ c.in_err-given.field-0.0 c.in_err-given.ensures.refused)
+    (stops_worn c.laws.ensures g.A.Asks.stands g.A.Asks.is_worn c.loop-question.asked c.since.new.asked _ c.in_err-given.field-0.0
+    c.in_err-given.ensures.refused)
 
 pub returns-in_err-given-clause-same : goal.returns-in_err-given-clause-same
 returns-in_err-given-clause-same g c = c.since.ensures.same ∙ c.loop-question.invariant.0
 
 pub returns-in_err-append_copies-clause-worn : goal.returns-in_err-append_copies-clause-worn
-returns-in_err-append_copies-clause-worn g c = has_room c.from_residual-in_err-append_copies.result c.from_residual-in_err-append_copies.ensures.1
+returns-in_err-append_copies-clause-worn g c =
+    has_room c.from_residual-in_err-append_copies.result c.from_residual-in_err-append_copies.ensures.1
 
 pub returns-in_err-append_copies-clause-same : goal.returns-in_err-append_copies-clause-same
 returns-in_err-append_copies-clause-same g c = c.since.ensures.same ∙ c.loop-question.invariant.0
@@ -191,4 +197,5 @@ pub returns-in_err-given-clause-caught : goal.returns-in_err-given-clause-caught
 returns-in_err-given-clause-caught g c = nothing_read c.from_residual-in_err-given.result _ _ c.from_residual-in_err-given.ensures.1
 
 pub returns-in_err-append_copies-clause-caught : goal.returns-in_err-append_copies-clause-caught
-returns-in_err-append_copies-clause-caught g c = nothing_read c.from_residual-in_err-append_copies.result _ _ c.from_residual-in_err-append_copies.ensures.1
+returns-in_err-append_copies-clause-caught g c =
+    nothing_read c.from_residual-in_err-append_copies.result _ _ c.from_residual-in_err-append_copies.ensures.1

@@ -111,7 +111,8 @@ returns-in_err-catch_up-clause-stopped g c =
     let there = paged_there c.laws.ensures k.now a.0 _ q.after reading.max given a.1 in
     let is = subst (λ (x : Scope). given ≡ page_of (is_kept x) q.after reading.max (held a.0) (cursor a.0)) c.in_ok-scope.ensures there.0 in
     let b = c.in_err-catch_up.ensures.stopped a.0 a.2 in
-    let all = all_paged c.laws.ensures stood s reading q.items q.after q.from q._question k a.0 there.1 given is c.if-given.true b.0 b.1 in (
+    let all =
+    all_paged c.laws.ensures stood s reading q.items q.after q.from q._question k a.0 there.1 given is c.if-given.true b.0 b.1 in (
       b.0,
       c.laws.ensures.later s a.0 b.0 (gone c.laws.ensures stood s reading q.items q.after q.from q._question k a.0 there.1) b.1,
       b.2,
@@ -134,7 +135,8 @@ returns-then-given-clause-whole g c = λ s stands.
     let there = paged_there c.laws.ensures k.now a.0 _ q.after reading.max given a.1 in
     let is = subst (λ (x : Scope). given ≡ page_of (is_kept x) q.after reading.max (held a.0) (cursor a.0)) c.in_ok-scope.ensures there.0 in
     let b = c.in_ok-catch_up.ensures.caught a.0 a.2 in
-    let first = subst (λ (x : Cursor). IsCaughtUp b.0 reading.query x c.append_copies.new.self c.catch_up.new.items) c.unwrap_or-first.ensures b.3
+    let first = subst (λ (x : Cursor). IsCaughtUp b.0 reading.query x c.append_copies.new.self c.catch_up.new.items)
+    c.unwrap_or-first.ensures b.3
     in
     let caught = subst (λ (l : List Item). IsCaughtUp b.0 reading.query (unwrap_or q.from given.cursor) l c.catch_up.new.items)
     c.in_ok-append_copies.ensures.added first in (
@@ -158,7 +160,8 @@ returns-then-given-clause-items g c = λ s stands.
     let there = paged_there c.laws.ensures k.now a.0 _ q.after reading.max given a.1 in
     let is = subst (λ (x : Scope). given ≡ page_of (is_kept x) q.after reading.max (held a.0) (cursor a.0)) c.in_ok-scope.ensures there.0 in
     let b = c.in_ok-catch_up.ensures.caught a.0 a.2 in
-    let first = subst (λ (x : Cursor). IsCaughtUp b.0 reading.query x c.append_copies.new.self c.catch_up.new.items) c.unwrap_or-first.ensures b.3
+    let first = subst (λ (x : Cursor). IsCaughtUp b.0 reading.query x c.append_copies.new.self c.catch_up.new.items)
+    c.unwrap_or-first.ensures b.3
     in
     let caught = subst (λ (l : List Item). IsCaughtUp b.0 reading.query (unwrap_or q.from given.cursor) l c.catch_up.new.items)
     c.in_ok-append_copies.ensures.added first in (
@@ -179,7 +182,8 @@ pub returns-in_err-given-clause-items : goal.returns-in_err-given-clause-items
 returns-in_err-given-clause-items g c = nothing_read c.from_residual-in_err-given.result _ _ c.from_residual-in_err-given.ensures.1
 
 pub returns-in_err-append_copies-clause-items : goal.returns-in_err-append_copies-clause-items
-returns-in_err-append_copies-clause-items g c = nothing_read c.from_residual-in_err-append_copies.result _ _ c.from_residual-in_err-append_copies.ensures.1
+returns-in_err-append_copies-clause-items g c =
+    nothing_read c.from_residual-in_err-append_copies.result _ _ c.from_residual-in_err-append_copies.ensures.1
 
 pub returns-in_err-catch_up-clause-items : goal.returns-in_err-catch_up-clause-items
 returns-in_err-catch_up-clause-items g c = nothing_read c.from_residual-in_err-catch_up.result _ _ c.from_residual-in_err-catch_up.ensures.1
@@ -188,7 +192,8 @@ returns-in_err-catch_up-clause-items g c = nothing_read c.from_residual-in_err-c
 pub returns-in_err-scope-clause-only : goal.returns-in_err-scope-clause-only
 returns-in_err-scope-clause-only g c =
     let q = c.loop-question in
-    by_pages g.A.Asks.asks_once c.args.reading.now q._question c.args.asked.now q.asked (omega (arith, c.loop-question-test.true)) q.invariant.1
+    by_pages g.A.Asks.asks_once c.args.reading.now q._question c.args.asked.now q.asked (omega (arith, c.loop-question-test.true))
+    q.invariant.1
 
 pub returns-in_err-given-clause-only : goal.returns-in_err-given-clause-only
 returns-in_err-given-clause-only g c =
@@ -241,19 +246,22 @@ returns-in_err-scope-clause-same g c = c.loop-question.invariant.0
 pub returns-in_err-given-clause-worn : goal.returns-in_err-given-clause-worn
 returns-in_err-given-clause-worn g c =
     by_fault c.from_residual-in_err-given.result c.in_err-given.field-0.0 c.from_residual-in_err-given.ensures.1
-    (stops_worn c.laws.ensures g.A.Asks.stands g.A.Asks.is_worn c.loop-question.asked c.page.new.asked _ c.in_err-given.field-0.0 c.in_err-given.ensures.refused)
+    (stops_worn c.laws.ensures g.A.Asks.stands g.A.Asks.is_worn c.loop-question.asked c.page.new.asked _ c.in_err-given.field-0.0
+    c.in_err-given.ensures.refused)
 
 pub returns-in_err-given-clause-same : goal.returns-in_err-given-clause-same
 returns-in_err-given-clause-same g c = c.page.ensures.same ∙ c.loop-question.invariant.0
 
 pub returns-in_err-append_copies-clause-worn : goal.returns-in_err-append_copies-clause-worn
-returns-in_err-append_copies-clause-worn g c = has_room c.from_residual-in_err-append_copies.result c.from_residual-in_err-append_copies.ensures.1
+returns-in_err-append_copies-clause-worn g c =
+    has_room c.from_residual-in_err-append_copies.result c.from_residual-in_err-append_copies.ensures.1
 
 pub returns-in_err-append_copies-clause-same : goal.returns-in_err-append_copies-clause-same
 returns-in_err-append_copies-clause-same g c = c.page.ensures.same ∙ c.loop-question.invariant.0
 
 pub returns-in_err-catch_up-clause-worn : goal.returns-in_err-catch_up-clause-worn
-returns-in_err-catch_up-clause-worn g c = by_fault c.from_residual-in_err-catch_up.result c.in_err-catch_up.field-0.0 c.from_residual-in_err-catch_up.ensures.1 (λ e. c.in_err-catch_up.ensures.worn (ap Err e))
+returns-in_err-catch_up-clause-worn g c = by_fault c.from_residual-in_err-catch_up.result c.in_err-catch_up.field-0.0
+    c.from_residual-in_err-catch_up.ensures.1 (λ e. c.in_err-catch_up.ensures.worn (ap Err e))
 
 pub returns-in_err-catch_up-clause-same : goal.returns-in_err-catch_up-clause-same
 returns-in_err-catch_up-clause-same g c = c.catch_up.ensures.same ∙ c.page.ensures.same ∙ c.loop-question.invariant.0
@@ -283,7 +291,8 @@ pub returns-in_err-given-clause-whole : goal.returns-in_err-given-clause-whole
 returns-in_err-given-clause-whole g c = nothing_read c.from_residual-in_err-given.result _ _ c.from_residual-in_err-given.ensures.1
 
 pub returns-in_err-append_copies-clause-whole : goal.returns-in_err-append_copies-clause-whole
-returns-in_err-append_copies-clause-whole g c = nothing_read c.from_residual-in_err-append_copies.result _ _ c.from_residual-in_err-append_copies.ensures.1
+returns-in_err-append_copies-clause-whole g c =
+    nothing_read c.from_residual-in_err-append_copies.result _ _ c.from_residual-in_err-append_copies.ensures.1
 
 pub returns-in_err-catch_up-clause-whole : goal.returns-in_err-catch_up-clause-whole
 returns-in_err-catch_up-clause-whole g c = nothing_read c.from_residual-in_err-catch_up.result _ _ c.from_residual-in_err-catch_up.ensures.1

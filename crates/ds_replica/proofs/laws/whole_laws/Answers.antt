@@ -1,4 +1,5 @@
-use Rattle.ds_replica.proofs.WholeLemmas.{snapshot_is_whole, nothing_is_whole, more_is_whole, earlier_is_whole, narrower_is_whole, whole_stays, feeds_grow}
+use Rattle.ds_replica.proofs.WholeLemmas.{snapshot_is_whole, nothing_is_whole, more_is_whole, earlier_is_whole, narrower_is_whole}
+use Rattle.ds_replica.proofs.WholeLemmas.{whole_stays, feeds_grow}
 use Rattle.ds_replica.proofs.JournalLemmas.{since_extends, sinces_extend}
 use Rattle.ds_replica.proofs.laws.whole_laws.Goals as goal
 

@@ -1,4 +1,5 @@
-use Rattle.ds_replica.proofs.RowLemmas.{replicas_converge, replicas_differ, maps_catch_up, maps_lag, maps_lead, replicas_clash, maps_clash, owners_change}
+use Rattle.ds_replica.proofs.RowLemmas.{replicas_converge, replicas_differ, maps_catch_up, maps_lag, maps_lead, replicas_clash, maps_clash}
+use Rattle.ds_replica.proofs.RowLemmas.{owners_change}
 use Rattle.ds_replica.proofs.world.rows_happen.Goals as goal
 
 pub returns-clause-converge : goal.returns-clause-converge

@@ -9,7 +9,8 @@ use Rattle.ds_script.proofs.fast.fast_retrieve.Goals as goal
 pub returns-in-Err-clause-ok : goal.returns-in-Err-clause-ok
 returns-in-Err-clause-ok c =
     on_ok c.answer_unread.result
-    (λ answered before. unread_after before c.args.line.now c.args.output.now.items c.answer_unread.new.output.items c.in-Err.fault c.args.session.now c.requires.short
+    (λ answered before. unread_after before c.args.line.now c.args.output.now.items c.answer_unread.new.output.items c.in-Err.fault
+    c.args.session.now c.requires.short
     (read_after before c.args.line.now (Err c.in-Err.fault) c.in-Err.ensures.first c.in-Err.ensures.later) answered)
     c.answer_unread.ensures.answered
 
@@ -21,9 +22,14 @@ returns-in-Err-clause-fault c =
     c.answer_unread.ensures.told
 
 pub returns-in-Err-clause-kept : goal.returns-in-Err-clause-kept
-returns-in-Err-clause-kept c = IfErr-weaker c.answer_unread.result (λ told. told ≡ c.in-Err.fault) _ (λ told same. keeps told c.args.session.now) c.answer_unread.ensures.told
+returns-in-Err-clause-kept c = IfErr-weaker c.answer_unread.result (λ told. told ≡ c.in-Err.fault) _
+    (λ told same. keeps told c.args.session.now) c.answer_unread.ensures.told
 
 pub returns-in-Ok-answer_asked-clause-ok : goal.returns-in-Ok-answer_asked-clause-ok
 returns-in-Ok-answer_asked-clause-ok c = λ before.
-    let a = (c.in-Ok-answer_asked.ensures).answered in
-    (a.0, a.1, event_after before c.args.line.now a.0 (Store (Retrieve c.in-Ok.key)) c.args.session.now c.answer_asked.new.session c.requires.short c.in-Ok.ensures.first c.in-Ok.ensures.later a.2)
+    let a = (c.in-Ok-answer_asked.ensures).answered in (
+      a.0,
+      a.1,
+      event_after before c.args.line.now a.0 (Store (Retrieve c.in-Ok.key)) c.args.session.now c.answer_asked.new.session
+          c.requires.short c.in-Ok.ensures.first c.in-Ok.ensures.later a.2,
+    )

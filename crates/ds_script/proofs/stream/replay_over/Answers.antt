@@ -23,7 +23,8 @@ returns-clause-stopped g c =
     let has = g.W.Sink.contents c.settled.new.writer in
     let policy = c.args.policy in
     let output = c.run-ran.new.self.output.items in
-    let settles = subst (λ (out : List ℕ). Settles c.settled.result c.in-Err.fault is has out) c.deref.ensures.value c.settled.ensures.settles in
+    let settles = subst (λ (out : List ℕ). Settles c.settled.result c.in-Err.fault is has out) c.deref.ensures.value
+    c.settled.ensures.settles in
     let back : c.settled.new.writer ≡ c.writer-in-Err-1.given.0 = sym (c.writer-in-Err-1.given.1 (sym c.run-ran.ensures.same)) in
     subst (λ (w : g.row.W.Denot). Told policy c.settled.result from to had (g.W.Sink.contents w)) back
     (settled_stops policy c.in-Err.fault c.settled.result from to had is has output (c.in-Err.ensures).err settles)
@@ -37,4 +38,5 @@ returns-clause-cause g c =
     let new = c.run-ran.new.reader in
     let back : c.settled.new.writer ≡ c.writer-in-Err-1.given.0 = sym (c.writer-in-Err-1.given.1 (sym c.run-ran.ensures.same)) in
     subst (λ (w : g.row.W.Denot). HasCause g.R.Source g.W.Sink c.settled.result old new first w) back
-    (settled_cause g.R.Source g.W.Sink c.settled.result c.in-Err.fault old new first mid last (c.in-Err.ensures).cause c.settled.ensures.cause)
+    (settled_cause g.R.Source g.W.Sink c.settled.result c.in-Err.fault old new first mid last (c.in-Err.ensures).cause
+    c.settled.ensures.cause)

@@ -8,7 +8,8 @@ use Rattle.ds_store.specs.Last.{ReadsPattern}
 use Rattle.ds_store.proofs.reading.scope_of_since.Goals as goal
 
 -- before its cursor, a Since is judged as a Page is
-same_reading : (scope : Scope) (max : ℕ) (f : Feed) (at : Cursor) → ReadsPattern scope (against_page scope max) → ReadsPattern scope (against_since f scope at max)
+same_reading : (scope : Scope) (max : ℕ) (f : Feed) (at : Cursor) → ReadsPattern scope (against_page scope max) →
+    ReadsPattern scope (against_since f scope at max)
 same_reading All max f at h = h
 same_reading (Under query) max f at h = h
 

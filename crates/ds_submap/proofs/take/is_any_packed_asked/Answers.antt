@@ -6,7 +6,8 @@ use Rattle.ds_submap.proofs.take.is_any_packed_asked.Goals as goal
 
 pub loop-item-init : goal.loop-item-init
 loop-item-init c =
-    let all : take c.len.result c.args.items.now ≡ c.args.items.now = take_all c.len.result c.args.items.now (omega (arith, c.len.ensures)) in
+    let all : take c.len.result c.args.items.now ≡ c.args.items.now =
+    take_all c.len.result c.args.items.now (omega (arith, c.len.ensures)) in
     record { same = ap (list_any (needs_query c.args.filter.now)) (c.in-Some.ensures.some.0 ∙ all) }
 
 pub loop-item-preserved : goal.loop-item-preserved

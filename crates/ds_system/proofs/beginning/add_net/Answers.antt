@@ -10,4 +10,5 @@ returns-in-Network c units st =
     let s = c.args.service.now in
     let driver = net_driver s.label in
     unit_added c.args.table.now c.assign.new.self units (net_unit s) c.in-Some.unit driver c.assign.result c.assigned.result
-    (net_is s c.in-Some.unit Network (Some driver) c.in-Some.is c.in-Network.is refl) c.assigned.ensures c.assign.ensures.answer c.assign.ensures.after c.assign.ensures.unchanged st
+    (net_is s c.in-Some.unit Network (Some driver) c.in-Some.is c.in-Network.is refl) c.assigned.ensures c.assign.ensures.answer
+    c.assign.ensures.after c.assign.ensures.unchanged st

@@ -18,11 +18,16 @@ loop-index-preserved c =
     let i = c.loop-index.index in
     let x = c.in-Some.service.now in
     let same = c.services-services.ensures.value in
-    let at : slice_get xs i ≡ Some x = subst (λ (l : List Service). slice_get l i ≡ Some x) same (sym (subst (λ o. option_copied o ≡ slice_get c.services-services.result.now i) c.in-Some.is c.get.ensures)) in
-    subst (λ (l : List (ℕ × Driver)). TableStands c.add_net.new.table (assigned_all l)) (sym (taken_by net_unit xs i x at)) (c.in-Ok.ensures (filter_map net_unit (take i xs)) c.loop-index.invariant)
+    let at : slice_get xs i ≡ Some x = subst (λ (l : List Service). slice_get l i ≡ Some x) same
+    (sym (subst (λ o. option_copied o ≡ slice_get c.services-services.result.now i) c.in-Some.is c.get.ensures)) in
+    subst (λ (l : List (ℕ × Driver)). TableStands c.add_net.new.table (assigned_all l)) (sym (taken_by net_unit xs i x at))
+    (c.in-Ok.ensures (filter_map net_unit (take i xs)) c.loop-index.invariant)
 
 pub returns : goal.returns
 returns c =
     let xs = c.args.settings.now.services in
-    let end : length xs ≤ c.loop-index.index = subst (λ (l : List Service). length l ≤ c.loop-index.index) c.services-services.ensures.value (subst (λ (n : ℕ). n ≤ c.loop-index.index) c.len-index-end.ensures c.loop-index-test.false) in
-    subst (λ (l : List Service). TableStands c.loop-index.table (assigned_all (filter_map net_unit l))) (take_all c.loop-index.index xs end) c.loop-index.invariant
+    let end : length xs ≤ c.loop-index.index =
+    subst (λ (l : List Service). length l ≤ c.loop-index.index) c.services-services.ensures.value
+    (subst (λ (n : ℕ). n ≤ c.loop-index.index) c.len-index-end.ensures c.loop-index-test.false) in
+    subst (λ (l : List Service). TableStands c.loop-index.table (assigned_all (filter_map net_unit l)))
+    (take_all c.loop-index.index xs end) c.loop-index.invariant

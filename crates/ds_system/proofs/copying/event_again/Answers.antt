@@ -26,4 +26,4 @@ returns-in_ok-copy-in-Put c =
 
 pub returns-in_ok-copy-in-World : goal.returns-in_ok-copy-in-World
 returns-in_ok-copy-in-World c =
-    let p = c.in-World in ap (λ e. World e) c.in_ok-copy-in-World.ensures ∙ sym p.is
+    let p = c.in-World in ap (λ e. World e) c.in_ok-copy-in-World.ensures.same ∙ sym p.is

@@ -13,7 +13,8 @@ returns-in-Some c =
       rounds,
       Some c.in-Some.fault,
       subst (λ (l : List (List Move)). HasFollowed held c.args.file.now c.follows.new.table l rounds (Some c.in-Some.fault)) c.requires
-          (subst (λ (o : Option TableFault). HasFollowed held c.args.file.now c.follows.new.table c.args.rounds.now.items rounds o) c.in-Some.is c.follows.ensures),
+          (subst (λ (o : Option TableFault). HasFollowed held c.args.file.now c.follows.new.table c.args.rounds.now.items rounds o)
+          c.in-Some.is c.follows.ensures),
       (refl, refl, refl),
     )
 
@@ -24,6 +25,7 @@ returns-in-None c =
       rounds,
       None,
       subst (λ (l : List (List Move)). HasFollowed held c.args.file.now c.follows.new.table l rounds None) c.requires
-          (subst (λ (o : Option TableFault). HasFollowed held c.args.file.now c.follows.new.table c.args.rounds.now.items rounds o) c.in-None.is c.follows.ensures),
+          (subst (λ (o : Option TableFault). HasFollowed held c.args.file.now c.follows.new.table c.args.rounds.now.items rounds o)
+          c.in-None.is c.follows.ensures),
       c.follows-in-None.ensures,
     )

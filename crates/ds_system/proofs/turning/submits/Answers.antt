@@ -12,13 +12,16 @@ returns-in-Some g c =
     let old = g.T.Drivers.kept c.args.table.now in
     let new = g.T.Drivers.kept c.follows.new.table in
     submit_ended held c.args.id c.args.unit old new c.args.rounds.now.items c.follows.new.rounds.items c.in-Some.fault c.requires
-    (subst (λ (o : Option TableFault). HasFollowed held old new c.args.rounds.now.items c.follows.new.rounds.items o) c.in-Some.is c.follows.ensures)
+    (subst (λ (o : Option TableFault). HasFollowed held old new c.args.rounds.now.items c.follows.new.rounds.items o) c.in-Some.is
+    c.follows.ensures)
 
 pub returns-in-None : goal.returns-in-None
 returns-in-None g c =
     let held = held_in c.args.world.now (Map c.args.map) in
     let old = g.T.Drivers.kept c.args.table.now in
     let mid = g.T.Drivers.kept c.follows.new.table in
-    submit_answered held c.args.id c.args.unit old mid (g.T.Drivers.kept c.submit.new.self) c.args.rounds.now.items c.follows.new.rounds.items c.submit.result c.requires
-    (subst (λ (o : Option TableFault). HasFollowed held old mid c.args.rounds.now.items c.follows.new.rounds.items o) c.in-None.is c.follows.ensures)
+    submit_answered held c.args.id c.args.unit old mid (g.T.Drivers.kept c.submit.new.self) c.args.rounds.now.items
+    c.follows.new.rounds.items c.submit.result c.requires
+    (subst (λ (o : Option TableFault). HasFollowed held old mid c.args.rounds.now.items c.follows.new.rounds.items o) c.in-None.is
+    c.follows.ensures)
     c.submit.ensures.answer c.submit.ensures.after c.submit.ensures.unchanged

@@ -7,7 +7,8 @@ use Rattle.ds_world.proofs.parts.items_proof.Goals as goal
 pub loop-item-preserved : goal.loop-item-preserved
 loop-item-preserved c =
     let item = c.item-item.result in
-    All-more IsItem c.args.items.now c.loop-item.item-index item c.loop-item-test.true c.loop-item.invariant (subst IsItem c.item-item.is c.item_proof.ensures)
+    All-more IsItem c.args.items.now c.loop-item.item-index item c.loop-item-test.true c.loop-item.invariant
+    (subst IsItem c.item-item.is c.item_proof.ensures)
 
 pub returns : goal.returns
 returns c =

@@ -3,7 +3,8 @@ use Rattle.node_supervisor.proofs.telling.holds_by.Goals as goal
 
 pub returns-then-may_give : goal.returns-then-may_give
 returns-then-may_give c =
-    ahead_holds_not c.args.rs.now c.args.keeper.now.next c.args.keeper.now.file c.args.tick c.args.event.now c.may_give.result c.may_give.ensures
+    ahead_holds_not c.args.rs.now c.args.keeper.now.next c.args.keeper.now.file c.args.tick c.args.event.now c.may_give.result
+    c.may_give.ensures
     c.if-may_give.true
 
 pub returns-in-Ok : goal.returns-in-Ok

@@ -7,6 +7,9 @@ returns-clause-one c = lemmas.one_instance_at_a_time
 pub returns-clause-alone : goal.returns-clause-alone
 returns-clause-alone c = lemmas.begins_alone
 
+pub returns-clause-left : goal.returns-clause-left
+returns-clause-left c = lemmas.forgets_none
+
 pub returns-clause-written : goal.returns-clause-written
 returns-clause-written c = lemmas.generations_are_written
 

@@ -24,5 +24,6 @@ loop-i-preserved c = λ tick le.
 pub returns : goal.returns
 returns c = λ tick le.
     sym (c.loop-i.invariant tick le)
-    ∙ ap (λ (b : Bool). is_from c.loop-i.first tick || b) (any_due-end tick c.loop-i.i c.args.services.now c.args.states.now (omega arith) (omega arith))
+    ∙ ap (λ (b : Bool). is_from c.loop-i.first tick || b)
+    (any_due-end tick c.loop-i.i c.args.services.now c.args.states.now (omega arith) (omega arith))
     ∙ or_false (is_from c.loop-i.first tick)

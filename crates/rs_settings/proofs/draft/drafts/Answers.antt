@@ -18,8 +18,10 @@ returns-in-Err-clause-refused c =
     let n : c.len.result ≡ length before = c.len.ensures.value ∙ sym (length-map c.loop-item.drafts.items service_of_draft) in
     let found : service_from c.args.format (length before) (as_table (view (get_or vs i c.item-item.result))) ≡ Err c.in-Err.fault = subst
     (λ (v : Value). service_from c.args.format (length before) (as_table (view v)) ≡ Err c.in-Err.fault) c.item-item.is
-    (subst (λ (k : ℕ). service_from c.args.format k (as_table (view c.item-item.result)) ≡ Err c.in-Err.fault) n c.in-Err.ensures.refused) in
-    services_in-fault c.args.format before vs i c.item-item.result c.in-Err.fault (services_in c.args.format [] (items_view vs)) (omega arith) c.loop-item.invariant.read found
+    (subst (λ (k : ℕ). service_from c.args.format k (as_table (view c.item-item.result)) ≡ Err c.in-Err.fault) n
+    c.in-Err.ensures.refused) in
+    services_in-fault c.args.format before vs i c.item-item.result c.in-Err.fault (services_in c.args.format [] (items_view vs))
+    (omega arith) c.loop-item.invariant.read found
 
 pub loop-item-preserved : goal.loop-item-preserved
 loop-item-preserved c =
@@ -28,13 +30,22 @@ loop-item-preserved c =
     let s = service_of_draft c.in-Ok.draft in
     let before = map service_of_draft c.loop-item.drafts.items in
     let n : c.len.result ≡ length before = c.len.ensures.value ∙ sym (length-map c.loop-item.drafts.items service_of_draft) in
-    let grown : map service_of_draft c.push.new.self.items ≡ before ++ s ∷ [] = map-last service_of_draft c.loop-item.drafts.items c.push.new.self.items c.in-Ok.draft c.push.ensures.items in
+    let grown : map service_of_draft c.push.new.self.items ≡ before ++ s ∷ [] =
+    map-last service_of_draft c.loop-item.drafts.items c.push.new.self.items c.in-Ok.draft c.push.ensures.items in
     let found : service_from c.args.format (length before) (as_table (view (get_or vs i c.item-item.result))) ≡ Ok s = subst
     (λ (v : Value). service_from c.args.format (length before) (as_table (view v)) ≡ Ok s) c.item-item.is
     (subst (λ (k : ℕ). service_from c.args.format k (as_table (view c.item-item.result)) ≡ Ok s) n c.in-Ok.ensures.read) in
     record {
-      read = subst (λ (z : List Service). services_in c.args.format z (items_view (drop (i + 1) vs)) ≡ services_in c.args.format [] (items_view vs)) (sym grown)
-          (services_in-more c.args.format before vs i c.item-item.result s (services_in c.args.format [] (items_view vs)) (omega arith) c.loop-item.invariant.read found);
-      each = each-last IsService before (map service_of_draft c.push.new.self.items) s grown c.loop-item.invariant.each c.in-Ok.ensures.service;
-      count = omega (arith, length-last c.loop-item.drafts.items c.push.new.self.items c.in-Ok.draft c.push.ensures.items, c.loop-item.invariant.count);
+      read = subst (λ (z : List Service). services_in c.args.format z (items_view (drop (i + 1) vs)) ≡ services_in c.args.format []
+          (items_view vs)) (sym grown)
+          (services_in-more c.args.format before vs i c.item-item.result s (services_in c.args.format [] (items_view vs)) (omega arith)
+          c.loop-item.invariant.read found);
+      each = each-last IsService before (map service_of_draft c.push.new.self.items) s grown c.loop-item.invariant.each
+          c.in-Ok.ensures.service;
+      count =
+          omega (
+            arith,
+            length-last c.loop-item.drafts.items c.push.new.self.items c.in-Ok.draft c.push.ensures.items,
+            c.loop-item.invariant.count,
+          );
     }

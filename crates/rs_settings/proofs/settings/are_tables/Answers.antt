@@ -8,4 +8,5 @@ use Rattle.rs_settings.proofs.TableLemmas.{are_tables-view}
 use Rattle.rs_settings.proofs.settings.are_tables.Goals as goal
 
 pub returns : goal.returns
-returns c = all_from_yields_List (λ v. is_some (as_table (view v))) _ _ _ c.all.ensures.ran (YieldsList-from_slice c.args.items.now.items cc) (λ x b q k. search (rules, tests)) ∙ are_tables-view c.args.items.now.items
+returns c = all_from_yields_List (λ v. is_some (as_table (view v))) _ _ _ c.all.ensures.ran
+    (YieldsList-from_slice c.args.items.now.items cc) (λ x b q k. search (rules, tests)) ∙ are_tables-view c.args.items.now.items

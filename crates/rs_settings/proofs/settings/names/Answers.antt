@@ -5,4 +5,5 @@ use Rattle.rs_settings.proofs.TableLemmas.{each-at}
 use Rattle.rs_settings.proofs.settings.names.Goals as goal
 
 pub name_of-requires : goal.name_of-requires
-name_of-requires c = subst IsName (sym c.text_of.ensures) (each-at IsName text_in_value c.args.items.now c.loop-item.item-index c.item-item.result c.requires (omega arith) c.item-item.is)
+name_of-requires c = subst IsName (sym c.text_of.ensures)
+    (each-at IsName text_in_value c.args.items.now c.loop-item.item-index c.item-item.result c.requires (omega arith) c.item-item.is)

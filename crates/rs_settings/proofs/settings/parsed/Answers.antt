@@ -9,6 +9,7 @@ returns-in-Ok-clause-document c = document-read c.args.text.now (table_view c.in
 
 pub returns-else-is_memory-clause-refused : goal.returns-else-is_memory-clause-refused
 returns-else-is_memory-clause-refused c = λ _. (
-  document-refused c.args.text.now (λ utf8. c.in-Err.ensures.refused (λ m. false≢true (sym c.if-is_memory.false ∙ c.is_memory.ensures.1 m))),
+  document-refused c.args.text.now (λ utf8. c.in-Err.ensures.refused
+      (λ m. false≢true (sym c.if-is_memory.false ∙ c.is_memory.ensures.1 m))),
   c.at_top-in-Err.ensures,
 )

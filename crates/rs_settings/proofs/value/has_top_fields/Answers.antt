@@ -7,5 +7,6 @@ use Rattle.rs_settings.proofs.ValueLemmas.{keys_pass-view}
 use Rattle.rs_settings.proofs.value.has_top_fields.Goals as goal
 
 pub returns : goal.returns
-returns c = all_from_yields_List (λ k. is_top_field (string_bytes k)) _ _ _ c.all.ensures.ran (YieldsList-from_rest (keys_of c.args.table.now.entries) c.keys.ensures.rest)
+returns c = all_from_yields_List (λ k. is_top_field (string_bytes k)) _ _ _ c.all.ensures.ran
+    (YieldsList-from_rest (keys_of c.args.table.now.entries) c.keys.ensures.rest)
     (λ x b q k. search (rules, tests)) ∙ keys_pass-view is_top_field c.args.table.now.entries

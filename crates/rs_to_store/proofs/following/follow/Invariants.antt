@@ -8,6 +8,7 @@ use Rattle.rs_to_store.proofs.following.follow.Given as goal
 -- the labels before the index were followed, and the table still has as many units as the loop walks
 abbrev pub invariant-loop-index : goal.invariant-loop-index
 invariant-loop-index g l = record {
-  walked : AllWalked (held_items l.map.held) (g.T.Drivers.kept l.fn.table) l.fn.rounds.items l.index (g.T.Drivers.kept l.table) l.rounds.items;
+  walked : AllWalked (held_items l.map.held) (g.T.Drivers.kept l.fn.table) l.fn.rounds.items l.index (g.T.Drivers.kept l.table)
+      l.rounds.items;
   count : (t : DriverTable) → TableStands (g.T.Drivers.kept l.fn.table) t → l.index-end ≡ length t.units;
 }

@@ -16,7 +16,8 @@ returns-in-Some g c t st =
     let now = newest t.states c.args.label.now in
     let at : Some change ≡ held_for h key = subst (λ o. option_copied o ≡ held_for h key) c.in-Some.is c.get.ensures.value in
     let read = c.newest_for.ensures t st ∙ ap (λ (b : Body). newest_for b now) c.body.ensures.value in
-    c.told_by.ensures ∙ (ap (λ (n : Option ℕ). told_by n change) read ∙ (told_so change now ∙ ap (told now) (at ∙ item_for h c.held-held.ensures.map.sound key)))
+    c.told_by.ensures ∙ (ap (λ (n : Option ℕ). told_by n change) read ∙
+    (told_so change now ∙ ap (told now) (at ∙ item_for h c.held-held.ensures.map.sound key)))
 
 pub returns-in-None : goal.returns-in-None
 returns-in-None g c t st =

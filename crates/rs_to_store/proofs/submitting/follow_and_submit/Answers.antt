@@ -14,7 +14,8 @@ returns-in-Some g c =
     let old = g.T.Drivers.kept c.args.table.now in
     let new = g.T.Drivers.kept c.follow.new.table in
     ended_before held c.args.id c.args.unit old new c.args.rounds.now.items c.follow.new.rounds.items c.in-Some.fault
-    (subst (λ (o : Option TableFault). HasFollowed held old new c.args.rounds.now.items c.follow.new.rounds.items o) c.in-Some.is c.follow.ensures)
+    (subst (λ (o : Option TableFault). HasFollowed held old new c.args.rounds.now.items c.follow.new.rounds.items o) c.in-Some.is
+    c.follow.ensures)
 
 pub returns-in-None : goal.returns-in-None
 returns-in-None g c =
@@ -26,5 +27,6 @@ returns-in-None g c =
     let after = c.follow.new.rounds.items in
     taken_after held c.args.id c.args.unit old mid new before after (one_move c.submit.result)
     (subst (λ (o : Option TableFault). HasFollowed held old mid before after o) c.in-None.is c.follow.ensures)
-    (λ t stands. submit_step mid new t stands c.args.id c.args.unit c.submit.result c.submit.ensures.answer c.submit.ensures.after c.submit.ensures.unchanged)
+    (λ t stands. submit_step mid new t stands c.args.id c.args.unit c.submit.result c.submit.ensures.answer c.submit.ensures.after
+    c.submit.ensures.unchanged)
     (λ t stands. one_lacks (RequestTakesMemory t c.args.id c.args.unit) c.submit.result (c.submit.ensures.room t stands))

@@ -14,8 +14,13 @@ pub returns-in-114 : goal.returns-in-114
 returns-in-114 c =
     let slice : c.as_slice.result.now ≡ (text_of words.Ring) = c.as_slice.ensures in
     let is = slice_eq-Decides Decides-eqb c.word_at.result.0.now (text_of words.Ring) c.eq.result (rw (← slice) c.eq.ensures) in (
-      λ same. (c.word_at.result.1.now, subst (λ (t : List ℕ). Begins is_ascii_alphanumeric c.args.line.now t c.word_at.result.1.now) (is.0 same) c.word_at.ensures.found),
-      λ begins. is.1 (part_one Word c.args.line.now c.word_at.result.0.now (text_of words.Ring) c.word_at.result.1.now begins.0 c.word_at.ensures.valid refl c.word_at.ensures.found begins.1).0,
+      λ same. (
+        c.word_at.result.1.now,
+        subst (λ (t : List ℕ). Begins is_ascii_alphanumeric c.args.line.now t c.word_at.result.1.now)
+            (is.0 same) c.word_at.ensures.found,
+      ),
+      λ begins. is.1 (part_one Word c.args.line.now c.word_at.result.0.now (text_of words.Ring) c.word_at.result.1.now begins.0
+          c.word_at.ensures.valid refl c.word_at.ensures.found begins.1).0,
     )
 
 pub returns-in_default-5 : goal.returns-in_default-5

@@ -9,7 +9,8 @@ returns-in_default c = offer_no_space c.stop_at.result c.args.rest.now.bytes.now
 
 pub returns-in-Ok : goal.returns-in-Ok
 returns-in-Ok c =
-    item_placed c.args.rest.now.bytes.now c.in-Some.text.now c.in-Ok.field-0 c.read_item_into.new.slot c.in-Some.ensures.found c.in-Ok.ensures
+    item_placed c.args.rest.now.bytes.now c.in-Some.text.now c.in-Ok.field-0 c.read_item_into.new.slot c.in-Some.ensures.found
+    c.in-Ok.ensures
 
 pub overflow_sub-left : goal.overflow_sub-left
 overflow_sub-left c =

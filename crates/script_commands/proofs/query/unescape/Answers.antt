@@ -6,9 +6,12 @@ use Rattle.script_commands.proofs.QueryLemmas.{left_more, left_last, unescaped_i
 use Rattle.script_commands.proofs.query.unescape.Goals as goal
 
 pub loop-byte-preserved : goal.loop-byte-preserved
-loop-byte-preserved c = rw c.in_ok-push.ensures.items (left_more c.args.written.now c.loop-byte.text.items c.loop-byte.rest.now c.in-Some.after.now c.in-Some.byte c.loop-byte.invariant c.in-Some.ensures.found)
+loop-byte-preserved c = rw c.in_ok-push.ensures.items
+    (left_more c.args.written.now c.loop-byte.text.items c.loop-byte.rest.now c.in-Some.after.now c.in-Some.byte c.loop-byte.invariant
+    c.in-Some.ensures.found)
 
 pub returns : goal.returns
 returns c =
     let all = left_last c.args.written.now c.loop-byte.text.items c.loop-byte.rest.now c.loop-byte.invariant c.in_default.ensures.none in
-    IfOk-weaker c.of.result (λ (t : List ℕ). t ≡ c.deref.result.now) (λ (t : List ℕ). unescaped c.args.written.now ≡ t) (λ t same. unescaped_is c.args.written.now t (all ∙ ap escaped (sym (same ∙ c.deref.ensures.value)))) c.of.ensures
+    IfOk-weaker c.of.result (λ (t : List ℕ). t ≡ c.deref.result.now) (λ (t : List ℕ). unescaped c.args.written.now ≡ t)
+    (λ t same. unescaped_is c.args.written.now t (all ∙ ap escaped (sym (same ∙ c.deref.ensures.value)))) c.of.ensures.same

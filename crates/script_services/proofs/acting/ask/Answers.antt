@@ -15,8 +15,13 @@ pub reply-reply-requires : goal.reply-reply-requires
 reply-reply-requires c = command_gives c.args.action.now c.in-Some.command (sym c.command_of.ensures ∙ c.in-Some.is)
 
 pub returns-in_default-clause-asked : goal.returns-in_default-clause-asked
-returns-in_default-clause-asked c =
-    ([], [], sym (append-nil c.args.output.now.items), asks_none c.args.side _ c.args.world.now (sym c.command_of.ensures ∙ c.in_default.is))
+returns-in_default-clause-asked c = (
+  [],
+  [],
+  sym (append-nil c.args.output.now.items),
+  asks_none c.args.side _ c.args.world.now
+      (sym c.command_of.ensures ∙ c.in_default.is),
+)
 
 pub returns-clause-asked : goal.returns-clause-asked
 returns-clause-asked c =
@@ -26,7 +31,8 @@ returns-clause-asked c =
       reply_lines AsMerge reply larger,
       (Ask c.args.side c.in-Some.command, Replied reply) ∷ [],
       written ∙ ap (λ (l : LimitsRecord). c.args.output.now.items ++ reply_lines AsMerge reply l) c.larger.ensures,
-      subst (λ (o : Option Command). AsksIfAny c.args.side o c.args.world.now (reply_lines AsMerge reply larger) ((Ask c.args.side c.in-Some.command, Replied reply) ∷ []) c.reply-reply.new.self) (sym c.in-Some.is ∙ c.command_of.ensures)
+      subst (λ (o : Option Command). AsksIfAny c.args.side o c.args.world.now (reply_lines AsMerge reply larger)
+          ((Ask c.args.side c.in-Some.command, Replied reply) ∷ []) c.reply-reply.new.self) (sym c.in-Some.is ∙ c.command_of.ensures)
           (record { reply = reply; leads = c.reply-reply.ensures.leads; told = c.reply-reply.ensures.told; lines = refl; event = refl }),
     ))
     c.append_reply.ensures.written
@@ -37,6 +43,7 @@ returns-clause-sent c =
     on_each c.append_reply.result (
       reply_lines AsMerge reply larger,
       (Ask c.args.side c.in-Some.command, Replied reply) ∷ [],
-      subst (λ (o : Option Command). AsksIfAny c.args.side o c.args.world.now (reply_lines AsMerge reply larger) ((Ask c.args.side c.in-Some.command, Replied reply) ∷ []) c.reply-reply.new.self) (sym c.in-Some.is ∙ c.command_of.ensures)
+      subst (λ (o : Option Command). AsksIfAny c.args.side o c.args.world.now (reply_lines AsMerge reply larger)
+          ((Ask c.args.side c.in-Some.command, Replied reply) ∷ []) c.reply-reply.new.self) (sym c.in-Some.is ∙ c.command_of.ensures)
           (record { reply = reply; leads = c.reply-reply.ensures.leads; told = c.reply-reply.ensures.told; lines = refl; event = refl }),
     )

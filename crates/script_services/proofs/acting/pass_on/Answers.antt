@@ -16,7 +16,8 @@ loop-index-init c = ([], [], sym (append-nil c.args.output.now.items), (refl, re
 
 pub ask-requires : goal.ask-requires
 ask-requires c =
-    in_place_at c.args.actions.now c.loop-index.index c.in-Some.action.now c.requires (sym (subst (λ o. option_copied o ≡ slice_get c.args.actions.now c.loop-index.index) c.in-Some.is c.get.ensures))
+    in_place_at c.args.actions.now c.loop-index.index c.in-Some.action.now c.requires
+    (sym (subst (λ o. option_copied o ≡ slice_get c.args.actions.now c.loop-index.index) c.in-Some.is c.get.ensures))
 
 pub loop-index-preserved : goal.loop-index-preserved
 loop-index-preserved c =
@@ -28,9 +29,12 @@ loop-index-preserved c =
     let at : slice_get acts i ≡ Some x = sym (subst (λ o. option_copied o ≡ slice_get acts i) c.in-Some.is c.get.ensures) in (
       done.0 ++ (action_line x ++ one.0),
       done.1 ++ one.1,
-      lines_after c.args.output.now.items done.0 (action_line x) one.0 c.loop-index.output.items c.append_action.new.buffer.items c.ask.new.output.items done.2 (c.in_ok-append_action.ensures).written one.2,
-      subst (λ (l : List Action). AnswersActions c.args.side l c.args.world.now (done.0 ++ (action_line x ++ one.0)) (done.1 ++ one.1) c.ask.new.world) (next_taken acts i x at)
-          (actions_more c.args.side (take i acts) x c.args.world.now c.loop-index.world c.ask.new.world done.0 one.0 done.1 one.1 done.3 one.3),
+      lines_after c.args.output.now.items done.0 (action_line x) one.0 c.loop-index.output.items c.append_action.new.buffer.items
+          c.ask.new.output.items done.2 (c.in_ok-append_action.ensures).written one.2,
+      subst (λ (l : List Action). AnswersActions c.args.side l c.args.world.now (done.0 ++ (action_line x ++ one.0)) (done.1 ++ one.1)
+          c.ask.new.world) (next_taken acts i x at)
+          (actions_more c.args.side (take i acts) x c.args.world.now c.loop-index.world c.ask.new.world done.0 one.0 done.1 one.1 done.3
+          one.3),
     )
 
 pub returns-in_err-append_action-clause-some : goal.returns-in_err-append_action-clause-some
@@ -42,7 +46,8 @@ returns-in_err-ask-clause-some c =
     let line = action_line c.in-Some.action.now in
     on_each c.from_residual-in_err-ask.result (
       c.loop-index.invariant.0 ++ line,
-      (c.in_err-ask.ensures).unanswered ∙ (c.in_ok-append_action.ensures).written ∙ ap (λ (l : List ℕ). l ++ line) c.loop-index.invariant.2 ∙ append_assoc c.args.output.now.items c.loop-index.invariant.0 line,
+      (c.in_err-ask.ensures).unanswered ∙ (c.in_ok-append_action.ensures).written ∙
+          ap (λ (l : List ℕ). l ++ line) c.loop-index.invariant.2 ∙ append_assoc c.args.output.now.items c.loop-index.invariant.0 line,
     )
 
 pub returns-clause-told : goal.returns-clause-told
@@ -55,21 +60,28 @@ returns-clause-told c =
     (λ written. (
       done.0 ++ count,
       done.1,
-      written ∙ ap (λ (l : List ℕ). l ++ action_count_line c.len.result) done.2 ∙ append_assoc c.args.output.now.items done.0 (action_count_line c.len.result)
+      written ∙ ap (λ (l : List ℕ). l ++ action_count_line c.len.result) done.2 ∙
+          append_assoc c.args.output.now.items done.0 (action_count_line c.len.result)
           ∙ ap (λ (n : ℕ). c.args.output.now.items ++ (done.0 ++ action_count_line n)) c.len.ensures,
-      (done.0, subst (λ (l : List Action). AnswersActions c.args.side l c.args.world.now done.0 done.1 c.loop-index.world) all done.3, refl),
+      (
+        done.0,
+        subst (λ (l : List Action). AnswersActions c.args.side l c.args.world.now done.0 done.1 c.loop-index.world) all done.3,
+        refl,
+      ),
     ))
     c.append_action_count.ensures.written
 
 pub returns-clause-some : goal.returns-clause-some
 returns-clause-some c =
-    some_after c.append_action_count.result c.args.output.now.items c.loop-index.invariant.0 c.loop-index.output.items c.append_action_count.new.buffer.items c.loop-index.invariant.2 c.append_action_count.ensures.unchanged
+    some_after c.append_action_count.result c.args.output.now.items c.loop-index.invariant.0 c.loop-index.output.items
+    c.append_action_count.new.buffer.items c.loop-index.invariant.2 c.append_action_count.ensures.unchanged
 
 -- ---- what was sent when memory ran out
 
 pub returns-in_err-append_action-clause-begun : goal.returns-in_err-append_action-clause-begun
 returns-in_err-append_action-clause-begun c =
-    on_each c.from_residual.result (first_sent c.args.side c.args.actions.now c.loop-index.index c.args.world.now c.loop-index.world c.loop-index.invariant.0 c.loop-index.invariant.1 c.loop-index.invariant.3)
+    on_each c.from_residual.result (first_sent c.args.side c.args.actions.now c.loop-index.index c.args.world.now c.loop-index.world
+    c.loop-index.invariant.0 c.loop-index.invariant.1 c.loop-index.invariant.3)
 
 pub returns-in_err-ask-clause-begun : goal.returns-in_err-ask-clause-begun
 returns-in_err-ask-clause-begun c =
@@ -81,9 +93,11 @@ returns-in_err-ask-clause-begun c =
     let at : slice_get acts i ≡ Some x = sym (subst (λ o. option_copied o ≡ slice_get acts i) c.in-Some.is c.get.ensures) in
     on_each c.from_residual-in_err-ask.result
     (first_sent c.args.side acts (i + 1) c.args.world.now c.ask.new.world (done.0 ++ (action_line x ++ one.0)) (done.1 ++ one.1)
-    (subst (λ (l : List Action). AnswersActions c.args.side l c.args.world.now (done.0 ++ (action_line x ++ one.0)) (done.1 ++ one.1) c.ask.new.world) (next_taken acts i x at)
+    (subst (λ (l : List Action). AnswersActions c.args.side l c.args.world.now (done.0 ++ (action_line x ++ one.0)) (done.1 ++ one.1)
+    c.ask.new.world) (next_taken acts i x at)
     (actions_more c.args.side (take i acts) x c.args.world.now c.loop-index.world c.ask.new.world done.0 one.0 done.1 one.1 done.3 one.2)))
 
 pub returns-clause-begun : goal.returns-clause-begun
 returns-clause-begun c =
-    on_each c.append_action_count.result (first_sent c.args.side c.args.actions.now c.loop-index.index c.args.world.now c.loop-index.world c.loop-index.invariant.0 c.loop-index.invariant.1 c.loop-index.invariant.3)
+    on_each c.append_action_count.result (first_sent c.args.side c.args.actions.now c.loop-index.index c.args.world.now c.loop-index.world
+    c.loop-index.invariant.0 c.loop-index.invariant.1 c.loop-index.invariant.3)

@@ -7,4 +7,5 @@ use Rattle.script_services.proofs.acting.pass_on.Given as goal
 -- the actions before the index were written, and sent to the store
 abbrev pub invariant-loop-index : goal.invariant-loop-index
 invariant-loop-index l =
-    (out : List ℕ) × (asks : List (Event × Outcome)) × (l.output.items ≡ l.initial.output.items ++ out) × AnswersActions l.side (take l.index l.actions) l.initial.world out asks l.world
+    (out : List ℕ) × (asks : List (Event × Outcome)) × (l.output.items ≡ l.initial.output.items ++ out) ×
+    AnswersActions l.side (take l.index l.actions) l.initial.world out asks l.world

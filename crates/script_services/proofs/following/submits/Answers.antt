@@ -11,4 +11,5 @@ returns g c =
     let old = g.T.Drivers.kept c.args.table.now in
     let new = g.T.Drivers.kept c.follow_and_submit.new.table in
     let after = c.follow_and_submit.new.rounds.items in
-    subst (λ (own : Result (List Move) TableFault). FollowedAndTaken held c.args.id c.args.unit old new c.args.rounds.now.items after own) (sym c.own_move.ensures) c.follow_and_submit.ensures
+    subst (λ (own : Result (List Move) TableFault). FollowedAndTaken held c.args.id c.args.unit old new c.args.rounds.now.items after own)
+    (sym c.own_move.ensures) c.follow_and_submit.ensures

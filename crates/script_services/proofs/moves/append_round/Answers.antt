@@ -10,4 +10,5 @@ loop-index-preserved c =
     let i = c.loop-index.index in
     let x = c.in-Some.step.now in
     let at : slice_get moves i ≡ Some x = sym (subst (λ o. option_copied o ≡ slice_get moves i) c.in-Some.is c.get.ensures) in
-    lines_next moves i x c.args.output.now.items c.loop-index.output.items c.append_move.new.buffer.items at c.loop-index.invariant c.in_ok-append_move.ensures.written
+    lines_next moves i x c.args.output.now.items c.loop-index.output.items c.append_move.new.buffer.items at c.loop-index.invariant
+    c.in_ok-append_move.ensures.written

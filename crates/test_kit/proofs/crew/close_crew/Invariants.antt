@@ -4,7 +4,8 @@ use Rattle.desk.specs.Pass.{desk_of}
 use Rattle.test_kit.proofs.crew.close_crew.Given as goal
 
 abbrev pub invariant-loop-worker : goal.invariant-loop-worker
-invariant-loop-worker g l = All (λ w. desk_of w.pass ≡ l.fn.desk.table.shared.table_id) l.workers.items × AllByRecursion (λ p. desk_of p ≡ l.fn.desk.table.shared.table_id) l.passes
+invariant-loop-worker g l = All (λ w. desk_of w.pass ≡ l.fn.desk.table.shared.table_id) l.workers.items ×
+    AllByRecursion (λ p. desk_of p ≡ l.fn.desk.table.shared.table_id) l.passes
 
 abbrev pub decreases-loop-worker : goal.decreases-loop-worker
 decreases-loop-worker g l = l.workers.len

@@ -7,4 +7,5 @@ pub returns-in-Ok-clause-keeps : goal.returns-in-Ok-clause-keeps
 returns-in-Ok-clause-keeps g c =
     let old = c.args.pass.now in
     let new = c.take.new.pass in
-    keeps_up_later (pair_record old) (pair_record new) c.args.follower.now (sees_by_looks old new c.in-Ok.ensures.taken.sees) c.requires.keeps
+    keeps_up_later (pair_record old) (pair_record new) c.args.follower.now (sees_by_looks old new c.in-Ok.ensures.taken.sees)
+    c.requires.keeps

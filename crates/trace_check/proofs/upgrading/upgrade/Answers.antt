@@ -29,7 +29,9 @@ returns-clause-stopped g c =
 pub returns-in_err-walk-clause-cause : goal.returns-in_err-walk-clause-cause
 returns-in_err-walk-clause-cause g c =
     carried c.from_residual.result _ _ c.from_residual.ensures.1
-    (cause_upgraded g.R.Source g.W.Sink c.in_err-walk.field-0.0 c.args.reader.now c.begin.new.reader c.args.writer.now c.args.writer.now (no_calls g.W.Sink.writes c.args.writer.now) c.in_err-walk.ensures.reads)
+    (cause_upgraded g.R.Source g.W.Sink c.in_err-walk.field-0.0 c.args.reader.now c.begin.new.reader c.args.writer.now c.args.writer.now
+    (no_calls g.W.Sink.writes c.args.writer.now) c.in_err-walk.ensures.reads)
 
 pub returns-clause-cause : goal.returns-clause-cause
-returns-clause-cause g c = IfErr-weaker c.upgrade_after_header.result _ _ (λ fault caused. caused c.args.reader.now c.in_ok-walk.ensures.reads) c.upgrade_after_header.ensures.cause
+returns-clause-cause g c = IfErr-weaker c.upgrade_after_header.result _ _
+    (λ fault caused. caused c.args.reader.now c.in_ok-walk.ensures.reads) c.upgrade_after_header.ensures.cause

@@ -11,7 +11,8 @@ use Rattle.trace_check.proofs.upgrading.upgrade_entries.Given as goal
 abbrev pub invariant-loop-entry : goal.invariant-loop-entry
 invariant-loop-entry g l = record {
   writes : (b : Spot) (before : List ℕ) → WalksAt b l.fn.walk (g.R.Source.remaining l.fn.reader) → Upgrades b l.fn.walk.header before 0 →
-      IsUnderWay b before l.fn.walk.header l.walk (g.R.Source.remaining l.reader) (g.W.Sink.contents l.fn.writer) (g.W.Sink.contents l.writer) l.written;
+      IsUnderWay b before l.fn.walk.header l.walk (g.R.Source.remaining l.reader) (g.W.Sink.contents l.fn.writer)
+      (g.W.Sink.contents l.writer) l.written;
   reads : ReadsFurther g.R.Source l.fn.walk.entry.lines l.fn.reader l.walk.entry.lines l.reader;
   counted : l._entry ≤ l.walk.entry.lines.count;
   few : l._entry ≤ 2 ^ 49 + 1;

@@ -25,7 +25,8 @@ returns-in-Ok-clause-cause g c = c.walk_through-verdict.ensures.cause c.args.rea
 
 pub returns-in-Err-clause-cause : goal.returns-in-Err-clause-cause
 returns-in-Err-clause-cause g c =
-    subst (λ (v : Verdict). IsVerdictCause g.R.Source v c.args.reader.now c.begin.new.reader) (sym c.verdict.ensures) (cause_told g.R.Source c.in-Err.fault c.args.reader.now c.begin.new.reader c.in-Err.ensures.reads)
+    subst (λ (v : Verdict). IsVerdictCause g.R.Source v c.args.reader.now c.begin.new.reader) (sym c.verdict.ensures)
+    (cause_told g.R.Source c.in-Err.fault c.args.reader.now c.begin.new.reader c.in-Err.ensures.reads)
 
 pub returns-in-Ok-clause-wanted : goal.returns-in-Ok-clause-wanted
 returns-in-Ok-clause-wanted g c =

@@ -31,6 +31,13 @@ returns-clause-step c =
     IfOk-weaker c.ask_plain.result _ _
     (λ answer steps s stands traced.
     let p = steps s stands in
-    let plain = sym c.older.ensures ∙ c.in_default.is in
-    (p.0, p.1, p.2, plain_steps c.args.format c.args.command p.0 plain p.2 s p.1 answer.reply p.3, plain_last c.args.format c.args.command p.0 plain p.2 s answer.reply p.4, p.5))
+    let plain = sym c.older.ensures ∙ c.in_default.is in (
+      p.0,
+      p.1,
+      p.2,
+      plain_steps c.args.format c.args.command p.0 plain p.2 s p.1 answer.reply p.3,
+      plain_last c.args.format c.args.command
+          p.0 plain p.2 s answer.reply p.4,
+      p.5,
+    ))
     c.ask_plain.ensures.step

@@ -8,12 +8,18 @@ use Rattle.trace_record.proofs.RingLemmas.{ring_some}
 use Rattle.trace_record.proofs.begin.begin.Goals as goal
 
 pub ring_of-requires : goal.ring_of-requires
-ring_of-requires g c = λ there. let ready = subst (IsReady c.next_command-next.new.lines) there c.next_command-next.ensures.ready in subst EndsLine (sym c.line.ensures) ready.0
+ring_of-requires g c = λ there. let ready = subst (IsReady c.next_command-next.new.lines) there c.next_command-next.ensures.ready in
+    subst EndsLine (sym c.line.ensures) ready.0
 
 pub returns-in_default-clause-begins : goal.returns-in_default-clause-begins
 returns-in_default-clause-begins g c =
-    let none = subst (SaysRing c.next_command-next.result c.line.result.now) c.in_default.is c.in_ok-ring.ensures in
-    ([], inr (refl, refl), λ _ there is. none there (subst IsRingLine (sym c.line.ensures) is), λ bytes at. c.next_command-next.ensures.comes bytes [] at)
+    let none = subst (SaysRing c.next_command-next.result c.line.result.now) c.in_default.is c.in_ok-ring.ensures in (
+      [],
+      inr (refl, refl),
+      λ _ there is. none there (subst IsRingLine (sym c.line.ensures) is),
+      λ bytes at.
+          c.next_command-next.ensures.comes bytes [] at,
+    )
 
 pub returns-clause-begins : goal.returns-clause-begins
 returns-clause-begins g c =
@@ -25,7 +31,8 @@ returns-clause-begins g c =
       λ none. absurd (ring_some c.in-Some.ring (sym opens ∙ none)),
       λ bytes at.
           let mid = g.R.Source.remaining c.next_command-next.new.reader in
-          let a = subst (λ (r : Result Bool RecordFault). ComesToNext bytes [] c.next_command-next.new.lines mid r) ring.0 (c.next_command-next.ensures.comes bytes [] at) in
+          let a = subst (λ (r : Result Bool RecordFault). ComesToNext bytes [] c.next_command-next.new.lines mid r) ring.0
+          (c.next_command-next.ensures.comes bytes [] at) in
           subst
           (λ (f : List ℕ).
           ComesToNext bytes f c.next_command-next-2.new.lines (g.R.Source.remaining c.next_command-next-2.new.reader)
@@ -41,4 +48,5 @@ returns-clause-reads g c =
     let ring = subst (SaysRing c.next_command-next.result c.line.result.now) c.in-Some.is c.in_ok-ring.ensures in
     λ first led.
     c.next_command-next-2.ensures.reads first
-    (subst (λ (r : Result Bool RecordFault). ReadsLead g.R.Source r first c.next_command-next.new.reader c.next_command-next.new.lines.reads) ring.0 (c.next_command-next.ensures.reads first led))
+    (subst (λ (r : Result Bool RecordFault). ReadsLead g.R.Source r first c.next_command-next.new.reader
+    c.next_command-next.new.lines.reads) ring.0 (c.next_command-next.ensures.reads first led))

@@ -9,7 +9,8 @@ use Rattle.trace_record.proofs.line.next_command.Goals as goal
 
 pub returns-in-Ok-clause-comes : goal.returns-in-Ok-clause-comes
 returns-in-Ok-clause-comes g c bytes front at =
-    comes_there bytes front c.next_line.new.lines (g.R.Source.remaining c.next_line.new.reader) c.in-Ok.there (λ e. c.in-Ok.ensures.there e bytes front at) (λ e. c.in-Ok.ensures.none e bytes front at)
+    comes_there bytes front c.next_line.new.lines (g.R.Source.remaining c.next_line.new.reader) c.in-Ok.there
+    (λ e. c.in-Ok.ensures.there e bytes front at) (λ e. c.in-Ok.ensures.none e bytes front at)
 
 pub returns-in-Ok-clause-ready : goal.returns-in-Ok-clause-ready
 returns-in-Ok-clause-ready g c = ready_there c.next_line.new.lines c.in-Ok.there c.in-Ok.ensures.short
@@ -22,7 +23,9 @@ returns-in-Err-clause-comes g c bytes front at =
     let new = c.next_line.new.lines in
     let to = g.R.Source.remaining c.next_line.new.reader in
     subst (λ (f : RecordFault). ComesToNext bytes front new to (Err f)) (sym c.of_lines.ensures)
-    (comes_not bytes front new to c.in-Err.fault c.place_of_long-place.result (front_at bytes front c.args.lines.now (g.R.Source.remaining c.args.reader.now) at) (c.in-Err.ensures.long bytes front at) c.place_of_long-place.ensures)
+    (comes_not bytes front new to c.in-Err.fault c.place_of_long-place.result
+    (front_at bytes front c.args.lines.now (g.R.Source.remaining c.args.reader.now) at) (c.in-Err.ensures.long bytes front at)
+    c.place_of_long-place.ensures)
 
 pub returns-in-Err-clause-ready : goal.returns-in-Err-clause-ready
 returns-in-Err-clause-ready g c = subst IsOfInput (sym c.of_lines.ensures) (input_lines c.in-Err.fault c.place_of_long-place.result)

@@ -7,7 +7,8 @@ use Rattle.trace_walk.proofs.expected.further.Given as goal
 -- whatever comes before it, some more lines of the text were compared
 abbrev pub invariant-loop-line : goal.invariant-loop-line
 invariant-loop-line g l = record {
-  said : (bytes base whole given : List ℕ) → whole ≡ (given ++ 10 ∷ []) ++ l.fn.text → IsAt bytes (base ++ marked (given ++ 10 ∷ [])) l.fn.lines (g.R.Source.remaining l.fn.reader) →
+  said : (bytes base whole given : List ℕ) → whole ≡ (given ++ 10 ∷ []) ++ l.fn.text →
+      IsAt bytes (base ++ marked (given ++ 10 ∷ [])) l.fn.lines (g.R.Source.remaining l.fn.reader) →
       IsSaid bytes base whole l.rest l.lines (g.R.Source.remaining l.reader);
   reads : ReadsFurther g.R.Source l.fn.lines l.fn.reader l.lines l.reader;
 }

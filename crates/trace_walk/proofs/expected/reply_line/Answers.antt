@@ -13,11 +13,13 @@ returns-in-Ok-true-clause-there g c = c.in-Ok-true.ensures.there c.in-Ok-true.fi
 
 pub returns-in-Ok-false-clause-fails : goal.returns-in-Ok-false-clause-fails
 returns-in-Ok-false-clause-fails g c start bytes front at p =
-    missing start bytes front c.next_line.new.lines.count (c.count.result + 1) IsShort (c.in-Ok-false.ensures.none c.in-Ok-false.field-0-test bytes front at) p (omega (arith, c.count.ensures.value))
+    missing start bytes front c.next_line.new.lines.count (c.count.result + 1) IsShort
+    (c.in-Ok-false.ensures.none c.in-Ok-false.field-0-test bytes front at) p (omega (arith, c.count.ensures.value))
 
 pub returns-in-Err-clause-fails : goal.returns-in-Err-clause-fails
 returns-in-Err-clause-fails g c start bytes front at p =
-    subst (IsFault start bytes) (sym c.of_reply.ensures) (too_long start bytes front c.in-Err.fault (c.in-Err.ensures.long bytes front at) p)
+    subst (IsFault start bytes) (sym c.of_reply.ensures)
+    (too_long start bytes front c.in-Err.fault (c.in-Err.ensures.long bytes front at) p)
 
 pub returns-in-Err-clause-kind : goal.returns-in-Err-clause-kind
 returns-in-Err-clause-kind g c = subst IsOfReply (sym c.of_reply.ensures) (of_reply_is c.in-Err.fault)

@@ -7,7 +7,8 @@ use Rattle.trace_walk.proofs.header.first_header.Goals as goal
 pub returns-in_err-first-clause-none : goal.returns-in_err-first-clause-none
 returns-in_err-first-clause-none c =
     rw c.from_residual-in_err-first.ensures
-    (no_first One c.args.bytes.now c.in_ok-incarnation.rest.now c.in_ok-incarnation.incarnation (omega (arith, c.in_ok-incarnation.ensures.limit)) c.in_ok-incarnation.ensures.found c.in_err-first.ensures.none)
+    (no_first One c.args.bytes.now c.in_ok-incarnation.rest.now c.in_ok-incarnation.incarnation
+    (omega (arith, c.in_ok-incarnation.ensures.limit)) c.in_ok-incarnation.ensures.found c.in_err-first.ensures.none)
 
 pub returns-in_err-ring-clause-none : goal.returns-in_err-ring-clause-none
 returns-in_err-ring-clause-none c =

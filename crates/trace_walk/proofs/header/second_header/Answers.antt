@@ -7,7 +7,8 @@ use Rattle.trace_walk.proofs.header.second_header.Goals as goal
 pub returns-in_err-first-clause-none : goal.returns-in_err-first-clause-none
 returns-in_err-first-clause-none c =
     rw c.from_residual-in_err-first.ensures
-    (no_first Two c.args.bytes.now c.in_ok-incarnation.rest.now c.in_ok-incarnation.incarnation (omega (arith, c.in_ok-incarnation.ensures.limit)) c.in_ok-incarnation.ensures.found c.in_err-first.ensures.none)
+    (no_first Two c.args.bytes.now c.in_ok-incarnation.rest.now c.in_ok-incarnation.incarnation
+    (omega (arith, c.in_ok-incarnation.ensures.limit)) c.in_ok-incarnation.ensures.found c.in_err-first.ensures.none)
 
 pub returns-in_err-ring-clause-none : goal.returns-in_err-ring-clause-none
 returns-in_err-ring-clause-none c =
@@ -29,7 +30,8 @@ returns-in_err-subs-clause-none c =
       third = c.in_ok-ring.ensures.found;
     } in
     rw c.from_residual-in_err-subs.ensures
-    (no_subs c.args.bytes.now c.in_ok-ring.rest.now c.in_ok-incarnation.incarnation c.in_ok-first.first c.in_ok-ring.ring t (omega (arith, c.in_ok-ring.ensures.limit)) c.in_err-subs.ensures.none)
+    (no_subs c.args.bytes.now c.in_ok-ring.rest.now c.in_ok-incarnation.incarnation c.in_ok-first.first c.in_ok-ring.ring t
+    (omega (arith, c.in_ok-ring.ensures.limit)) c.in_err-subs.ensures.none)
 
 pub returns-in_err-keys-clause-none : goal.returns-in_err-keys-clause-none
 returns-in_err-keys-clause-none c =

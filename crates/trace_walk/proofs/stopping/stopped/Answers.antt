@@ -22,7 +22,8 @@ returns-clause-stops c =
     let step = c.apply-reply.ensures.step s stands in
     let short : length first ≤ most_items = omega (arith, ap length is, length-take c.args.done items, c.requires, few) in
     let room = ap (λ (r : Reply). is_some (room_wanted r)) (sym e.4) ∙ sym c.wants_room.ensures ∙ c.if-wants_room.false in
-    let stop = merged_stop s step.0 items first c.args.done e.0 e.1 e.2 e.3 few c.requires is short room (subst (λ (r : Reply). Step s (Merge first) r step.0) e.4 step.1) in
+    let stop = merged_stop s step.0 items first c.args.done e.0 e.1 e.2 e.3 few c.requires is short room
+    (subst (λ (r : Reply). Step s (Merge first) r step.0) e.4 step.1) in
     (step.0, subst (λ (r : Reply). StopsForRoom s items r step.0 c.args.done) (sym e.5) stop, step.2))
     c.stopped_after.ensures.stops
 
@@ -37,5 +38,6 @@ returns-clause-fails c =
     let short : length first ≤ most_items = omega (arith, ap length is, length-take c.args.done items, c.requires, few) in
     let room : is_some (room_wanted c.apply-reply.result) ≡ false = sym c.wants_room.ensures ∙ c.if-wants_room.false in
     let other = other_stop s step.0 first c.apply-reply.result short room step.1 f.1 in
-    subst (λ (w : WalkFault). IsStopFault s items c.args.done c.args.number w) (sym f.0) (refl, subst (λ (l : List Item). (course s l).stop ≢ None) is other))
+    subst (λ (w : WalkFault). IsStopFault s items c.args.done c.args.number w) (sym f.0)
+    (refl, subst (λ (l : List Item). (course s l).stop ≢ None) is other))
     c.stopped_after.ensures.fails

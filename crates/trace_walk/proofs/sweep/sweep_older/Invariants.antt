@@ -12,7 +12,8 @@ invariant-loop-rest l = record {
   some : 0 < length l.rest → 256 * l.merges.count + length l.rest ≤ 4096;
   few : 256 * l.merges.count + length l.rest ≤ 4351;
   taken : (s : State) → ContentStands l.fn.store s → AreFree s l.initial.rest →
-      (part : List Item) × (l.initial.rest ≡ part ++ l.rest) × ContentStands l.store (takes_effect s part) × (l.owed ≡ owed s part) × AreMerged s l.fn.pass l.fn.limits part l.rest l.merges;
+      (part : List Item) × (l.initial.rest ≡ part ++ l.rest) × ContentStands l.store (takes_effect s part) × (l.owed ≡ owed s part) ×
+      AreMerged s l.fn.pass l.fn.limits part l.rest l.merges;
 }
 
 abbrev pub decreases-loop-rest : goal.decreases-loop-rest

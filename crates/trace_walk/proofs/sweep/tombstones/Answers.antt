@@ -16,11 +16,22 @@ loop-index-preserved c =
     let i = c.loop-index.index in
     elim c.match-tombstone_at.branch [
       | in-Some+in_ok-push w ↦ record {
-        all = w.gone-is ∙ w.in_ok-push.ensures.ok ∙ ap (λ (l : List _). l ++ w.in-Some.tombstone ∷ []) c.loop-index.invariant.all ∙ gone_added owner generation all i w.in-Some.tombstone (sym w.in-Some.is ∙ c.tombstone_at.ensures);
-        few = omega (arith, ap length w.gone-is, ap length w.in_ok-push.ensures.ok, length-append c.loop-index.gone (w.in-Some.tombstone ∷ []), c.loop-index.invariant.few);
+        all = w.gone-is ∙ w.in_ok-push.ensures.ok ∙ ap (λ (l : List _). l ++ w.in-Some.tombstone ∷ []) c.loop-index.invariant.all ∙
+            gone_added owner generation all i w.in-Some.tombstone (sym w.in-Some.is ∙ c.tombstone_at.ensures);
+        few =
+            omega (
+              arith,
+              ap length w.gone-is,
+              ap length w.in_ok-push.ensures.ok,
+              length-append c.loop-index.gone (w.in-Some.tombstone ∷ []),
+              c.loop-index.invariant.few,
+            );
       }
       | in_default w ↦ record {
-        all = w.gone-is ∙ c.loop-index.invariant.all ∙ gone_passed owner generation all i (omega (arith, c.loop-index-test.true, c.len-index-end.ensures.count, count_is c.args.held.now)) (sym w.in_default.is ∙ c.tombstone_at.ensures);
+        all = w.gone-is ∙ c.loop-index.invariant.all ∙
+            gone_passed owner generation all i (omega
+            (arith, c.loop-index-test.true, c.len-index-end.ensures.count, count_is c.args.held.now))
+            (sym w.in_default.is ∙ c.tombstone_at.ensures);
         few = omega (arith, ap length w.gone-is, c.loop-index.invariant.few);
       }
     ]
@@ -28,7 +39,8 @@ loop-index-preserved c =
 pub returns-clause-all : goal.returns-clause-all
 returns-clause-all c =
     let all = held_changes c.args.held.now in
-    let many : length all ≤ c.loop-index.index = omega (arith, c.loop-index-test.false, c.len-index-end.ensures.count, count_is c.args.held.now) in
+    let many : length all ≤ c.loop-index.index =
+    omega (arith, c.loop-index-test.false, c.len-index-end.ensures.count, count_is c.args.held.now) in
     c.loop-index.invariant.all
     ∙ ap (λ (l : List ChangeRecord). gone_of c.args.sweep.now.owner c.args.sweep.now.generation l) (take_all c.loop-index.index all many)
     ∙ held_gone c.args.sweep.now.owner c.args.sweep.now.generation c.args.held.now
@@ -36,5 +48,14 @@ returns-clause-all c =
 -- as many as there are keys, of the smaller or of the larger limits
 pub returns-clause-few : goal.returns-clause-few
 returns-clause-few c =
-    let keys : c.keys-most.result ≤ 4096 = most_keys c.limits.result c.keys-most.result c.keys-most.ensures.count c.keys-most.ensures.limits in
-    omega (arith, keys, c.keys-most.ensures.count, ap (λ (l : LimitsRecord). l.keys) c.limits.ensures, c.len-index-end.ensures.few, c.loop-index.invariant.few, c.loop-index.auto.index-end)
+    let keys : c.keys-most.result ≤ 4096 = most_keys c.limits.result c.keys-most.result c.keys-most.ensures.count
+    c.keys-most.ensures.limits in
+    omega (
+      arith,
+      keys,
+      c.keys-most.ensures.count,
+      ap (λ (l : LimitsRecord). l.keys) c.limits.ensures,
+      c.len-index-end.ensures.few,
+      c.loop-index.invariant.few,
+      c.loop-index.auto.index-end,
+    )

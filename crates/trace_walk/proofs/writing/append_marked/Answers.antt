@@ -19,4 +19,5 @@ pub returns-then-is_empty : goal.returns-then-is_empty
 returns-then-is_empty c = none_more c.loop-line.text.items c.loop-line.rest.now _ (sym c.if-is_empty.ensures) c.loop-line.invariant
 
 pub returns : goal.returns
-returns c = open_more c.loop-line.text.items _ c.loop-line.rest.now _ c.in_default.ensures (sym c.if-is_empty.ensures) c.in_ok-append_all-2.ensures.written c.loop-line.invariant
+returns c = open_more c.loop-line.text.items _ c.loop-line.rest.now _ c.in_default.ensures (sym c.if-is_empty.ensures)
+    c.in_ok-append_all-2.ensures.written c.loop-line.invariant

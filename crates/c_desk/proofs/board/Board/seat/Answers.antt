@@ -11,7 +11,8 @@ returns-in-Ok-new-clause-seat c =
     let items = c.pop.ensures.items ∙ ap (λ o. c.pop.new.self.items ++ option_to_list o) c.unwrap-pass.ensures in
     let same : c.in-Ok-new.seat.value ≡ c.new.result = c.in-Ok-new.ensures.ok in
     let pass = ap (λ (s : Seat). s.pass) same ∙ c.new.ensures.pass in
-    let last = all_last (IsFreshPass (arc_value c.args.self.now.desk)) c.pop.new.self.items c.args.self.now.passes.items c.unwrap-pass.result items c.args.self.now.fresh in
+    let last = all_last (IsFreshPass (arc_value c.args.self.now.desk)) c.pop.new.self.items c.args.self.now.passes.items
+    c.unwrap-pass.result items c.args.self.now.fresh in
     record {
       desk = ap (λ (s : Seat). arc_value s.desk) same ∙ (ap (λ d. arc_value d) c.new.ensures.desk ∙ c.in-Ok.ensures);
       pass = items ∙ ap (λ p. c.pop.new.self.items ++ p ∷ []) (sym pass);

@@ -19,9 +19,11 @@ returns-then-answer-gt0 c =
     let here : k.index < length k.answers = omega (arith, places, k.invariant.many) in
     record {
       within = (omega (arith, asks), omega (arith, places));
-      calls = calls_next c.args.texts.now rs k.answers c.args.self.now k.self c.call.new.self k.index _ a asks here k.invariant.calls c.call.ensures;
+      calls = calls_next c.args.texts.now rs k.answers c.args.self.now k.self c.call.new.self k.index _ a asks here k.invariant.calls
+          c.call.ensures;
       past = after_next k.answers place k.index a k.invariant.past;
-      ended = inr (take k.index k.answers, a, take_more_set k.answers k.index a here, k.invariant.silent, omega (arith, c.if-answer-gt0.true));
+      ended = inr
+          (take k.index k.answers, a, take_more_set k.answers k.index a here, k.invariant.silent, omega (arith, c.if-answer-gt0.true));
     }
 
 -- it has none, and the next request follows
@@ -38,7 +40,8 @@ loop-index-preserved c =
     ] in
     let here : k.index < length k.answers = omega (arith, places, k.invariant.many) in
     record {
-      calls = calls_next c.args.texts.now rs k.answers c.args.self.now k.self c.call.new.self k.index _ a asks here k.invariant.calls c.call.ensures;
+      calls = calls_next c.args.texts.now rs k.answers c.args.self.now k.self c.call.new.self k.index _ a asks here k.invariant.calls
+          c.call.ensures;
       silent = silent_next k.answers k.index a here k.invariant.silent (omega (arith, c.if-answer-gt0.false));
       past = after_next k.answers place k.index a k.invariant.past;
       many = length-set k.answers k.index a ∙ k.invariant.many;

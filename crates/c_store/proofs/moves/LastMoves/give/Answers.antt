@@ -14,9 +14,11 @@ loop-round-preserved c =
     let round = c.round-item.result in
     let same : c.deref-round-items.result.now ≡ rounds = c.deref-round-items.ensures.value in
     let at : slice_get rounds i ≡ Some round =
-    slice_get_read rounds (length rounds) i round refl (omega (arith, c.loop-round-test.true, ap length same)) (c.round-item.is ∙ ap (λ l. get_or l i round) same) in
+    slice_get_read rounds (length rounds) i round refl (omega (arith, c.loop-round-test.true, ap length same))
+    (c.round-item.is ∙ ap (λ l. get_or l i round) same) in
     let left = c.loop-round.invariant.left in record {
       left = c.saturating_sub-left.ensures ∙ left_next rounds i c.args.first c.loop-round.left c.len.result round at left c.len.ensures;
-      given = subst (λ (l : List Move). GivesMoves l c.args.room.now c.give_round-count.result c.give_round-count.new.room) (rounds_next rounds i c.args.first c.loop-round.left round at left)
+      given = subst (λ (l : List Move). GivesMoves l c.args.room.now c.give_round-count.result c.give_round-count.new.room)
+          (rounds_next rounds i c.args.first c.loop-round.left round at left)
           (c.give_round-count.ensures (drop c.args.first (all_in (take i rounds))) c.args.room.now c.loop-round.invariant.given);
     }

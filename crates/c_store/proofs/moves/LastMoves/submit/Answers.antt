@@ -14,8 +14,11 @@ returns-in-Ok g c =
     let rounds = c.follow_and_submit.new.rounds.items in (
       rounds,
       Ok (c.in-Ok.step ∷ []),
-      subst (λ (l : List (List Move)). FollowedAndTaken held c.args.id c.args.unit old new l rounds (Ok (c.in-Ok.step ∷ []))) c.clear.ensures.items
-          (subst (λ (r : Result Move TableFault). FollowedAndTaken held c.args.id c.args.unit old new c.clear.new.self.items rounds (one_move r)) c.in-Ok.is c.follow_and_submit.ensures),
+      subst (λ (l : List (List Move)). FollowedAndTaken held c.args.id c.args.unit old new l rounds (Ok (c.in-Ok.step ∷ [])))
+          c.clear.ensures.items
+          (subst (λ (r : Result Move TableFault).
+          FollowedAndTaken held c.args.id c.args.unit old new c.clear.new.self.items rounds (one_move r)) c.in-Ok.is
+          c.follow_and_submit.ensures),
       refl,
       refl,
     )
@@ -28,8 +31,11 @@ returns-in-Err g c =
     let rounds = c.follow_and_submit.new.rounds.items in (
       rounds,
       Err c.in-Err.fault,
-      subst (λ (l : List (List Move)). FollowedAndTaken held c.args.id c.args.unit old new l rounds (Err c.in-Err.fault)) c.clear.ensures.items
-          (subst (λ (r : Result Move TableFault). FollowedAndTaken held c.args.id c.args.unit old new c.clear.new.self.items rounds (one_move r)) c.in-Err.is c.follow_and_submit.ensures),
+      subst (λ (l : List (List Move)). FollowedAndTaken held c.args.id c.args.unit old new l rounds (Err c.in-Err.fault))
+          c.clear.ensures.items
+          (subst (λ (r : Result Move TableFault).
+          FollowedAndTaken held c.args.id c.args.unit old new c.clear.new.self.items rounds (one_move r)) c.in-Err.is
+          c.follow_and_submit.ensures),
       refl,
       refl,
     )

@@ -12,12 +12,19 @@ returns-in-Ok-Some c =
     let asked = c.in-Ok-Some.asked in
     inl (record {
       command = publish_command asked;
-      stands = stands_for_publish c.args.request.now c.args.text.now asked c.requires (rw c.in-Ok-Some.field-0-is at c.in-Ok-Some.ensures.read);
-      answered = subst (λ (x : Command). Tells c.args.self.now AsMerge x c.answer.new.answer c.answer.new.self) c.command.ensures c.answer.ensures;
+      stands = stands_for_publish c.args.request.now c.args.text.now asked c.requires
+          (rw c.in-Ok-Some.field-0-is at c.in-Ok-Some.ensures.read);
+      answered = subst (λ (x : Command). Tells c.args.self.now AsMerge x c.answer.new.answer c.answer.new.self) c.command.ensures
+          c.answer.ensures;
     })
 
 pub returns-in-Ok-None : goal.returns-in-Ok-None
-returns-in-Ok-None c = inr (inl (stands_for_no_publish c.args.request.now c.args.text.now c.requires (rw c.in-Ok-None.field-0-is at c.in-Ok-None.ensures.read), c.decline.ensures))
+returns-in-Ok-None c = inr
+    (inl (
+      stands_for_no_publish c.args.request.now c.args.text.now c.requires (rw c.in-Ok-None.field-0-is at c.in-Ok-None.ensures.read),
+      c.decline.ensures,
+    ))
 
 pub returns-in-Err : goal.returns-in-Err
-returns-in-Err c = inr (inr (publish_takes_memory c.args.request.now c.args.text.now c.requires c.in-Err.ensures.room c.in-Err.ensures.fits, c.refuse.ensures))
+returns-in-Err c = inr
+    (inr (publish_takes_memory c.args.request.now c.args.text.now c.requires c.in-Err.ensures.room c.in-Err.ensures.fits, c.refuse.ensures))

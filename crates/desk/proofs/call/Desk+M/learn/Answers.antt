@@ -17,5 +17,6 @@ join_note-requires-clause-no_pass g c = (listens_facts c.args.note.seat.me.0 c.a
 
 pub returns-clause-learnt : goal.returns-clause-learnt
 returns-clause-learnt g c = let j = c.join_note.ensures.joined in let l = c.look.ensures in
-    learns_told g.M.Machine.stands g.M.Machine.steps _ _ c.join_note.new.seat.me.0 c.args.note _ _ (ap (λ m. m.0) j.both_is) l.looks (l.same.0 ∙ j.same.0)
+    learns_told g.M.Machine.stands g.M.Machine.steps _ _ c.join_note.new.seat.me.0 c.args.note _ _ (ap (λ m. m.0) j.both_is) l.looks
+    (l.same.0 ∙ j.same.0)
     (rests_facts c.args.pass.now.seat.me.0 c.args.pass.now.resting).1 refl refl

@@ -5,10 +5,14 @@ use Rattle.desk_rule.proofs.WaitLemmas.{rests_facts}
 use Rattle.desk.proofs.call.Desk+M.take.Goals as goal
 
 pub tally-requires-clause-room : goal.tally-requires-clause-room
-tally-requires-clause-room g c = let small = c.if-server-ge16.false in take_room _ _ _ _ _ _ (omega arith) c.take-bits.ensures.taken (rests_facts c.args.pass.now.seat.me.0 c.args.pass.now.resting).1 c.args.pass.now.takes_counted
+tally-requires-clause-room g c = let small = c.if-server-ge16.false in
+    take_room _ _ _ _ _ _ (omega arith) c.take-bits.ensures.taken (rests_facts c.args.pass.now.seat.me.0 c.args.pass.now.resting).1
+    c.args.pass.now.takes_counted
 
 pub invariant_of-pass-clause-raises_counted : goal.invariant_of-pass-clause-raises_counted
-invariant_of-pass-clause-raises_counted g c = take_raises _ _ _ _ _ _ _ _ _ _ c.take-bits.ensures.taken c.look-floor.ensures.looks (rests_facts c.args.pass.now.seat.me.0 c.args.pass.now.resting).1 c.args.pass.now.raises_counted
+invariant_of-pass-clause-raises_counted g c =
+    take_raises _ _ _ _ _ _ _ _ _ _ c.take-bits.ensures.taken c.look-floor.ensures.looks
+    (rests_facts c.args.pass.now.seat.me.0 c.args.pass.now.resting).1 c.args.pass.now.raises_counted
 
 pub invariant_of-pass-clause-takes_counted : goal.invariant_of-pass-clause-takes_counted
 invariant_of-pass-clause-takes_counted g c = take_counts _ _ _ _ _ _ _ _ _ _ _ c.take-bits.ensures.taken c.look-floor.ensures.looks
@@ -18,7 +22,8 @@ pub take-bits-requires-clause-some_pass : goal.take-bits-requires-clause-some_pa
 take-bits-requires-clause-some_pass g c = let one = (rests_facts c.args.pass.now.seat.me.0 c.args.pass.now.resting).1 in omega arith
 
 pub returns-clause-taken : goal.returns-clause-taken
-returns-clause-taken g c = let t = c.take-bits.ensures.taken in let look = c.look-floor.ensures in let l = look.looks in let low = t.eight_bits in
+returns-clause-taken g c = let t = c.take-bits.ensures.taken in let look = c.look-floor.ensures in let l = look.looks in let low =
+    t.eight_bits in
     let small = c.if-server-ge16.false in let r = rests_facts c.args.pass.now.seat.me.0 c.args.pass.now.resting in record {
       server_is = omega arith;
       sees = sees_taken _ _ _ _ _ c.take-bits.new.seat.me.0 _ _ _ _ t l (look.same.0 ∙ c.take-bits.ensures.same.0.0) r.1;

@@ -5,7 +5,8 @@ use Rattle.desk.proofs.open.Desk+M.open.Goals as goal
 
 pub returns-in-Ok-new_table-clause-passes : goal.returns-in-Ok-new_table-clause-passes
 returns-in-Ok-new_table-clause-passes g c = (
-  subst (λ m. AreNewPasses c.in-Ok-new_table.table.shared.table_id (Some m) c.args.first c.args.passes c.deal.new.passes.items) c.of-opened.ensures c.deal.ensures,
+  subst (λ m. AreNewPasses c.in-Ok-new_table.table.shared.table_id (Some m) c.args.first c.args.passes c.deal.new.passes.items)
+      c.of-opened.ensures c.deal.ensures,
   length_new _ _ _ _ _ c.deal.ensures,
 )
 

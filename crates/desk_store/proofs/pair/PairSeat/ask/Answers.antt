@@ -27,7 +27,8 @@ pub unreachable-requires : goal.unreachable-requires
 unreachable-requires g c =
     let p = c.self.inside.pass.now in
     let at = c.in_ok-reply.field-0 in
-    let store = replied p c.call.new.pass (rests_facts p.seat.me.0 p.resting).2 c.args.command at.reply at.place c.in_ok-reply.ensures.called c.requires in
+    let store = replied p c.call.new.pass (rests_facts p.seat.me.0 p.resting).2 c.args.command at.reply at.place
+    c.in_ok-reply.ensures.called c.requires in
     c.in_default.not-Replied store.0 store.1
 
 pub returns-clause-called : goal.returns-clause-called
@@ -35,13 +36,17 @@ returns-clause-called g c =
     let p = c.self.inside.pass.now in
     let at = c.in_ok-reply.field-0 in
     let same : pair_record p ≡ c.args.self.now.pass = ap (λ (s : SeatRecord). s.pass) c.self.view_is in
-    let called = subst (λ (r : RsReply). Calls is_pair RsTurn p c.call.new.pass (Ask c.args.command) r at.place) c.in-Replied.is c.in_ok-reply.ensures.called in
+    let called = subst (λ (r : RsReply). Calls is_pair RsTurn p c.call.new.pass (Ask c.args.command) r at.place) c.in-Replied.is
+    c.in_ok-reply.ensures.called in
     subst (λ (x : PassRecord). MadeCall x (pair_record c.call.new.pass) c.args.command c.in-Replied.reply at.place) same
-    (call_made p c.call.new.pass c.pairs_take_turns.ensures.store c.args.command c.in-Replied.reply at.place called c.call.ensures.same.1 (rests_facts p.seat.me.0 p.resting).2)
+    (call_made p c.call.new.pass c.pairs_take_turns.ensures.store c.args.command c.in-Replied.reply at.place called c.call.ensures.same.1
+    (rests_facts p.seat.me.0 p.resting).2)
 
 pub returns-clause-fits : goal.returns-clause-fits
 returns-clause-fits g c =
     let p = c.self.inside.pass.now in
     let at = c.in_ok-reply.field-0 in
-    let called = subst (λ (r : RsReply). Calls is_pair RsTurn p c.call.new.pass (Ask c.args.command) r at.place) c.in-Replied.is c.in_ok-reply.ensures.called in
-    call_fits p c.call.new.pass c.pairs_take_turns.ensures.store c.args.command c.in-Replied.reply at.place called (rests_facts p.seat.me.0 p.resting).2
+    let called = subst (λ (r : RsReply). Calls is_pair RsTurn p c.call.new.pass (Ask c.args.command) r at.place) c.in-Replied.is
+    c.in_ok-reply.ensures.called in
+    call_fits p c.call.new.pass c.pairs_take_turns.ensures.store c.args.command c.in-Replied.reply at.place called
+    (rests_facts p.seat.me.0 p.resting).2

@@ -12,12 +12,15 @@ returns-clause-called g c =
     let p = c.self.inside.pass.now in
     let same : pass_record p ≡ c.args.self.now.pass = ap (λ (s : SeatRecord). s.pass) c.self.view_is in
     subst (λ (x : PassRecord). IfOk c.call.result (λ a. MadeCall x (pass_record c.call.new.pass) c.args.command a.reply a.place)) same
-    (IfOk-weaker c.call.result _ _ (λ a called. call_made p c.call.new.pass c.args.command a.reply a.place called c.call.ensures.same.1 (rests_facts p.seat.me.0 p.resting).2) c.call.ensures.called)
+    (IfOk-weaker c.call.result _ _ (λ a called.
+    call_made p c.call.new.pass c.args.command a.reply a.place called c.call.ensures.same.1 (rests_facts p.seat.me.0 p.resting).2)
+    c.call.ensures.called)
 
 pub returns-clause-fits : goal.returns-clause-fits
 returns-clause-fits g c =
     let p = c.self.inside.pass.now in
-    IfOk-weaker c.call.result _ _ (λ a called. call_fits p c.call.new.pass c.args.command a.reply a.place called (rests_facts p.seat.me.0 p.resting).2) c.call.ensures.called
+    IfOk-weaker c.call.result _ _ (λ a called.
+    call_fits p c.call.new.pass c.args.command a.reply a.place called (rests_facts p.seat.me.0 p.resting).2) c.call.ensures.called
 
 pub returns-clause-worn : goal.returns-clause-worn
 returns-clause-worn g c =

@@ -10,4 +10,5 @@ pub returns : goal.returns
 returns c = λ t s.
     let v = table_of c.self.inside in
     let here : TableStands v t = subst (λ (v : TableRecord). TableStands v t) (sym c.self.view_is) s in
-    c.is_old.ensures ∙ ap (λ (p : Option EndpointRecord × Option ℕ). is_old p.1 p.0 c.args.state.now) (c.status-endpoint.ensures ∙ told v t c.args.label.now here)
+    c.is_old.ensures ∙ ap (λ (p : Option EndpointRecord × Option ℕ). is_old p.1 p.0 c.args.state.now)
+    (c.status-endpoint.ensures ∙ told v t c.args.label.now here)

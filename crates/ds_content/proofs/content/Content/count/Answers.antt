@@ -7,4 +7,5 @@ use Rattle.ds_content.proofs.content.Content.count.Goals as goal
 
 pub returns-clause-count : goal.returns-clause-count
 returns-clause-count c =
-    c.len.ensures.count ∙ ap held_count c.held.ensures.value ∙ sym (changes_counted c.self.inside.held.held) ∙ ap (λ (v : ContentRecord). length (changes_in v.held)) c.self.view_is
+    c.len.ensures.count ∙ ap held_count c.held.ensures.value ∙ sym (changes_counted c.self.inside.held.held) ∙
+    ap (λ (v : ContentRecord). length (changes_in v.held)) c.self.view_is

@@ -9,4 +9,5 @@ use Rattle.ds_content.proofs.content.Content.floor_place.Goals as goal
 pub returns : goal.returns
 returns c =
     subst (λ (v : ContentRecord). IsFloorPlace (floors_in v.held) c.args.owner.now c.floor_place.result) c.self.view_is
-    (subst (λ l. IsFloorPlace l c.args.owner.now c.floor_place.result) (ap (λ (h : Holding). held_floors h) c.held.ensures.value ∙ sym (floors_are c.self.inside.held.held)) c.floor_place.ensures)
+    (subst (λ l. IsFloorPlace l c.args.owner.now c.floor_place.result)
+    (ap (λ (h : Holding). held_floors h) c.held.ensures.value ∙ sym (floors_are c.self.inside.held.held)) c.floor_place.ensures)

@@ -7,9 +7,11 @@ use Rattle.ds_names.specs.Name.{rs_name}
 pub returns-then-is_rs : goal.returns-then-is_rs
 returns-then-is_rs c =
     ap (λ (n : List ℕ). Some n) c.rs.ensures
-    ∙ sym (ap (λ b. cond b (Some rs_name) (first_name_of c.args.endpoint (changes_in c.args.self.now.held))) (sym c.is_rs.ensures ∙ c.if-is_rs.true))
+    ∙ sym (ap (λ b. cond b (Some rs_name) (first_name_of c.args.endpoint (changes_in c.args.self.now.held)))
+    (sym c.is_rs.ensures ∙ c.if-is_rs.true))
 
 pub returns : goal.returns
 returns c =
     c.copied.ensures ∙ c.label_of.ensures
-    ∙ sym (ap (λ b. cond b (Some rs_name) (first_name_of c.args.endpoint (changes_in c.args.self.now.held))) (sym c.is_rs.ensures ∙ c.if-is_rs.false))
+    ∙ sym (ap (λ b. cond b (Some rs_name) (first_name_of c.args.endpoint (changes_in c.args.self.now.held)))
+    (sym c.is_rs.ensures ∙ c.if-is_rs.false))

@@ -9,4 +9,5 @@ use Rattle.ds_content.proofs.content.Content.place.Goals as goal
 pub returns : goal.returns
 returns c =
     subst (λ (v : ContentRecord). IsPlace (changes_in v.held) c.args.key.now c.place.result) c.self.view_is
-    (subst (λ l. IsPlace l c.args.key.now c.place.result) (ap (λ (h : Holding). held_changes h) c.held.ensures.value ∙ sym (changes_are c.self.inside.held.held)) c.place.ensures)
+    (subst (λ l. IsPlace l c.args.key.now c.place.result)
+    (ap (λ (h : Holding). held_changes h) c.held.ensures.value ∙ sym (changes_are c.self.inside.held.held)) c.place.ensures)

@@ -35,7 +35,8 @@ use Rattle.ds_content.specs.Standing.{floor_standing_in}
 use Rattle.ds_machine.specs.Standing.{IsFloorFree}
 
 -- what the floor meets, read from the fields
-free_in : (v : ContentRecord) (now : ContentRecord) (f : Floor) → v ≡ now → IsFloorFree (floor_standing_in now f) f → IsFloorFree (floor_standing_in v f) f
+free_in : (v : ContentRecord) (now : ContentRecord) (f : Floor) → v ≡ now → IsFloorFree (floor_standing_in now f) f →
+    IsFloorFree (floor_standing_in v f) f
 free_in v now f is free = subst (λ (x : ContentRecord). IsFloorFree (floor_standing_in x f) f) (sym is) free
 
 free : (c : In_ok-count) → IsFloorFree (floor_standing_in (content_of c.self.inside) c.args.floor) c.args.floor
@@ -43,23 +44,28 @@ free c = free_in (content_of c.self.inside) c.args.self.now c.args.floor c.self.
 
 pub raise_at-requires-clause-place : goal.raise_at-requires-clause-place
 raise_at-requires-clause-place c =
-    subst (λ l. IsFloorPlace l c.args.floor.owner c.args.place) (floors_are c.self.inside.held.held) (subst (λ (v : ContentRecord). IsFloorPlace (floors_in v.held) c.args.floor.owner c.args.place) (sym c.self.view_is) c.requires.place)
+    subst (λ l. IsFloorPlace l c.args.floor.owner c.args.place) (floors_are c.self.inside.held.held)
+    (subst (λ (v : ContentRecord). IsFloorPlace (floors_in v.held) c.args.floor.owner c.args.place) (sym c.self.view_is) c.requires.place)
 
 pub raise_at-requires-clause-taken : goal.raise_at-requires-clause-taken
 raise_at-requires-clause-taken c =
-    floor_taken c.self.inside.held.held c.held-held.ensures.sound c.args.floor (free_in (content_of c.self.inside) c.args.self.now c.args.floor c.self.view_is c.requires.free).room
+    floor_taken c.self.inside.held.held c.held-held.ensures.sound c.args.floor
+    (free_in (content_of c.self.inside) c.args.self.now c.args.floor c.self.view_is c.requires.free).room
 
 pub returns-in_err-count-clause-new_owner : goal.returns-in_err-count-clause-new_owner
 returns-in_err-count-clause-new_owner c =
     let new : floor_at (held_items c.self.inside.held.held) c.args.floor.owner ≡ None =
-    floor_at-is c.self.inside.held.held c.held-held.ensures.sound c.args.floor.owner ∙ ap (option_map (floor_of c.args.floor.owner)) c.in_err-count.ensures.new in
-    on_err c.from_residual.result (floor_at c.args.self.now.held c.args.floor.owner ≡ None) (subst (λ (v : ContentRecord). floor_at v.held c.args.floor.owner ≡ None) c.self.view_is new)
+    floor_at-is c.self.inside.held.held c.held-held.ensures.sound c.args.floor.owner ∙
+    ap (option_map (floor_of c.args.floor.owner)) c.in_err-count.ensures.new in
+    on_err c.from_residual.result (floor_at c.args.self.now.held c.args.floor.owner ≡ None)
+    (subst (λ (v : ContentRecord). floor_at v.held c.args.floor.owner ≡ None) c.self.view_is new)
 
 -- as many puts were dropped as the floor makes void
 pub returns-clause-count : goal.returns-clause-count
 returns-clause-count c =
     let b = (goal.at.returns-clause-count c).In_ok-count in
-    b.in_ok-count.ensures.count ∙ ap (λ (l : List ChangeRecord). length (puts_void_by c.args.floor l)) (sym (changes_are c.self.inside.held.held)) ∙
+    b.in_ok-count.ensures.count ∙ ap (λ (l : List ChangeRecord). length (puts_void_by c.args.floor l))
+    (sym (changes_are c.self.inside.held.held)) ∙
     ap (λ (v : ContentRecord). length (puts_void_by c.args.floor (changes_in v.held))) c.self.view_is
 
 held : (c : In_ok-count) → c.raise_at.new.self.held ≡ after_raise c.self.inside.held.held c.args.floor (Ok Taken)
@@ -77,11 +83,13 @@ marks c = c.in_ok-count.ensures.raised.marks
 
 -- its own masks were inserted with it
 floors : (c : In_ok-count) → c.raise_at.new.self.floor_marks ≡ insert c.self.inside.held.floor_marks c.args.floor.owner (fresh c.args.owed)
-floors c = c.in_ok-count.ensures.raised.floor_marks ∙ ap (λ (m : Masks). insert c.self.inside.held.floor_marks c.args.floor.owner m) c.fresh.ensures
+floors c = c.in_ok-count.ensures.raised.floor_marks ∙
+    ap (λ (m : Masks). insert c.self.inside.held.floor_marks c.args.floor.owner m) c.fresh.ensures
 
 -- it is owed to all that are made
 owes : (c : In_ok-count) → c.args.owed ≡ padded (map (watches_item (Floored c.args.floor)) c.self.inside.subscriptions)
-owes c = c.requires.owed ∙ floor_view c.self.inside.held c.self.inside.journal c.self.inside.stamp c.self.inside.subscriptions c.args.self.now c.self.view_is c.args.floor
+owes c = c.requires.owed ∙ floor_view c.self.inside.held c.self.inside.journal c.self.inside.stamp c.self.inside.subscriptions
+    c.args.self.now c.self.view_is c.args.floor
 
 pushed : (c : After-push) → (f : Feed) → Keeps c.self.inside.journal f → Keeps c.push.new.self (feeds.accepts f (Floored c.args.floor))
 pushed c f keeps = subst (λ (i : Item). Keeps c.push.new.self (feeds.accepts f i)) c.item_of-item.ensures (c.push.ensures f keeps)
@@ -92,10 +100,12 @@ returns-clause-ok c = λ s stands.
     let d = (goal.at.returns-clause-ok c).After-push in
     let old = c.self.inside.held in
     let new = c.raise_at.new.self in
-    effect old new c.self.inside.journal c.push.new.self c.self.inside.stamp c.self.inside.subscriptions (Floored c.args.floor) c.args.owed (joined b) (ap (λ (h : Holding). h.limits) (held b))
+    effect old new c.self.inside.journal c.push.new.self c.self.inside.stamp c.self.inside.subscriptions (Floored c.args.floor) c.args.owed
+    (joined b) (ap (λ (h : Holding). h.limits) (held b))
     (floor_here old new c.args.floor c.args.owed c.raise_at.ensures.sound (held b) (marks b) (floors b))
     (floor_kept old new c.args.floor c.args.owed c.raise_at.ensures.sound (held b) (marks b) (floors b)) (owes b) (pushed d)
-    (λ t stood. floor_enters (content_of c.self.inside) t c.args.floor stood (free b)) s (subst (λ (v : ContentRecord). ContentStands v s) (sym c.self.view_is) stands)
+    (λ t stood. floor_enters (content_of c.self.inside) t c.args.floor stood (free b)) s
+    (subst (λ (v : ContentRecord). ContentStands v s) (sym c.self.view_is) stands)
 
 pub invariant_of-self-2 : goal.invariant_of-self-2
 invariant_of-self-2 c =
@@ -106,16 +116,23 @@ invariant_of-self-2 c =
     let here = floor_here old new c.args.floor c.args.owed c.raise_at.ensures.sound (held b) (marks b) (floors b) in
     let kept = floor_kept old new c.args.floor c.args.owed c.raise_at.ensures.sound (held b) (marks b) (floors b) in
     let bounds : new.held.limits ≡ old.held.limits = ap (λ (h : Holding). h.limits) (held b) in
-    let enters = λ (t : State) (stood : ContentStands (content_of c.self.inside) t). floor_enters (content_of c.self.inside) t c.args.floor stood (free b) in
+    let enters = λ (t : State) (stood : ContentStands (content_of c.self.inside) t).
+    floor_enters (content_of c.self.inside) t c.args.floor stood (free b) in
     let stood = c.self.invariant.stood in
     record {
-      places = places_then old new c.self.inside.journal c.push.new.self c.self.inside.stamp c.self.inside.subscriptions (Floored c.args.floor) c.args.owed (joined b) bounds here kept (owes b) (pushed d) enters c.self.invariant.places;
-      marked = marked_then old new c.self.inside.journal c.push.new.self c.self.inside.stamp c.self.inside.subscriptions (Floored c.args.floor) c.args.owed (joined b) bounds here
+      places = places_then old new c.self.inside.journal c.push.new.self c.self.inside.stamp c.self.inside.subscriptions
+          (Floored c.args.floor) c.args.owed (joined b) bounds here kept (owes b) (pushed d) enters c.self.invariant.places;
+      marked = marked_then old new c.self.inside.journal c.push.new.self c.self.inside.stamp c.self.inside.subscriptions
+          (Floored c.args.floor) c.args.owed (joined b) bounds here
           kept (owes b) (pushed d) enters stood.0 stood.1 c.self.invariant.places c.self.invariant.marked;
-      pending = subst (λ fs. ArePending new fs) (sym c.add.ensures) (pending_then old new c.self.inside.journal c.push.new.self c.self.inside.stamp c.self.inside.subscriptions (Floored c.args.floor) c.args.owed (joined b) bounds
-          here kept (owes b) (pushed d) enters stood.0 stood.1 c.self.invariant.places c.self.invariant.marked c.self.inside.pending c.self.invariant.pending);
+      pending = subst (λ fs. ArePending new fs) (sym c.add.ensures)
+          (pending_then old new c.self.inside.journal c.push.new.self c.self.inside.stamp c.self.inside.subscriptions
+          (Floored c.args.floor) c.args.owed (joined b) bounds
+          here kept (owes b) (pushed d) enters stood.0 stood.1 c.self.invariant.places c.self.invariant.marked c.self.inside.pending
+          c.self.invariant.pending);
       stood = (
         takes_effect stood.0 (Floored c.args.floor ∷ []),
-        effect old new c.self.inside.journal c.push.new.self c.self.inside.stamp c.self.inside.subscriptions (Floored c.args.floor) c.args.owed (joined b) bounds here kept (owes b) (pushed d) enters stood.0 stood.1,
+        effect old new c.self.inside.journal c.push.new.self c.self.inside.stamp c.self.inside.subscriptions (Floored c.args.floor)
+            c.args.owed (joined b) bounds here kept (owes b) (pushed d) enters stood.0 stood.1,
       );
     }

@@ -49,7 +49,8 @@ stands_after c s stands =
       subscriptions =
           followed_from (held_items c.bounded.result.held) (unseen_at c.bounded.result) 0 c.new.result;
     }) (opening c.args.incarnation s.feed.first s.feed.ring x)) stands.limits
-    (stands_opening c.bounded.result c.new.result l (nothing c) (none c) c.restart.new.self c.args.incarnation s.feed.first s.feed.ring c.first-self-inside.result keeps (c.first-self-inside.ensures ∙ keeps.first) is_limits low)
+    (stands_opening c.bounded.result c.new.result l (nothing c) (none c) c.restart.new.self c.args.incarnation s.feed.first s.feed.ring
+    c.first-self-inside.result keeps (c.first-self-inside.ensures ∙ keeps.first) is_limits low)
 
 pub invariant_of-self : goal.invariant_of-self
 invariant_of-self c =

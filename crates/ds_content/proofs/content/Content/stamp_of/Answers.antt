@@ -17,7 +17,8 @@ returns-in-Some c =
     let by = followed_by (held_items h.held) (unseen_at h) sub in
     ap (λ (n : ℕ). Some n) c.stamp.ensures
     ∙ ap (λ (o : Option Watching). option_map (λ (f : Followed). f.stamp) (option_map by o)) c.in-Some.ensures
-    ∙ ap (option_map (λ (f : Followed). f.stamp)) (sym (at_from (held_items h.held) (unseen_at h) 0 c.self.inside.subscriptions sub sub (none_more sub)))
+    ∙ ap (option_map (λ (f : Followed). f.stamp))
+    (sym (at_from (held_items h.held) (unseen_at h) 0 c.self.inside.subscriptions sub sub (none_more sub)))
     ∙ ap (λ (v : ContentRecord). option_map (λ (f : Followed). f.stamp) (get_or v.subscriptions sub None)) c.self.view_is
 
 pub returns-in-None : goal.returns-in-None
@@ -26,5 +27,6 @@ returns-in-None c =
     let sub = c.args.sub in
     let by = followed_by (held_items h.held) (unseen_at h) sub in
     ap (λ (o : Option Watching). option_map (λ (f : Followed). f.stamp) (option_map by o)) c.in-None.ensures
-    ∙ ap (option_map (λ (f : Followed). f.stamp)) (sym (at_from (held_items h.held) (unseen_at h) 0 c.self.inside.subscriptions sub sub (none_more sub)))
+    ∙ ap (option_map (λ (f : Followed). f.stamp))
+    (sym (at_from (held_items h.held) (unseen_at h) 0 c.self.inside.subscriptions sub sub (none_more sub)))
     ∙ ap (λ (v : ContentRecord). option_map (λ (f : Followed). f.stamp) (get_or v.subscriptions sub None)) c.self.view_is

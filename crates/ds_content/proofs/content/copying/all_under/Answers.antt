@@ -34,7 +34,8 @@ loop-items-preserved g c =
     let added = c.in_ok-add_at.ensures.added i.0 i.1 in
     record {
       kept =
-          added ∙ ap (λ (keeps : Key → Bool). c.loop-items.items ++ filter (passes keeps) (i.0 ∷ [])) c.loop-items.invariant.same ∙ ap (λ (l : List Item). l ++ filter test (i.0 ∷ [])) c.loop-items.invariant.kept
+          added ∙ ap (λ (keeps : Key → Bool). c.loop-items.items ++ filter (passes keeps) (i.0 ∷ [])) c.loop-items.invariant.same ∙
+          ap (λ (l : List Item). l ++ filter test (i.0 ∷ [])) c.loop-items.invariant.kept
           ∙ sym (filter_more test c.loop-items.index hs i.0 i.1);
       within = omega (arith, within);
       same = c.in_ok-add_at.ensures.scope ∙ c.loop-items.invariant.same;
@@ -44,8 +45,10 @@ pub returns-clause-items : goal.returns-clause-items
 returns-clause-items g c =
     let hs = held_items c.args.held.now in
     let test = passes (g.S.KeyScope.keeps c.args.scope.now) in
-    let none : slice_get hs c.loop-items.index ≡ None = none_is (slice_get hs c.loop-items.index) (sym c.if-branch.false ∙ c.in_ok-add_at.ensures.there) in
-    c.in_ok-add_at.ensures.same none ∙ c.loop-items.invariant.kept ∙ all_taken test c.loop-items.index hs (past_end hs c.loop-items.index none)
+    let none : slice_get hs c.loop-items.index ≡ None =
+    none_is (slice_get hs c.loop-items.index) (sym c.if-branch.false ∙ c.in_ok-add_at.ensures.there) in
+    c.in_ok-add_at.ensures.same none ∙ c.loop-items.invariant.kept ∙
+    all_taken test c.loop-items.index hs (past_end hs c.loop-items.index none)
 
 -- the item that memory runs out for is one to return
 pub returns-in_err-add_at-clause-lacks : goal.returns-in_err-add_at-clause-lacks
@@ -53,4 +56,5 @@ returns-in_err-add_at-clause-lacks g c =
     let hs = held_items c.args.held.now in
     let i = c.in_err-add_at.ensures.lacks in
     on_err c.from_residual.result (filter (passes (g.S.KeyScope.keeps c.args.scope.now)) hs ≢ [])
-    (kept_some (passes (g.S.KeyScope.keeps c.args.scope.now)) hs c.loop-items.index i.0 i.1 (ap (λ (keeps : Key → Bool). passes keeps i.0) (sym c.loop-items.invariant.same) ∙ i.2))
+    (kept_some (passes (g.S.KeyScope.keeps c.args.scope.now)) hs c.loop-items.index i.0 i.1
+    (ap (λ (keeps : Key → Bool). passes keeps i.0) (sym c.loop-items.invariant.same) ∙ i.2))

@@ -12,5 +12,6 @@ use Rattle.ds_content.proofs.content.marking.make_one.Goals as goal
 pub returns-in-Some : goal.returns-in-Some
 returns-in-Some c =
     set_is_remarked c.args.held.now c.set_masks.new.held c.args.index (made_at c.args.sub c.args.is_under c.args.initial) c.in-Some.masks
-    (subst (λ h. (i : Item) → slice_get (held_items h.held) c.args.index ≡ Some i → Some c.in-Some.masks ≡ masks_at h i) c.marked.ensures c.in-Some.ensures.here)
+    (subst (λ h. (i : Item) → slice_get (held_items h.held) c.args.index ≡ Some i → Some c.in-Some.masks ≡ masks_at h i) c.marked.ensures
+    c.in-Some.ensures.here)
     (subst (λ (m : Masks). IsSet c.args.held.now c.set_masks.new.held c.args.index m) c.made_at.ensures.made c.set_masks.ensures)

@@ -14,16 +14,21 @@ loop-index-preserved c =
     let marks = c.args.marks.now in
     let masks = c.at.result.now in
     let here : slice_get marks c.loop-index.index ≡ Some masks =
-    slice_get-get_or marks c.loop-index.index masks (subst (λ n. c.loop-index.index < n) c.len-index-end.ensures c.loop-index-test.true) ∙ ap (λ (m : Masks). Some m) (sym c.at.ensures) in
-    none_more (says_unseen c.args.sub) marks c.args.from c.loop-index.index masks here (sym c.is_unseen.ensures ∙ c.if-is_unseen.false) c.loop-index.invariant
+    slice_get-get_or marks c.loop-index.index masks (subst (λ n. c.loop-index.index < n) c.len-index-end.ensures c.loop-index-test.true) ∙
+    ap (λ (m : Masks). Some m) (sym c.at.ensures) in
+    none_more (says_unseen c.args.sub) marks c.args.from c.loop-index.index masks here (sym c.is_unseen.ensures ∙ c.if-is_unseen.false)
+    c.loop-index.invariant
 
 pub returns-then-is_unseen : goal.returns-then-is_unseen
 returns-then-is_unseen c =
     let marks = c.args.marks.now in
     let masks = c.at.result.now in
     let here : slice_get marks c.loop-index.index ≡ Some masks =
-    slice_get-get_or marks c.loop-index.index masks (subst (λ n. c.loop-index.index < n) c.len-index-end.ensures c.loop-index-test.true) ∙ ap (λ (m : Masks). Some m) (sym c.at.ensures) in
-    next_here (says_unseen c.args.sub) marks c.args.from c.loop-index.index masks c.loop-index.auto.index here (sym c.is_unseen.ensures ∙ c.if-is_unseen.true) c.loop-index.invariant
+    slice_get-get_or marks c.loop-index.index masks (subst (λ n. c.loop-index.index < n) c.len-index-end.ensures c.loop-index-test.true) ∙
+    ap (λ (m : Masks). Some m) (sym c.at.ensures) in
+    next_here (says_unseen c.args.sub) marks c.args.from c.loop-index.index masks c.loop-index.auto.index here
+    (sym c.is_unseen.ensures ∙ c.if-is_unseen.true) c.loop-index.invariant
 
 pub returns : goal.returns
-returns c = next_nowhere (says_unseen c.args.sub) c.args.marks.now c.args.from c.loop-index.index (omega (arith, c.loop-index-test.false, c.len-index-end.ensures)) c.loop-index.invariant
+returns c = next_nowhere (says_unseen c.args.sub) c.args.marks.now c.args.from c.loop-index.index
+    (omega (arith, c.loop-index-test.false, c.len-index-end.ensures)) c.loop-index.invariant

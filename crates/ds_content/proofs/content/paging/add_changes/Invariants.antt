@@ -7,7 +7,8 @@ use Rattle.ds_content.proofs.content.paging.add_changes.Given as goal
 abbrev pub invariant-loop-change : goal.invariant-loop-change
 invariant-loop-change g l = record {
   low : l.first ≤ l.index;
-  paged : ChangesArePaged (g.S.KeyScope.keeps l.fn.scope) (drop l.first (held_changes l.held)) (l.index - l.first) l.fn.max l.left l.fn.items l.items;
+  paged : ChangesArePaged (g.S.KeyScope.keeps l.fn.scope) (drop l.first (held_changes l.held)) (l.index - l.first) l.fn.max l.left
+      l.fn.items l.items;
   same : g.S.KeyScope.keeps l.scope ≡ g.S.KeyScope.keeps l.fn.scope;
 }
 

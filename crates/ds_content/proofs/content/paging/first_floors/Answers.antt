@@ -11,7 +11,8 @@ loop-floor-preserved c =
     let fs = held_floors c.args.held.now in
     let within : c.loop-floor.index < length fs = slice_get_within fs c.loop-floor.index c.in-Some.floor (sym c.in-Some.ensures) in
     record {
-      copied = floors_more fs c.loop-floor.index c.in-Some.floor c.loop-floor.items c.push.new.self c.loop-floor.invariant.copied (sym c.in-Some.ensures) c.in_ok-push.ensures.ok;
+      copied = floors_more fs c.loop-floor.index c.in-Some.floor c.loop-floor.items c.push.new.self c.loop-floor.invariant.copied
+          (sym c.in-Some.ensures) c.in_ok-push.ensures.ok;
       within = omega (arith, within);
     }
 
@@ -25,4 +26,5 @@ pub returns-in_err-push-clause-lacks : goal.returns-in_err-push-clause-lacks
 returns-in_err-push-clause-lacks c =
     let fs = held_floors c.args.held.now in
     let some = mapped_some floored fs c.loop-floor.index c.in-Some.floor (sym c.in-Some.ensures) in
-    on_err c.from_residual.result (cond c.args.first (map floored fs) [] ≢ []) (λ none. some (sym (ap (λ b. cond b (map floored fs) []) c.if-not-first.false) ∙ none))
+    on_err c.from_residual.result (cond c.args.first (map floored fs) [] ≢ [])
+    (λ none. some (sym (ap (λ b. cond b (map floored fs) []) c.if-not-first.false) ∙ none))

@@ -1,4 +1,5 @@
-use Rattle.std.proofs.Common.{◌≡◌, ◌<◌, false, get_or, subst, ◌≤◌, ◌+◌, ◌++◌, ◌∷◌, [], Some, true, cond, List, length, length-append, take, filter, inl, inr, ap, sym, ◌∙◌, arith}
+use Rattle.std.proofs.Common.{◌≡◌, ◌<◌, false, get_or, subst, ◌≤◌, ◌+◌, ◌++◌, ◌∷◌, [], Some, true, cond, List, length, length-append, take}
+use Rattle.std.proofs.Common.{filter, inl, inr, ap, sym, ◌∙◌, arith}
 use Rattle.std.specs.List.{list_any, slice_get}
 use Rattle.std.proofs.lemmas.Option.{slice_get_within}
 use Rattle.ds_entry.specs.declared.item.Item.{Item}
@@ -15,12 +16,15 @@ use Rattle.ds_content.proofs.content.showing.first_unseen.Goals.{After-few_items
 -- to a subscription that isn't pending, nothing is to be shown
 pub returns-then-not-is_unseen-clause-first : goal.returns-then-not-is_unseen-clause-first
 returns-then-not-is_unseen-clause-first c =
-    let none : get_or c.args.pending c.args.sub false ≡ false = ap (λ (m : Masks). get_or m.unseen c.args.sub false) (sym c.fresh.ensures) ∙ sym c.is_unseen.ensures ∙ c.if-not-is_unseen.true in
-    subst (λ (l : List Item). AreFirst c.args.held.now c.args.sub c.args.max l 0) (sym c.new.ensures) (nothing_first c.args.held.now c.args.pending c.args.sub c.requires.pending none c.args.max)
+    let none : get_or c.args.pending c.args.sub false ≡ false =
+    ap (λ (m : Masks). get_or m.unseen c.args.sub false) (sym c.fresh.ensures) ∙ sym c.is_unseen.ensures ∙ c.if-not-is_unseen.true in
+    subst (λ (l : List Item). AreFirst c.args.held.now c.args.sub c.args.max l 0) (sym c.new.ensures)
+    (nothing_first c.args.held.now c.args.pending c.args.sub c.requires.pending none c.args.max)
 
 pub returns-then-not-is_unseen-clause-rest : goal.returns-then-not-is_unseen-clause-rest
 returns-then-not-is_unseen-clause-rest c =
-    let none : get_or c.args.pending c.args.sub false ≡ false = ap (λ (m : Masks). get_or m.unseen c.args.sub false) (sym c.fresh.ensures) ∙ sym c.is_unseen.ensures ∙ c.if-not-is_unseen.true in
+    let none : get_or c.args.pending c.args.sub false ≡ false =
+    ap (λ (m : Masks). get_or m.unseen c.args.sub false) (sym c.fresh.ensures) ∙ sym c.is_unseen.ensures ∙ c.if-not-is_unseen.true in
     λ e k i at l. not_pending c.args.held.now c.args.pending c.args.sub c.requires.pending none k i at
 
 -- an item that ran out of memory is one to show
@@ -43,7 +47,9 @@ returns-in_default-clause-first c =
     record {
       shown = c.loop-content.invariant.shown;
       few = c.loop-content.invariant.few;
-      enough = inr (c.loop-content.invariant.shown ∙ sym (filter_past p c.loop-content.passed (length hs) hs c.loop-content.invariant.within (λ k i e l below. c.in_default.ensures.none_before k i e l tt))
+      enough = inr (c.loop-content.invariant.shown ∙
+          sym (filter_past p c.loop-content.passed (length hs) hs c.loop-content.invariant.within
+          (λ k i e l below. c.in_default.ensures.none_before k i e l tt))
           ∙ ap (λ (l : List Item). filter p l) (few_taken (length hs) hs (omega arith)));
     }
 
@@ -80,11 +86,14 @@ loop-content-preserved c =
     let i = next.there.1.0 in
     let here : slice_get hs index ≡ Some i = next.there.1.1 in
     let within : index < length hs = slice_get_within hs index i here in
-    let added : c.add_copy.new.items ≡ c.loop-content.items ++ i ∷ [] = c.in_ok-add_copy.ensures i (ap (λ (x : Holding). slice_get (held_items x) index) c.held-content.ensures.value ∙ here) in
+    let added : c.add_copy.new.items ≡ c.loop-content.items ++ i ∷ [] =
+    c.in_ok-add_copy.ensures i (ap (λ (x : Holding). slice_get (held_items x) index) c.held-content.ensures.value ∙ here) in
     let long = length-append c.loop-content.items (i ∷ []) in
     let room : length c.loop-content.items < c.args.max = omega (arith, c.len.ensures, c.loop-content-test.true) in
-    let past : filter p (take index hs) ≡ filter p (take c.loop-content.passed hs) = filter_past p c.loop-content.passed index hs next.there.0 (λ k x e l below. next.none_before k x e l below) in
-    let more : filter p (take (index + 1) hs) ≡ filter p (take index hs) ++ i ∷ [] = filter_more p index hs i here ∙ ap (λ b. filter p (take index hs) ++ cond b (i ∷ []) []) next.there.1.2 in
+    let past : filter p (take index hs) ≡ filter p (take c.loop-content.passed hs) =
+    filter_past p c.loop-content.passed index hs next.there.0 (λ k x e l below. next.none_before k x e l below) in
+    let more : filter p (take (index + 1) hs) ≡ filter p (take index hs) ++ i ∷ [] =
+    filter_more p index hs i here ∙ ap (λ b. filter p (take index hs) ++ cond b (i ∷ []) []) next.there.1.2 in
     record {
       shown = added ∙ ap (λ (l : List Item). l ++ i ∷ []) (c.loop-content.invariant.shown ∙ sym past) ∙ sym more;
       few = omega (arith, ap (λ (l : List Item). length l) added, long, room);

@@ -18,4 +18,5 @@ returns-clause-items c = λ f k.
     let at = c.args.cursor in
     let max = c.args.max in
     IfOk-weaker c.since_under.result (IsGiven f (passes all_keys) at max) (λ s. s.items ≡ take max (from f at.position))
-    (λ s h. ap (λ (t : Since). t.items) h.given ∙ prefix_of_all (passes all_keys) all_pass max (from f at.position)) (c.since_under.ensures.given f k)
+    (λ s h. ap (λ (t : Since). t.items) h.given ∙ prefix_of_all (passes all_keys) all_pass max (from f at.position))
+    (c.since_under.ensures.given f k)

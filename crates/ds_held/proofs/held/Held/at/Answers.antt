@@ -8,7 +8,8 @@ use Rattle.ds_held.proofs.held.Held.at.Goals as goal
 
 pub returns-clause-value : goal.returns-clause-value
 returns-clause-value c =
-    c.get.ensures ∙ ap (λ l. slice_get l c.args.index) (sym (changes_are c.self.inside.floors.items c.self.inside.changes c.self.inside.limits c.self.invariant.keys))
+    c.get.ensures ∙ ap (λ l. slice_get l c.args.index)
+    (sym (changes_are c.self.inside.floors.items c.self.inside.changes c.self.inside.limits c.self.invariant.keys))
     ∙ ap (λ (h : Holding). slice_get (held_changes h) c.args.index) c.self.view_is
 
 pub returns-clause-change : goal.returns-clause-change

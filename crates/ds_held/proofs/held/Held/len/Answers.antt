@@ -9,4 +9,5 @@ pub returns-clause-count : goal.returns-clause-count
 returns-clause-count c = c.len.ensures ∙ sym (count_changes c.self.inside.changes c.self.invariant.keys) ∙ ap held_count c.self.view_is
 
 pub returns-clause-changes : goal.returns-clause-changes
-returns-clause-changes c = subst (λ (h : Holding). All IsChange (held_changes h)) c.self.view_is (valid_changes c.self.inside.floors.items c.self.inside.changes c.self.inside.limits c.self.invariant)
+returns-clause-changes c = subst (λ (h : Holding). All IsChange (held_changes h)) c.self.view_is
+    (valid_changes c.self.inside.floors.items c.self.inside.changes c.self.inside.limits c.self.invariant)

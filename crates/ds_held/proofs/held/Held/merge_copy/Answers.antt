@@ -15,6 +15,7 @@ returns-in_default c = record {
   answer = c.in_default.ensures.answer;
   refused = tt;
   after = search rules;
-  joined = merged_joins c.args.self.now c.args.self.now c.args.change.now (Ok _) c.in_default.ensures.sound c.in_default.ensures.answer (search rules);
+  joined = merged_joins c.args.self.now c.args.self.now c.args.change.now (Ok _) c.in_default.ensures.sound c.in_default.ensures.answer
+      (search rules);
   sound = c.in_default.ensures.sound;
 }

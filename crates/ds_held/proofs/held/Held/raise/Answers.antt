@@ -14,33 +14,45 @@ use Rattle.ds_held.proofs.held.Held.raise.Goals as goal
 pub invariant_of-self : goal.invariant_of-self
 invariant_of-self c =
     let w = c.in-Ok-Taken.ensures.floors in
-    let raised = subst (λ (m : Merge). c.raise.new.floors.items ≡ list_after c.self.inside.floors.items (put_at c.self.inside.floors.items w.0 c.args.floor) (Ok m)) c.in-Ok-Taken.field-0-is w.2 in
-    let taken = subst (λ (m : Merge). RaiseAnswer (holding_of c.self.inside.floors.items c.self.inside.changes c.self.inside.limits) c.args.floor (Ok m)) c.in-Ok-Taken.field-0-is c.in-Ok-Taken.ensures.answer in
-    (raised_over c.self.inside.floors.items c.self.inside.changes c.self.inside.limits c.self.invariant c.args.self.now c.self.view_is c.args.floor w.0 w.1 taken
+    let raised = subst (λ (m : Merge). c.raise.new.floors.items ≡ list_after c.self.inside.floors.items
+    (put_at c.self.inside.floors.items w.0 c.args.floor) (Ok m)) c.in-Ok-Taken.field-0-is w.2 in
+    let taken = subst (λ (m : Merge). RaiseAnswer (holding_of c.self.inside.floors.items c.self.inside.changes c.self.inside.limits)
+    c.args.floor (Ok m)) c.in-Ok-Taken.field-0-is c.in-Ok-Taken.ensures.answer in
+    (raised_over c.self.inside.floors.items c.self.inside.changes c.self.inside.limits c.self.invariant c.args.self.now c.self.view_is
+    c.args.floor w.0 w.1 taken
     c.raise.new.floors.items c.drop_void.new.changes raised c.drop_void.ensures).still
 
 pub returns-in-Ok-Taken-clause-after : goal.returns-in-Ok-Taken-clause-after
 returns-in-Ok-Taken-clause-after c =
     let w = c.in-Ok-Taken.ensures.floors in
-    let raised = subst (λ (m : Merge). c.raise.new.floors.items ≡ list_after c.self.inside.floors.items (put_at c.self.inside.floors.items w.0 c.args.floor) (Ok m)) c.in-Ok-Taken.field-0-is w.2 in
-    let taken = subst (λ (m : Merge). RaiseAnswer (holding_of c.self.inside.floors.items c.self.inside.changes c.self.inside.limits) c.args.floor (Ok m)) c.in-Ok-Taken.field-0-is c.in-Ok-Taken.ensures.answer in
-    (raised_over c.self.inside.floors.items c.self.inside.changes c.self.inside.limits c.self.invariant c.args.self.now c.self.view_is c.args.floor w.0 w.1 taken
+    let raised = subst (λ (m : Merge). c.raise.new.floors.items ≡ list_after c.self.inside.floors.items
+    (put_at c.self.inside.floors.items w.0 c.args.floor) (Ok m)) c.in-Ok-Taken.field-0-is w.2 in
+    let taken = subst (λ (m : Merge). RaiseAnswer (holding_of c.self.inside.floors.items c.self.inside.changes c.self.inside.limits)
+    c.args.floor (Ok m)) c.in-Ok-Taken.field-0-is c.in-Ok-Taken.ensures.answer in
+    (raised_over c.self.inside.floors.items c.self.inside.changes c.self.inside.limits c.self.invariant c.args.self.now c.self.view_is
+    c.args.floor w.0 w.1 taken
     c.raise.new.floors.items c.drop_void.new.changes raised c.drop_void.ensures).after
 
 pub returns-in-Ok-Taken-clause-joined : goal.returns-in-Ok-Taken-clause-joined
 returns-in-Ok-Taken-clause-joined c =
     let w = c.in-Ok-Taken.ensures.floors in
-    let raised = subst (λ (m : Merge). c.raise.new.floors.items ≡ list_after c.self.inside.floors.items (put_at c.self.inside.floors.items w.0 c.args.floor) (Ok m)) c.in-Ok-Taken.field-0-is w.2 in
-    let taken = subst (λ (m : Merge). RaiseAnswer (holding_of c.self.inside.floors.items c.self.inside.changes c.self.inside.limits) c.args.floor (Ok m)) c.in-Ok-Taken.field-0-is c.in-Ok-Taken.ensures.answer in
-    (raised_over c.self.inside.floors.items c.self.inside.changes c.self.inside.limits c.self.invariant c.args.self.now c.self.view_is c.args.floor w.0 w.1 taken
+    let raised = subst (λ (m : Merge). c.raise.new.floors.items ≡ list_after c.self.inside.floors.items
+    (put_at c.self.inside.floors.items w.0 c.args.floor) (Ok m)) c.in-Ok-Taken.field-0-is w.2 in
+    let taken = subst (λ (m : Merge). RaiseAnswer (holding_of c.self.inside.floors.items c.self.inside.changes c.self.inside.limits)
+    c.args.floor (Ok m)) c.in-Ok-Taken.field-0-is c.in-Ok-Taken.ensures.answer in
+    (raised_over c.self.inside.floors.items c.self.inside.changes c.self.inside.limits c.self.invariant c.args.self.now c.self.view_is
+    c.args.floor w.0 w.1 taken
     c.raise.new.floors.items c.drop_void.new.changes raised c.drop_void.ensures).joined
 
 pub returns-in-Ok-Taken-clause-sound : goal.returns-in-Ok-Taken-clause-sound
 returns-in-Ok-Taken-clause-sound c =
     let w = c.in-Ok-Taken.ensures.floors in
-    let raised = subst (λ (m : Merge). c.raise.new.floors.items ≡ list_after c.self.inside.floors.items (put_at c.self.inside.floors.items w.0 c.args.floor) (Ok m)) c.in-Ok-Taken.field-0-is w.2 in
-    let taken = subst (λ (m : Merge). RaiseAnswer (holding_of c.self.inside.floors.items c.self.inside.changes c.self.inside.limits) c.args.floor (Ok m)) c.in-Ok-Taken.field-0-is c.in-Ok-Taken.ensures.answer in
-    (raised_over c.self.inside.floors.items c.self.inside.changes c.self.inside.limits c.self.invariant c.args.self.now c.self.view_is c.args.floor w.0 w.1 taken
+    let raised = subst (λ (m : Merge). c.raise.new.floors.items ≡ list_after c.self.inside.floors.items
+    (put_at c.self.inside.floors.items w.0 c.args.floor) (Ok m)) c.in-Ok-Taken.field-0-is w.2 in
+    let taken = subst (λ (m : Merge). RaiseAnswer (holding_of c.self.inside.floors.items c.self.inside.changes c.self.inside.limits)
+    c.args.floor (Ok m)) c.in-Ok-Taken.field-0-is c.in-Ok-Taken.ensures.answer in
+    (raised_over c.self.inside.floors.items c.self.inside.changes c.self.inside.limits c.self.invariant c.args.self.now c.self.view_is
+    c.args.floor w.0 w.1 taken
     c.raise.new.floors.items c.drop_void.new.changes raised c.drop_void.ensures).still.sound
 
 -- The same answer, in terms of the holding.

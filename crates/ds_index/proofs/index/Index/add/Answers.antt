@@ -9,9 +9,11 @@ use Rattle.ds_index.proofs.index.Index.add.Goals as goal
 pub invariant_of-self : goal.invariant_of-self
 invariant_of-self c =
     let new = subst (λ (v : Listing). Contains v.names c.args.named → ⊥) (sym c.self.view_is) c.requires.new in
-    subst (IsStrictlySortedBy named_cmp) (sym c.add-place.ensures.listed) (inserted_sorted c.args.named c.self.inside.names.items c.self.invariant (no_other c.args.named c.self.inside.names.items new))
+    subst (IsStrictlySortedBy named_cmp) (sym c.add-place.ensures.listed)
+    (inserted_sorted c.args.named c.self.inside.names.items c.self.invariant (no_other c.args.named c.self.inside.names.items new))
 
 pub returns : goal.returns
 returns c =
     subst (λ (v : Listing). IsAdded v.names c.add-place.new.names.items c.args.named) c.self.view_is
-    (subst (λ (l : List Named). IsAdded c.self.inside.names.items l c.args.named) (sym c.add-place.ensures.listed) (is_added c.args.named c.self.inside.names.items))
+    (subst (λ (l : List Named). IsAdded c.self.inside.names.items l c.args.named) (sym c.add-place.ensures.listed)
+    (is_added c.args.named c.self.inside.names.items))

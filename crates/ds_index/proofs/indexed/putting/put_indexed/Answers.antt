@@ -7,5 +7,6 @@ use Rattle.ds_index.proofs.indexed.putting.put_indexed.Goals as goal
 pub returns-else-is_label-clause-indexed : goal.returns-else-is_label-clause-indexed
 returns-else-is_label-clause-indexed g c =
     other_put c.args.marked.now c.put_at.new.self c.args.change c.args.mark c.put_at.result c.args.index.now.names c.requires.indexed
-    (λ e. let yes : true ≡ false = ap is_label (sym (ap (λ (k : Key). k.kind) c.key-key.ensures.value ∙ e)) ∙ sym c.is_label.ensures.value ∙ c.if-is_label.false in absurd (cc))
+    (λ e. let yes : true ≡ false = ap is_label (sym (ap (λ (k : Key). k.kind) c.key-key.ensures.value ∙ e)) ∙
+    sym c.is_label.ensures.value ∙ c.if-is_label.false in absurd (cc))
     c.put_at.ensures.put c.put_at.ensures.same

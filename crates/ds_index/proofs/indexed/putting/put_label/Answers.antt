@@ -24,10 +24,12 @@ returns-in-Some-clause-indexed g c =
     let after = named_at c.endpoint_in.result c.key-2.result.now.name in
     let before = c.in-Some.before in
     let is = listed_is (held_for old change.key) change.key.name before
-    (sym (c.listed_at-listed.ensures ∙ ap (λ (k : Key). option_map (λ (x : ChangeRecord). named_at (endpoint_left x) k.name) (held_for old k)) c.key.ensures.value) ∙ c.in-Some.is) in
+    (sym (c.listed_at-listed.ensures ∙ ap (λ (k : Key).
+    option_map (λ (x : ChangeRecord). named_at (endpoint_left x) k.name) (held_for old k)) c.key.ensures.value) ∙ c.in-Some.is) in
     let own : label_key before.name ≡ change.key = ap label_key is.0 ∙ sym (label_key_is change.key c.requires.label) in
     subst (λ (h : Holding). IsIndexed h.changes c.replace.new.self.names) (sym c.in_ok-put_at.ensures.put.held)
-    (over_indexed old.changes change c.if-is_none.index.names c.replace.new.self.names after listed c.requires.label (same_pair c.endpoint_in.ensures (ap (λ (k : Key). k.name) c.key-2.ensures.value)) before is.0
+    (over_indexed old.changes change c.if-is_none.index.names c.replace.new.self.names after listed c.requires.label
+    (same_pair c.endpoint_in.ensures (ap (λ (k : Key). k.name) c.key-2.ensures.value)) before is.0
     (ap (λ (k : Key). option_map endpoint_left (held_for old k)) own ∙ is.1) c.replace.ensures)
 
 pub returns-in-None-clause-indexed : goal.returns-in-None-clause-indexed
@@ -41,6 +43,8 @@ returns-in-None-clause-indexed g c =
     let listed : IsIndexed old.changes c.if-is_none.index.names = subst (IsIndexed old.changes) (sym names) c.requires.indexed in
     let after = named_at c.endpoint_in.result c.key-2.result.now.name in
     let none = unlisted_is (held_for old change.key) change.key.name
-    (sym (c.listed_at-listed.ensures ∙ ap (λ (k : Key). option_map (λ (x : ChangeRecord). named_at (endpoint_left x) k.name) (held_for old k)) c.key.ensures.value) ∙ c.in-None.is) in
+    (sym (c.listed_at-listed.ensures ∙ ap (λ (k : Key).
+    option_map (λ (x : ChangeRecord). named_at (endpoint_left x) k.name) (held_for old k)) c.key.ensures.value) ∙ c.in-None.is) in
     subst (λ (h : Holding). IsIndexed h.changes c.add.new.self.names) (sym c.in_ok-put_at.ensures.put.held)
-    (new_indexed old.changes change c.if-is_none.index.names c.add.new.self.names after listed c.requires.label (same_pair c.endpoint_in.ensures (ap (λ (k : Key). k.name) c.key-2.ensures.value)) none c.add.ensures)
+    (new_indexed old.changes change c.if-is_none.index.names c.add.new.self.names after listed c.requires.label
+    (same_pair c.endpoint_in.ensures (ap (λ (k : Key). k.name) c.key-2.ensures.value)) none c.add.ensures)

@@ -9,4 +9,5 @@ invariant_of-result g c = (
 )
 
 pub returns : goal.returns
-returns g c = nothing_is c.args.limits c.bounded.result c.bounded.ensures c.new.result c.new-2.result.items c.new.ensures c.new-2.ensures.items
+returns g c = nothing_is c.args.limits c.bounded.result c.bounded.ensures c.new.result c.new-2.result.items c.new.ensures
+    c.new-2.ensures.items

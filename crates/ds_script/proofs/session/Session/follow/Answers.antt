@@ -22,4 +22,5 @@ returns-clause-answered c =
     c.self.view_is
     (led s.world s.side s.servers c.follow.new.self before after
     (AnswersFollow (items_of_map (session_of s.world s.side s.servers) c.args.map)) a))
-    (subst (λ (o : Option SubMapRecord). OnOk c.follow.result (AppendsLed (AnswersFollow (map_items o)) before after s.servers c.follow.new.self)) c.map.ensures.is c.follow.ensures.answered)
+    (subst (λ (o : Option SubMapRecord). OnOk c.follow.result
+    (AppendsLed (AnswersFollow (map_items o)) before after s.servers c.follow.new.self)) c.map.ensures.is c.follow.ensures.answered)

@@ -11,7 +11,8 @@ returns-in-Ok c =
     let world = c.in-Ok.world in
     record {
       opened = record {
-        world = subst (λ (a : Seed). WorldStands world (new_world a (seed 2 c.args.ring) larger)) c.seed.ensures (subst (λ (b : Seed). WorldStands world (new_world c.seed.result b larger)) c.seed-2.ensures c.in-Ok.ensures.made);
+        world = subst (λ (a : Seed). WorldStands world (new_world a (seed 2 c.args.ring) larger)) c.seed.ensures
+            (subst (λ (b : Seed). WorldStands world (new_world c.seed.result b larger)) c.seed-2.ensures c.in-Ok.ensures.made);
         side = refl;
         servers = c.new-in-Ok.ensures;
       };

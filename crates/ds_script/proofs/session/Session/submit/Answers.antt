@@ -22,4 +22,6 @@ returns-clause-answered c =
     c.self.view_is
     (led s.world s.side s.servers c.submit.new.self before after
     (AnswersSubmit c.args.server c.args.id c.args.unit (items_of_map (session_of s.world s.side s.servers) c.args.map)) a))
-    (subst (λ (o : Option SubMapRecord). OnOk c.submit.result (AppendsLed (AnswersSubmit c.args.server c.args.id c.args.unit (map_items o)) before after s.servers c.submit.new.self)) c.map.ensures.is c.submit.ensures.answered)
+    (subst (λ (o : Option SubMapRecord). OnOk c.submit.result
+    (AppendsLed (AnswersSubmit c.args.server c.args.id c.args.unit (map_items o)) before after s.servers c.submit.new.self))
+    c.map.ensures.is c.submit.ensures.answered)

@@ -40,14 +40,16 @@ returns-in_err-more-clause-err g c =
     let output = c.take_turn.new.self.output.items in
     let fault = c.in_err-more.field-0.0 in
     where_known (λ (fault : ReplayFault). Stopped policy fault from to a d output) c.from_residual.result exit.0 fault exit.1 exit.2
-    (come_stop fault from mid to a b d policy (reached c.loop-self.self) c.loop-self.lines.rest output i.come i.unbroken (c.in_err-more.ensures).turns.1)
+    (come_stop fault from mid to a b d policy (reached c.loop-self.self) c.loop-self.lines.rest output i.come i.unbroken
+    (c.in_err-more.ensures).turns.1)
 
 pub returns-in_err-more-clause-cause : goal.returns-in_err-more-clause-cause
 returns-in_err-more-clause-cause g c =
     let exit = err_from_is_err_and c.from_residual.result c.from_residual.ensures.1 in
     let i = c.loop-self.invariant in
     rw (exit.1, exit.2)
-    (run_cause g.R.Source g.W.Sink c.in_err-more.field-0.0 c.loop-self.lines.reads c.args.reader.now c.loop-self.reader c.take_turn.new.reader
+    (run_cause g.R.Source g.W.Sink c.in_err-more.field-0.0 c.loop-self.lines.reads c.args.reader.now c.loop-self.reader
+    c.take_turn.new.reader
     c.args.self.now.writer.now c.loop-self.self.writer.now c.take_turn.new.self.writer.now i.led i.wrote (c.in_err-more.ensures).turns.0)
 
 pub returns-then-not-more-clause-ok : goal.returns-then-not-more-clause-ok
@@ -60,7 +62,8 @@ returns-then-not-more-clause-ok g c =
     let b = written g.W.Sink c.loop-self.self in
     let d = written g.W.Sink c.take_turn.new.self in
     let last : c.in_ok-more.more ≡ false = search rules in
-    come_end from mid to a b d c.args.self.now.bad_lines (reached c.loop-self.self) (reached c.take_turn.new.self) c.loop-self.lines.rest c.take_turn.new.lines.rest c.in_ok-more.more last i.come i.unbroken (c.in_ok-more.ensures).turns.2
+    come_end from mid to a b d c.args.self.now.bad_lines (reached c.loop-self.self) (reached c.take_turn.new.self) c.loop-self.lines.rest
+    c.take_turn.new.lines.rest c.in_ok-more.more last i.come i.unbroken (c.in_ok-more.ensures).turns.2
 
 pub loop-self-preserved : goal.loop-self-preserved
 loop-self-preserved g c =
@@ -73,15 +76,18 @@ loop-self-preserved g c =
     let b = written g.W.Sink c.loop-self.self in
     let d = written g.W.Sink c.take_turn.new.self in
     let e = c.in_ok-more.ensures in
-    let t = come_turn from mid to a b d c.args.self.now.bad_lines (reached c.loop-self.self) (reached c.take_turn.new.self) c.loop-self.lines.rest c.take_turn.new.lines.rest c.in_ok-more.more more i.come e.turns.2 in
+    let t = come_turn from mid to a b d c.args.self.now.bad_lines (reached c.loop-self.self) (reached c.take_turn.new.self)
+    c.loop-self.lines.rest c.take_turn.new.lines.rest c.in_ok-more.more more i.come e.turns.2 in
     let next = e.more more in
     record {
       come = t.0;
       unbroken = t.1;
       count = next.count;
-      led = subst (λ (n : ℕ). CallsLead g.R.Source.reads n c.args.reader.now c.take_turn.new.reader) (sym next.reads) (c.loop-self.reader, i.led, e.turns.0);
+      led = subst (λ (n : ℕ). CallsLead g.R.Source.reads n c.args.reader.now c.take_turn.new.reader) (sym next.reads)
+          (c.loop-self.reader, i.led, e.turns.0);
       same = e.same ∙ i.same;
-      wrote = only_calls_on g.W.Sink.writes c.args.self.now.writer.now c.loop-self.self.writer.now c.take_turn.new.self.writer.now i.wrote e.turns.1;
+      wrote = only_calls_on g.W.Sink.writes c.args.self.now.writer.now c.loop-self.self.writer.now c.take_turn.new.self.writer.now i.wrote
+          e.turns.1;
     }
 
 pub returns-clause-err : goal.returns-clause-err
@@ -94,4 +100,5 @@ returns-clause-err g c =
     come_over from to a b c.args.self.now.bad_lines (reached c.loop-self.self) c.loop-self.lines.rest i.come i.unbroken
 
 pub returns-clause-cause : goal.returns-clause-cause
-returns-clause-cause g c = ((c.loop-self.lines.reads, inr (c.may_read.ensures.all c.loop-self-test.false, c.loop-self.invariant.led)), c.loop-self.invariant.wrote)
+returns-clause-cause g c =
+    ((c.loop-self.lines.reads, inr (c.may_read.ensures.all c.loop-self-test.false, c.loop-self.invariant.led)), c.loop-self.invariant.wrote)

@@ -7,7 +7,8 @@ use Rattle.ds_script.proofs.taking.Replay.run.Given as goal
 
 abbrev pub invariant-loop-self : goal.invariant-loop-self
 invariant-loop-self g l = record {
-  come : Come (g.R.Source.remaining l.fn.reader) (g.R.Source.remaining l.reader) (written g.W.Sink l.fn.self) (written g.W.Sink l.self) l.fn.self.bad_lines (reached l.self) l.lines.rest;
+  come : Come (g.R.Source.remaining l.fn.reader) (g.R.Source.remaining l.reader) (written g.W.Sink l.fn.self) (written g.W.Sink l.self)
+      l.fn.self.bad_lines (reached l.self) l.lines.rest;
   unbroken : IsUnbroken l.lines.rest;
   count : l.self.tally.lines ≡ l.lines.count;
   led : CallsLead g.R.Source.reads l.lines.reads l.fn.reader l.reader;

@@ -15,7 +15,8 @@ returns-in_err-pass_over-in-GoOn-clause-takes g c =
     rw (exit.1, exit.2) (
       e.0,
       λ text bad.
-          pass_stops c.in_err-pass_over-in-GoOn.field-0.0 had has (reached c.args.self.now) text c.pass_over.new.output.items c.args.bad.now.number c.args.bad.now.place e.1 c.requires.number c.in-GoOn.is bad,
+          pass_stops c.in_err-pass_over-in-GoOn.field-0.0 had has (reached c.args.self.now) text c.pass_over.new.output.items
+          c.args.bad.now.number c.args.bad.now.place e.1 c.requires.number c.in-GoOn.is bad,
     )
 
 pub returns-in-End-clause-takes : goal.returns-in-End-clause-takes
@@ -25,7 +26,8 @@ returns-in-End-clause-takes g c =
     let has = g.W.Sink.contents c.end_at.new.writer in (
       e.0,
       λ text bad.
-          end_stops c.end_at.result had has (reached c.args.self.now) text c.end_at.new.output.items c.args.bad.now.number c.args.bad.now.place e.1 c.requires.number c.in-End.is bad,
+          end_stops c.end_at.result had has (reached c.args.self.now) text c.end_at.new.output.items c.args.bad.now.number
+          c.args.bad.now.place e.1 c.requires.number c.in-End.is bad,
     )
 
 pub returns-in_ok-pass_over-in-GoOn-clause-takes : goal.returns-in_ok-pass_over-in-GoOn-clause-takes

@@ -22,9 +22,11 @@ returns-in_err-send-clause-takes g c =
     let d = g.W.Sink.contents c.send.new.writer in
     let pending = c.args.lines.now.rest in
     rw (exit.1, exit.2) (
-      failed_on g.W.Sink.writes g.W.Sink.fails c.args.self.now.writer.now c.take_unended.new.self.writer.now c.send.new.writer (c.in_ok-take_unended.ensures).takes.0 (c.in_err-send.ensures).cause,
+      failed_on g.W.Sink.writes g.W.Sink.fails c.args.self.now.writer.now c.take_unended.new.self.writer.now c.send.new.writer
+          (c.in_ok-take_unended.ensures).takes.0 (c.in_err-send.ensures).cause,
       λ to end.
-          last_unsent to a b d (reached c.args.self.now) (reached c.take_unended.new.self) pending e.0 e.1 c.send.new.output.items (unended pending) (c.in_ok-take_unended.ensures).takes.1 (inr refl) e.2 e.3,
+          last_unsent to a b d (reached c.args.self.now) (reached c.take_unended.new.self) pending e.0 e.1 c.send.new.output.items
+          (unended pending) (c.in_ok-take_unended.ensures).takes.1 (inr refl) e.2 e.3,
     )
 
 pub returns-clause-takes : goal.returns-clause-takes
@@ -36,5 +38,10 @@ returns-clause-takes g c =
     let b = g.W.Sink.contents c.take_unended.new.self.writer.now in
     let d = g.W.Sink.contents c.send.new.writer in
     let t = (c.in_ok-take_unended.ensures).takes in
-    let wrote = only_calls_on g.W.Sink.writes c.args.self.now.writer.now c.take_unended.new.self.writer.now c.send.new.writer t.0 (c.in_ok-send.ensures).led in
-    (wrote, takes_after a b d (reached c.args.self.now) mid new (unended c.args.lines.now.rest) t.1 (takes_written b d mid c.send.new.output.items s.0 s.1), s.1)
+    let wrote = only_calls_on g.W.Sink.writes c.args.self.now.writer.now c.take_unended.new.self.writer.now c.send.new.writer t.0
+    (c.in_ok-send.ensures).led in (
+      wrote,
+      takes_after a b d (reached c.args.self.now) mid new (unended c.args.lines.now.rest) t.1
+          (takes_written b d mid c.send.new.output.items s.0 s.1),
+      s.1,
+    )

@@ -15,7 +15,11 @@ returns-in_err-send-clause-turns g c =
     let from = g.R.Source.remaining c.args.reader.now in
     let had = written g.W.Sink c.args.self.now in
     let has = g.W.Sink.contents c.send.new.writer in
-    rw (exit.1, exit.2) ((c.in_err-send.ensures).cause, turn_unsent from had has (reached c.args.self.now) c.args.lines.now.rest e.0 e.1 c.send.new.output.items e.2 e.3)
+    rw (exit.1, exit.2) (
+      (c.in_err-send.ensures).cause,
+      turn_unsent from had has (reached c.args.self.now) c.args.lines.now.rest e.0 e.1
+          c.send.new.output.items e.2 e.3,
+    )
 
 pub returns-clause-turns : goal.returns-clause-turns
 returns-clause-turns g c =
@@ -35,6 +39,15 @@ returns-clause-turns g c =
     let last = c.take_read.new.self.writer.now in
     let led = (c.in_ok-send.ensures).led in
     where_both c.take_read.result
-    (λ more t. (t.0, only_calls_on g.W.Sink.writes first at last led t.1, turns_after more from to a b d old mid new pending c.take_read.new.lines.rest sent t.2))
-    (λ fault t. (turn_cause_on g.R.Source g.W.Sink fault c.args.reader.now c.take_read.new.reader first at last led t.0, turn_stops_after fault from to a b d old mid pending c.take_read.new.self.output.items sent t.1))
+    (λ more t. (
+      t.0,
+      only_calls_on g.W.Sink.writes first at last led t.1,
+      turns_after more from to a b d old mid new pending
+          c.take_read.new.lines.rest sent t.2,
+    ))
+    (λ fault t. (
+      turn_cause_on g.R.Source g.W.Sink fault c.args.reader.now c.take_read.new.reader first at last led t.0,
+      turn_stops_after fault from to
+          a b d old mid pending c.take_read.new.self.output.items sent t.1,
+    ))
     c.take_read.ensures.turns

@@ -15,7 +15,14 @@ pub loop-self-init : goal.loop-self-init
 loop-self-init g c =
     let had = written g.W.Sink c.args.self.now in
     let old : Reached = reached c.args.self.now in
-    record { text = text_none had had old old c.args.lines.now.rest (takes_none had old); count = c.requires.count; reads = refl; same = refl; wrote = no_calls g.W.Sink.writes c.args.self.now.writer.now }
+    record {
+      text = text_none had had old old c.args.lines.now.rest (takes_none had old);
+      count = c.requires.count;
+      reads = refl;
+      same =
+          refl;
+      wrote = no_calls g.W.Sink.writes c.args.self.now.writer.now;
+    }
 
 pub take_line-requires-clause-line : goal.take_line-requires-clause-line
 take_line-requires-clause-line g c = subst EndsLine (sym c.line.ensures) (c.next.ensures.found c.loop-self-test.true).ends
@@ -52,7 +59,8 @@ loop-self-preserved g c =
       count = omega (arith, one.counted, i.count, n.count);
       reads = n.reads ∙ i.reads;
       same = (c.in_ok-take_line.ensures).same ∙ i.same;
-      wrote = only_calls_on g.W.Sink.writes c.args.self.now.writer.now c.loop-self.self.writer.now c.take_line.new.self.writer.now i.wrote t.0;
+      wrote = only_calls_on g.W.Sink.writes c.args.self.now.writer.now c.loop-self.self.writer.now c.take_line.new.self.writer.now i.wrote
+          t.0;
     }
 
 pub returns-in_err-take_line-clause-takes : goal.returns-in_err-take_line-clause-takes
@@ -64,7 +72,8 @@ returns-in_err-take_line-clause-takes g c =
     let b = written g.W.Sink c.loop-self.self in
     let d = written g.W.Sink c.take_line.new.self in
     rw (exit.1, exit.2) (
-      write_cause_on g.W.Sink c.in_err-take_line.field-0.0 c.args.self.now.writer.now c.loop-self.self.writer.now c.take_line.new.self.writer.now c.loop-self.invariant.wrote e.0,
+      write_cause_on g.W.Sink c.in_err-take_line.field-0.0 c.args.self.now.writer.now c.loop-self.self.writer.now
+          c.take_line.new.self.writer.now c.loop-self.invariant.wrote e.0,
       λ to.
           line_stops c.in_err-take_line.field-0.0 to a b d (reached c.args.self.now) (reached c.loop-self.self) c.args.lines.now.rest
           c.loop-self.lines.rest c.next.new.self.line c.next.new.self.rest n.ends.front c.take_line.new.self.output.items
@@ -92,12 +101,14 @@ returns-clause-takes g c =
     where_both c.judge_front.result
     (λ _ done. (
       subst (λ (w : g.row.W.Denot). OnlyCalls g.W.Sink.writes from w) (sym done.1) i.wrote,
-      text_kept g.W.Sink.contents a c.loop-self.self.writer.now c.judge_front.new.self.writer.now old mid new text rest c.next.new.self.rest i.text done.0 done.1 left,
+      text_kept g.W.Sink.contents a c.loop-self.self.writer.now c.judge_front.new.self.writer.now old mid new text rest
+          c.next.new.self.rest i.text done.0 done.1 left,
       subst IsUnbroken (sym left) (c.next.ensures.none c.loop-self-test.false),
     ))
     (λ fault stops. (
       write_cause_on g.W.Sink fault from at to i.wrote stops.0,
       λ to.
-          stops_then fault to a b d old mid text rest [] front text c.judge_front.new.self.output.items i.text (append-nil rest ∙ same) (append-nil text) (stops.1 to),
+          stops_then fault to a b d old mid text rest [] front text c.judge_front.new.self.output.items i.text (append-nil rest ∙ same)
+          (append-nil text) (stops.1 to),
     ))
     c.judge_front.ensures.takes

@@ -23,11 +23,13 @@ loop-again-preserved g c =
     record {
       same = long_as_before c.keep-kept.new.bytes c.read.new.buf c.in_ok-count.count _ keep.same c.in_ok-count.ensures.bound.0
           (c.read.auto.buf ∙ c.loop-again.invariant.same);
-      passed = passed_on c.args.self.now.place from.place c.keep-kept.new.place (remaining c.args.self.now.reader.now) (remaining from.reader.now)
+      passed = passed_on c.args.self.now.place from.place c.keep-kept.new.place (remaining c.args.self.now.reader.now)
+          (remaining from.reader.now)
           (remaining c.read.new.self) (take c.in_ok-count.count c.read.new.buf) c.keep-kept.new.bytes c.keep-kept.result
           c.loop-again.invariant.passed c.in_ok-count.ensures.bytes.0 keep.after keep.kept (omega (arith, c.if-kept-gt0.false));
       same_reader = c.loop-again.invariant.same_reader;
-      led = leads_more g.R.Source.reads c.loop-again._again c.args.self.now.reader.now from.reader.now c.read.new.self c.loop-again.invariant.led c.in_ok-count.ensures.told;
+      led = leads_more g.R.Source.reads c.loop-again._again c.args.self.now.reader.now from.reader.now c.read.new.self
+          c.loop-again.invariant.led c.in_ok-count.ensures.told;
     }
 
 -- ---- reads

@@ -9,12 +9,15 @@ use Rattle.ds_machine.specs.Standing.{IsFree}
 
 pub returns-clause-first : goal.returns-clause-first
 returns-clause-first c = λ s stands.
-    asked_cause c.args.self.now s (request_of c.args.asked.now) c.args.body.now c.args.caller.now (machine_standing c.standing_before-standing.result) c.cause_of_asked.result
+    asked_cause c.args.self.now s (request_of c.args.asked.now) c.args.body.now c.args.caller.now
+    (machine_standing c.standing_before-standing.result) c.cause_of_asked.result
     stands c.requires.named (c.standing_before-standing.ensures c.args.body.now) c.cause_of_asked.ensures.first
 
 pub returns-clause-free : goal.returns-clause-free
 returns-clause-free c =
     let a = request_of c.args.asked.now in
-    subst (λ m. IfNone c.cause_of_asked.result (IsFree (standing_in c.args.self.now (change_asked m a c.args.body.now)) (change_asked m a c.args.body.now))) c.requires.named
-    (none_free c.cause_of_asked.result c.args.self.now (change_asked c.args.caller.now a c.args.body.now) (machine_standing c.standing_before-standing.result)
+    subst (λ m. IfNone c.cause_of_asked.result
+    (IsFree (standing_in c.args.self.now (change_asked m a c.args.body.now)) (change_asked m a c.args.body.now))) c.requires.named
+    (none_free c.cause_of_asked.result c.args.self.now (change_asked c.args.caller.now a c.args.body.now)
+    (machine_standing c.standing_before-standing.result)
     (c.standing_before-standing.ensures c.args.body.now) c.cause_of_asked.ensures.free)

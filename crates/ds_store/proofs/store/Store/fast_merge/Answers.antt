@@ -7,7 +7,8 @@ use Rattle.ds_machine.specs.State.{State}
 use Rattle.ds_machine.specs.Subscription.{is_owed}
 use Rattle.ds_machine.specs.Merging.{Course, course}
 use Rattle.ds_content.specs.Stands.{ContentStands}
-use Rattle.ds_store.proofs.MergeLemmas.{item_next, not_begun, nothing_owed, merge_stopped, merge_done, one_more, can_go_on, next_course, next_reached, item_owed, course_places, course_number, stopped_last}
+use Rattle.ds_store.proofs.MergeLemmas.{item_next, not_begun, nothing_owed, merge_stopped, merge_done, one_more, can_go_on, next_course}
+use Rattle.ds_store.proofs.MergeLemmas.{next_reached, item_owed, course_places, course_number, stopped_last}
 use Rattle.ds_store.proofs.store.Store.fast_merge.Goals as goal
 
 pub loop-item-init : goal.loop-item-init
@@ -26,10 +27,12 @@ returns-in-Err-clause-step c = λ s stands.
     let k = course s (take i items) in
     let at = c.loop-item.invariant.reached s stands in
     let next = c.in-Err.ensures.step k.state at.1 in
-    let item = item_next items c.loop-item.item-index i c.item-item.result c.loop-item-test.true c.item-item.is c.loop-item.invariant.counted in
+    let item = item_next items c.loop-item.item-index i c.item-item.result c.loop-item-test.true c.item-item.is
+    c.loop-item.invariant.counted in
     let flags = c.in-Err.ensures.owed k.state at.1 ∙ c.loop-item.invariant.owed s stands in (
       next.0,
-      merge_stopped s items c.item-item.result c.in-Err.fault next.0 c.loop-item.count c.number.result (course_number s k c.number.result c.merge_item.new.total c.number.ensures flags) c.loop-item.invariant.few item at.0 next.1,
+      merge_stopped s items c.item-item.result c.in-Err.fault next.0 c.loop-item.count c.number.result
+          (course_number s k c.number.result c.merge_item.new.total c.number.ensures flags) c.loop-item.invariant.few item at.0 next.1,
       next.2,
     )
 
@@ -39,8 +42,10 @@ returns-in-Err-clause-last c = λ s stands.
     let i = c.loop-item.count.done in
     let k = course s (take i items) in
     let at = c.loop-item.invariant.reached s stands in
-    let item = item_next items c.loop-item.item-index i c.item-item.result c.loop-item-test.true c.item-item.is c.loop-item.invariant.counted in
-    stopped_last s items i c.item-item.result c.in-Err.fault c.number.result item (λ e. c.merge_item.ensures.last (c.in-Err.is ∙ ap (λ f. Err f) e) k.state at.1)
+    let item = item_next items c.loop-item.item-index i c.item-item.result c.loop-item-test.true c.item-item.is
+    c.loop-item.invariant.counted in
+    stopped_last s items i c.item-item.result c.in-Err.fault c.number.result item
+    (λ e. c.merge_item.ensures.last (c.in-Err.is ∙ ap (λ f. Err f) e) k.state at.1)
 
 pub loop-item-preserved : goal.loop-item-preserved
 loop-item-preserved c =
@@ -53,7 +58,8 @@ loop-item-preserved c =
     record {
       counted = ap (λ n. n + 1) c.loop-item.invariant.counted ∙ sym more;
       few = c.loop-item.invariant.few;
-      can = can_go_on c.loop-item.count c.add.new.self c.in-Ok.join c.add.ensures (omega (arith, within, c.loop-item.invariant.few)) c.loop-item.invariant.can;
+      can = can_go_on c.loop-item.count c.add.new.self c.in-Ok.join c.add.ensures (omega (arith, within, c.loop-item.invariant.few))
+          c.loop-item.invariant.can;
       owed = λ s stands.
           (let at = c.loop-item.invariant.reached s stands in
           let k = course s (take i items) in
@@ -78,6 +84,8 @@ returns-clause-step c = λ s stands.
     let at = c.loop-item.invariant.reached s stands in
     let gone : slice_get items i ≡ None = slice_get_past items i (omega (arith, c.loop-item-test.false, c.loop-item.invariant.counted)) in (
       k.state,
-      merge_done s items c.loop-item.count c.number-2.result (course_number s k c.number-2.result c.loop-item.owed c.number-2.ensures (c.loop-item.invariant.owed s stands)) c.loop-item.invariant.few gone at.0,
+      merge_done s items c.loop-item.count c.number-2.result
+          (course_number s k c.number-2.result c.loop-item.owed c.number-2.ensures (c.loop-item.invariant.owed s stands))
+          c.loop-item.invariant.few gone at.0,
       at.1,
     )

@@ -14,6 +14,8 @@ invariant-loop-item l = record {
   counted : l.item-index ≡ l.count.done;
   few : length l.items ≤ 256;
   can : CanCountOne l.count;
-  owed : (s : State) → ContentStands l.fn.self s → l.owed ≡ padded (map (is_owed (course s (take l.count.done l.items)).taken) s.subscriptions);
-  reached : (s : State) → ContentStands l.fn.self s → Reached (course s (take l.count.done l.items)) l.count × ContentStands l.self (course s (take l.count.done l.items)).state;
+  owed : (s : State) → ContentStands l.fn.self s →
+      l.owed ≡ padded (map (is_owed (course s (take l.count.done l.items)).taken) s.subscriptions);
+  reached : (s : State) → ContentStands l.fn.self s →
+      Reached (course s (take l.count.done l.items)) l.count × ContentStands l.self (course s (take l.count.done l.items)).state;
 }

@@ -19,4 +19,5 @@ returns c = λ s stands.
     let here : ContentStands v s = subst (λ (x : ContentRecord). ContentStands x s) (sym (c.deref.ensures ∙ c.self.view_is)) stands in
     c.label_of.ensures
     ∙ ap (λ (hs : List Item). first_name_of c.args.endpoint (changes_in hs)) here.held
-    ∙ sym (ap (λ b. cond b None (cond b (Some rs_name) (first_name_of c.args.endpoint (changes_in (held s))))) (sym c.is_rs.ensures ∙ c.if-is_rs.false))
+    ∙ sym (ap (λ b. cond b None (cond b (Some rs_name) (first_name_of c.args.endpoint (changes_in (held s)))))
+    (sym c.is_rs.ensures ∙ c.if-is_rs.false))

@@ -30,4 +30,5 @@ returns-in-Gone-clause-live c = λ s stands.
 pub returns-in-Put-clause-kind : goal.returns-in-Put-clause-kind
 returns-in-Put-clause-kind c =
     let put = sym c.body.ensures.value ∙ c.in-Put.is in
-    found_kind c.deref.result.now.held c.args.key.now c.in-Some.change.now c.in-Put.value (sym c.in-Some.ensures.value) c.in-Some.ensures.change put
+    found_kind c.deref.result.now.held c.args.key.now c.in-Some.change.now c.in-Put.value (sym c.in-Some.ensures.value)
+    c.in-Some.ensures.change put

@@ -12,7 +12,9 @@ pub returns : goal.returns
 returns c =
     let v = c.deref-content.result.now in
     let f = c.args.floor.now in
-    let at = subst (λ (x : ContentRecord). IsFloorPlace (floors_in x.held) f.owner c.args.place) (sym (c.deref-content.ensures ∙ c.self.view_is)) c.requires in
-    floor_told_same v f _ c.floor_count.result c.cursor.result.position (ap (option_map (floor_of f.owner)) (c.floor_at.ensures f.owner at) ∙ floor_back v.held f.owner)
+    let at = subst (λ (x : ContentRecord). IsFloorPlace (floors_in x.held) f.owner c.args.place)
+    (sym (c.deref-content.ensures ∙ c.self.view_is)) c.requires in
+    floor_told_same v f _ c.floor_count.result c.cursor.result.position
+    (ap (option_map (floor_of f.owner)) (c.floor_at.ensures f.owner at) ∙ floor_back v.held f.owner)
     c.floor_count.ensures.count (ap (λ x. x.position) c.cursor.ensures.value)
     ∙ ap (λ (x : ContentRecord). floor_standing_in x f) (c.deref-content.ensures ∙ c.self.view_is)

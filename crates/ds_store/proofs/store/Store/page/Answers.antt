@@ -11,6 +11,8 @@ use Rattle.ds_store.proofs.store.Store.page.Goals as goal
 
 pub returns-in-Ok-give_page-clause-answer : goal.returns-in-Ok-give_page-clause-answer
 returns-in-Ok-give_page-clause-answer c = λ s stands.
-    free_answer s (first_refusal (against_page c.args.scope.now c.args.max)) (Paged (page_of (is_kept c.args.scope.now) c.args.after c.args.max (held s) (cursor s))) (Paged c.in-Ok-give_page.page)
+    free_answer s (first_refusal (against_page c.args.scope.now c.args.max))
+    (Paged (page_of (is_kept c.args.scope.now) c.args.after c.args.max (held s) (cursor s))) (Paged c.in-Ok-give_page.page)
     c.in-Ok.ensures.none
-    (ap Paged (c.in-Ok-give_page.ensures.value s stands ∙ ap (λ (x : Scope). page_of (is_kept x) c.args.after c.args.max (held s) (cursor s)) c.in-Ok.ensures.read))
+    (ap Paged (c.in-Ok-give_page.ensures.value s stands ∙
+    ap (λ (x : Scope). page_of (is_kept x) c.args.after c.args.max (held s) (cursor s)) c.in-Ok.ensures.read))

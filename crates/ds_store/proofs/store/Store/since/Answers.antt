@@ -16,11 +16,14 @@ use Rattle.ds_store.proofs.store.Store.since.Goals as goal
 pub returns-in-Err-clause-last : goal.returns-in-Err-clause-last
 returns-in-Err-clause-last c = λ s stands.
     refused_last s (commands.Since c.args.scope.now c.args.cursor c.args.max) c.in-Err.refusal
-    (λ e. pattern_may c.args.scope.now (against_since s.feed c.args.scope.now c.args.cursor c.args.max) _ (c.in-Err.ensures.last (ap Err e) s.feed c.args.cursor))
+    (λ e. pattern_may c.args.scope.now (against_since s.feed c.args.scope.now c.args.cursor c.args.max) _
+    (c.in-Err.ensures.last (ap Err e) s.feed c.args.cursor))
 
 pub returns-in-Ok-give_since-clause-answer : goal.returns-in-Ok-give_since-clause-answer
 returns-in-Ok-give_since-clause-answer c = λ s stands.
-    let given : IsGiven s.feed (is_kept (scope_of c.in-Ok.filter)) c.args.cursor c.args.max c.in-Ok-give_since.since = c.in-Ok-give_since.ensures.given s stands in
-    free_answer s (first_refusal (against_since s.feed c.args.scope.now c.args.cursor c.args.max)) (Journaled (since_of s.feed (is_kept c.args.scope.now) c.args.cursor c.args.max)) (Journaled c.in-Ok-give_since.since)
+    let given : IsGiven s.feed (is_kept (scope_of c.in-Ok.filter)) c.args.cursor c.args.max c.in-Ok-give_since.since =
+    c.in-Ok-give_since.ensures.given s stands in
+    free_answer s (first_refusal (against_since s.feed c.args.scope.now c.args.cursor c.args.max))
+    (Journaled (since_of s.feed (is_kept c.args.scope.now) c.args.cursor c.args.max)) (Journaled c.in-Ok-give_since.since)
     (c.in-Ok.ensures.none s.feed c.args.cursor ∙ ap (option_map refusal_of_journal) given.reached)
     (ap Journaled (given.given ∙ ap (λ (x : Scope). since_of s.feed (is_kept x) c.args.cursor c.args.max) c.in-Ok.ensures.read))

@@ -8,6 +8,7 @@ use Rattle.ds_store.proofs.store.Store.snapshot.Goals as goal
 
 pub returns-in-Ok-give_snapshot-clause-answer : goal.returns-in-Ok-give_snapshot-clause-answer
 returns-in-Ok-give_snapshot-clause-answer c = λ s stands.
-    free_answer s (first_refusal (against_scope c.args.scope.now)) (Snapped (snapshot_in s c.args.scope.now)) (Snapped c.in-Ok-give_snapshot.snapshot)
+    free_answer s (first_refusal (against_scope c.args.scope.now)) (Snapped (snapshot_in s c.args.scope.now))
+    (Snapped c.in-Ok-give_snapshot.snapshot)
     c.in-Ok.ensures.none
     (ap Snapped (c.in-Ok-give_snapshot.ensures.value s stands ∙ ap (snapshot_in s) c.in-Ok.ensures.read))

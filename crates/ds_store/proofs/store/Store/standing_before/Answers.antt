@@ -23,6 +23,7 @@ returns c = λ body.
     ] in
     let change = change_asked (Some owner) a body in
     let void : c.is_void_under-void.result ≡ is_void s.held change =
-    c.is_void_under-void.ensures owner body ∙ ap (λ o. is_void_under o change) c.floor.ensures ∙ sym (void_is c.held-held.result.now c.held-held.ensures.sound v.held c.held-held.ensures.items change)
+    c.is_void_under-void.ensures owner body ∙ ap (λ o. is_void_under o change) c.floor.ensures ∙
+    sym (void_is c.held-held.result.now c.held-held.ensures.sound v.held c.held-held.ensures.items change)
     ∙ ap (λ (x : ContentRecord). is_void x.held change) (c.deref-content.ensures ∙ c.self.view_is) in
     c.standing.ensures ∙ ap (standing_with s a.key) void ∙ ap (λ (o : List ℕ). standing_in s (change_of a.key o a.version body)) same

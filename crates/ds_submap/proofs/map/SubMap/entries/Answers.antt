@@ -22,7 +22,8 @@ use Rattle.ds_held.proofs.HeldLemmas.{count_is}
 pub unreachable-requires : goal.unreachable-requires
 unreachable-requires c =
     let held = held_changes c.self.inside.held in
-    let none : None ≡ slice_get held c.loop-index.index = subst (λ o. option_copied o ≡ slice_get held c.loop-index.index) c.in_default.is c.at.ensures.value in
+    let none : None ≡ slice_get held c.loop-index.index =
+    subst (λ o. option_copied o ≡ slice_get held c.loop-index.index) c.in_default.is c.at.ensures.value in
     elim (slice_get_cases held c.loop-index.index).1 [
       | inl h ↦ (let no : None ≡ Some h.0 = none ∙ h.2 in absurd (cc))
       | inr h ↦ omega (arith, h.0, c.loop-index-test.true, c.len-index-end.ensures.count, count_is c.self.inside.held)
@@ -43,7 +44,8 @@ loop-index-preserved c =
     elim c.match-body.branch [
       | in-Put+in_ok-copy+in_ok-push w ↦
           (let put : leaves_value x ≡ true = ap (λ (b : Body). is_some (value_in b)) (sym c.body.ensures.value ∙ w.in-Put.is) in
-          let puts : c.match-body.puts ≡ c.loop-index.puts ++ Changed x ∷ [] = w.puts-is ∙ w.in_ok-push.ensures.ok ∙ ap (λ y. c.loop-index.puts ++ Changed y ∷ []) w.in_ok-copy.ensures.same in
+          let puts : c.match-body.puts ≡ c.loop-index.puts ++ Changed x ∷ [] =
+          w.puts-is ∙ w.in_ok-push.ensures.ok ∙ ap (λ y. c.loop-index.puts ++ Changed y ∷ []) w.in_ok-copy.ensures.same in
           record {
             kept = puts ∙ ap (λ l. l ++ Changed x ∷ []) before.kept ∙ put_added all i x at put;
             items = subst (All IsItem) (sym puts) (All-push IsItem c.loop-index.puts (Changed x) before.items c.body.ensures.change);
@@ -60,7 +62,8 @@ loop-index-preserved c =
 all_puts : (c : After-loop-index) → c.loop-index.puts ≡ entries_of (held_items c.args.self.now.held)
 all_puts c =
     let held = held_changes c.args.self.now.held in
-    let many : length held ≤ c.loop-index.index = subst (λ (m : SubMapRecord). length (held_changes m.held) ≤ c.loop-index.index) c.self.view_is
+    let many : length held ≤ c.loop-index.index =
+    subst (λ (m : SubMapRecord). length (held_changes m.held) ≤ c.loop-index.index) c.self.view_is
     (omega (arith, c.loop-index-test.false, c.len-index-end.ensures.count, count_is c.self.inside.held)) in
     c.loop-index.invariant.kept ∙ ap puts_of (take_all c.loop-index.index held many) ∙ sym (held_puts c.args.self.now.held)
 
@@ -73,17 +76,20 @@ returns-clause-floors c =
     subst (AreSwept (held_items c.args.self.now.held)) (sym (all_puts c)) (entries_swept c.args.self.now.held sound)
 
 -- the body of the change is a put
-is_put_there : (c : In-Some) (b : Body) → c.in-Some.change.now.body ≡ b → is_some (value_in b) ≡ true → leaves_value c.in-Some.change.now ≡ true
+is_put_there : (c : In-Some) (b : Body) → c.in-Some.change.now.body ≡ b → is_some (value_in b) ≡ true →
+    leaves_value c.in-Some.change.now ≡ true
 is_put_there c b is put = ap (λ (b : Body). is_some (value_in b)) is ∙ put
 
 pub returns-in_err-copy-clause-room : goal.returns-in_err-copy-clause-room
 returns-in_err-copy-clause-room c =
     let d = (goal.at.returns-in_err-copy-clause-room c).In-Some in
     put_on_err c.args.self.now.held c.loop-index.index c.in-Some.change.now (there d)
-    (is_put_there d c.body.result.now (sym c.body.ensures.value) (ap (λ (b : Body). is_some (value_in b)) c.in-Put.is)) c.from_residual.result
+    (is_put_there d c.body.result.now (sym c.body.ensures.value) (ap (λ (b : Body). is_some (value_in b)) c.in-Put.is))
+    c.from_residual.result
 
 pub returns-in_err-push-clause-room : goal.returns-in_err-push-clause-room
 returns-in_err-push-clause-room c =
     let d = (goal.at.returns-in_err-push-clause-room c).In-Some in
     put_on_err c.args.self.now.held c.loop-index.index c.in-Some.change.now (there d)
-    (is_put_there d c.body.result.now (sym c.body.ensures.value) (ap (λ (b : Body). is_some (value_in b)) c.in-Put.is)) c.from_residual-in_err-push.result
+    (is_put_there d c.body.result.now (sym c.body.ensures.value) (ap (λ (b : Body). is_some (value_in b)) c.in-Put.is))
+    c.from_residual-in_err-push.result

@@ -5,7 +5,8 @@ use Rattle.ds_submap.proofs.map.SubMap.take_packed.Goals as goal
 use Rattle.ds_submap.proofs.map.SubMap.take_packed.Goals.{After-take_packed}
 
 left : (c : After-take_packed) → Took c.self.inside.filter c.self.inside.held c.args.items c.take_packed.new.held c.take_packed.result
-left c = take_leaves c.self.inside.filter c.self.inside.held c.args.items c.take_packed.new.held c.take_packed.result c.self.invariant c.take_packed.ensures.sound c.take_packed.ensures.counted c.take_packed.ensures.stopped
+left c = take_leaves c.self.inside.filter c.self.inside.held c.args.items c.take_packed.new.held c.take_packed.result c.self.invariant
+    c.take_packed.ensures.sound c.take_packed.ensures.counted c.take_packed.ensures.stopped
 
 pub invariant_of-self : goal.invariant_of-self
 invariant_of-self c = (left c).map

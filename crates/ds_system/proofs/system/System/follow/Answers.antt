@@ -13,4 +13,5 @@ returns c =
     let after : SystemRecord = system_of i.rs i.numberers.items i.world went.new.file went.new.net i.made.items in
     subst (λ (l : List (List Move)). SystemEventLeads events.Follow (Moved l None went.result) c.args.self.now after) (sym c.of.ensures)
     (subst (λ (v : SystemRecord). SystemEventLeads events.Follow (Moved went.new.rounds.items None went.result) v after) c.self.view_is
-    (both_lead (system_of i.rs i.numberers.items i.world i.file i.net i.made.items) went.new.file went.new.net went.new.rounds.items went.result went.ensures))
+    (both_lead (system_of i.rs i.numberers.items i.world i.file i.net i.made.items) went.new.file went.new.net went.new.rounds.items
+    went.result went.ensures))

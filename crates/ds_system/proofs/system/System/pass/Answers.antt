@@ -11,5 +11,7 @@ returns-then-is_barred c = barred c.args.self.now c.args.event (sym c.is_barred.
 pub returns : goal.returns
 returns c =
     let i = c.self.inside in
-    subst (λ (v : SystemRecord). SystemEventLeads (events.World c.args.event) (Happened c.happen.result) v (system_of i.rs i.numberers.items c.happen.new.self i.file i.net i.made.items)) c.self.view_is
-    (passed (system_of i.rs i.numberers.items i.world i.file i.net i.made.items) c.args.event c.happen.result c.happen.new.self (sym c.is_barred.ensures ∙ c.if-is_barred.false) c.happen.ensures.leads c.happen.ensures.told)
+    subst (λ (v : SystemRecord). SystemEventLeads (events.World c.args.event) (Happened c.happen.result) v
+    (system_of i.rs i.numberers.items c.happen.new.self i.file i.net i.made.items)) c.self.view_is
+    (passed (system_of i.rs i.numberers.items i.world i.file i.net i.made.items) c.args.event c.happen.result c.happen.new.self
+    (sym c.is_barred.ensures ∙ c.if-is_barred.false) c.happen.ensures.leads c.happen.ensures.told)

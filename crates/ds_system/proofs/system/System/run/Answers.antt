@@ -8,4 +8,5 @@ pub returns-clause-laws : goal.returns-clause-laws
 returns-clause-laws c =
     let says = c.answers_say.ensures in
     let maps = subst (λ (v : SystemRecord). All IsMap v.world.maps) c.self-2.view_is c.map-map.ensures.maps in
-    laws_hold says.snapped says.paged says.journaled c.args.self.now c.happen_all-outcomes.new.self c.args.events c.happen_all-outcomes.result c.happen_all-outcomes.ensures.done maps
+    laws_hold says.snapped says.paged says.journaled c.args.self.now c.happen_all-outcomes.new.self c.args.events
+    c.happen_all-outcomes.result c.happen_all-outcomes.ensures.done maps

@@ -15,11 +15,14 @@ returns-in-File c =
     let went = c.submits-answer in
     let after : SystemRecord = system_of i.rs i.numberers.items i.world went.new.table i.net i.made.items in
     let rounds = went.new.rounds.items in
-    let out : c.moved.result ≡ moved_so rounds went.result = c.moved.ensures ∙ ap (λ (l : List (List Move)). moved_so l went.result) c.of.ensures in
+    let out : c.moved.result ≡ moved_so rounds went.result =
+    c.moved.ensures ∙ ap (λ (l : List (List Move)). moved_so l went.result) c.of.ensures in
     subst (λ (t : Table). SystemEventLeads (events.Submit t c.args.id c.args.unit) c.moved.result c.args.self.now after) (sym c.in-File.is)
     (subst (λ (o : SystemOutcome). SystemEventLeads (events.Submit File c.args.id c.args.unit) o c.args.self.now after) (sym out)
-    (subst (λ (v : SystemRecord). SystemEventLeads (events.Submit File c.args.id c.args.unit) (moved_so rounds went.result) v after) c.self.view_is
-    (submit_leads (system_of i.rs i.numberers.items i.world i.file i.net i.made.items) File c.args.id c.args.unit went.new.table rounds went.result went.ensures)))
+    (subst (λ (v : SystemRecord). SystemEventLeads (events.Submit File c.args.id c.args.unit) (moved_so rounds went.result) v after)
+    c.self.view_is
+    (submit_leads (system_of i.rs i.numberers.items i.world i.file i.net i.made.items) File c.args.id c.args.unit went.new.table rounds
+    went.result went.ensures)))
 
 pub returns-in-Net : goal.returns-in-Net
 returns-in-Net c =
@@ -27,8 +30,12 @@ returns-in-Net c =
     let went = c.submits-answer-in-Net in
     let after : SystemRecord = system_of i.rs i.numberers.items i.world i.file went.new.table i.made.items in
     let rounds = went.new.rounds.items in
-    let out : c.moved-in-Net.result ≡ moved_so rounds went.result = c.moved-in-Net.ensures ∙ ap (λ (l : List (List Move)). moved_so l went.result) c.of-in-Net.ensures in
-    subst (λ (t : Table). SystemEventLeads (events.Submit t c.args.id c.args.unit) c.moved-in-Net.result c.args.self.now after) (sym c.in-Net.is)
+    let out : c.moved-in-Net.result ≡ moved_so rounds went.result =
+    c.moved-in-Net.ensures ∙ ap (λ (l : List (List Move)). moved_so l went.result) c.of-in-Net.ensures in
+    subst (λ (t : Table). SystemEventLeads (events.Submit t c.args.id c.args.unit) c.moved-in-Net.result c.args.self.now after)
+    (sym c.in-Net.is)
     (subst (λ (o : SystemOutcome). SystemEventLeads (events.Submit Net c.args.id c.args.unit) o c.args.self.now after) (sym out)
-    (subst (λ (v : SystemRecord). SystemEventLeads (events.Submit Net c.args.id c.args.unit) (moved_so rounds went.result) v after) c.self.view_is
-    (submit_leads (system_of i.rs i.numberers.items i.world i.file i.net i.made.items) Net c.args.id c.args.unit went.new.table rounds went.result went.ensures)))
+    (subst (λ (v : SystemRecord). SystemEventLeads (events.Submit Net c.args.id c.args.unit) (moved_so rounds went.result) v after)
+    c.self.view_is
+    (submit_leads (system_of i.rs i.numberers.items i.world i.file i.net i.made.items) Net c.args.id c.args.unit went.new.table rounds
+    went.result went.ensures)))

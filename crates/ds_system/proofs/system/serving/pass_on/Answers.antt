@@ -1,4 +1,5 @@
-use Rattle.std.proofs.Common.{◌≡◌, ℕ, ◌≤◌, ◌+◌, ◌++◌, ◌∷◌, List, [], length, take, Some, None, inl, inr, refl, sym, ap, subst, ◌∙◌, arith, append_assoc, length-append}
+use Rattle.std.proofs.Common.{◌≡◌, ℕ, ◌≤◌, ◌+◌, ◌++◌, ◌∷◌, List, [], length, take, Some, None, inl, inr, refl, sym, ap, subst, ◌∙◌, arith}
+use Rattle.std.proofs.Common.{append_assoc, length-append}
 use Rattle.std.specs.List.{slice_get}
 use Rattle.std.specs.Option.{option_copied}
 use Rattle.std.proofs.lemmas.List.{append-nil, take_all}
@@ -17,7 +18,8 @@ use Rattle.ds_system.proofs.system.serving.pass_on.Goals as goal
 
 pub note-requires-clause-room : goal.note-requires-clause-room
 note-requires-clause-room c =
-    let made : length c.loop-index.made.items ≡ length c.args.made.now.items + length (offers (take c.loop-index.index c.args.actions.now)) =
+    let made : length c.loop-index.made.items ≡ length c.args.made.now.items + length (offers (take c.loop-index.index c.args.actions.now))
+    =
     ap length c.loop-index.invariant.made ∙ length-append c.args.made.now.items (offers (take c.loop-index.index c.args.actions.now)) in
     let few = few_of offer_of (take c.loop-index.index c.args.actions.now) in
     let less = less_taken c.args.actions.now c.loop-index.index in
@@ -25,7 +27,8 @@ note-requires-clause-room c =
 
 pub ask-requires-clause-in_place : goal.ask-requires-clause-in_place
 ask-requires-clause-in_place c =
-    all_at IsActionInPlace c.args.actions.now c.loop-index.index c.in-Some.action.now c.requires.in_place (sym (subst (λ o. option_copied o ≡ slice_get c.args.actions.now c.loop-index.index) c.in-Some.is c.get.ensures))
+    all_at IsActionInPlace c.args.actions.now c.loop-index.index c.in-Some.action.now c.requires.in_place
+    (sym (subst (λ o. option_copied o ≡ slice_get c.args.actions.now c.loop-index.index) c.in-Some.is c.get.ensures))
 
 pub ask-requires-clause-room : goal.ask-requires-clause-room
 ask-requires-clause-room c =
@@ -42,22 +45,27 @@ loop-index-preserved c =
     let at : slice_get acts i ≡ Some x = sym (subst (λ o. option_copied o ≡ slice_get acts i) c.in-Some.is c.get.ensures) in
     record {
       made = c.note.ensures.items ∙ (ap (λ (l : List ChangeRecord). l ++ offers (x ∷ [])) c.loop-index.invariant.made
-          ∙ (append_assoc c.args.made.now.items (offers (take i acts)) (offers (x ∷ [])) ∙ ap (λ (l : List ChangeRecord). c.args.made.now.items ++ l) (sym (taken_by offer_of acts i x at))));
+          ∙ (append_assoc c.args.made.now.items (offers (take i acts)) (offers (x ∷ [])) ∙
+          ap (λ (l : List ChangeRecord). c.args.made.now.items ++ l) (sym (taken_by offer_of acts i x at))));
       room = c.note.ensures.capacity ∙ c.loop-index.invariant.room;
       space = c.ask.ensures.capacity ∙ c.loop-index.invariant.space;
-      asked = subst (λ (l : List Command). AllAsked c.args.side l c.ask.new.replies.items c.args.world.now c.ask.new.world) (sym (taken_by command_of acts i x at))
-          (asked_more c.args.side (commands (take i acts)) c.loop-index.replies.items c.ask.new.replies.items c.args.world.now c.loop-index.world c.ask.new.world (command_of x) c.loop-index.invariant.asked c.ask.ensures.asked);
+      asked = subst (λ (l : List Command). AllAsked c.args.side l c.ask.new.replies.items c.args.world.now c.ask.new.world)
+          (sym (taken_by command_of acts i x at))
+          (asked_more c.args.side (commands (take i acts)) c.loop-index.replies.items c.ask.new.replies.items c.args.world.now
+          c.loop-index.world c.ask.new.world (command_of x) c.loop-index.invariant.asked c.ask.ensures.asked);
     }
 
 pub note-requires-clause-in_place : goal.note-requires-clause-in_place
 note-requires-clause-in_place c =
-    all_at IsActionInPlace c.args.actions.now c.loop-index.index c.in-Some.action.now c.requires.in_place (sym (subst (λ o. option_copied o ≡ slice_get c.args.actions.now c.loop-index.index) c.in-Some.is c.get.ensures))
+    all_at IsActionInPlace c.args.actions.now c.loop-index.index c.in-Some.action.now c.requires.in_place
+    (sym (subst (λ o. option_copied o ≡ slice_get c.args.actions.now c.loop-index.index) c.in-Some.is c.get.ensures))
 
 -- there is an action at each index below their count
 pub unreachable-requires : goal.unreachable-requires
 unreachable-requires c =
     let acts = c.args.actions.now in
-    let none : None ≡ slice_get acts c.loop-index.index = subst (λ o. option_copied o ≡ slice_get acts c.loop-index.index) c.in_default.is c.get.ensures in
+    let none : None ≡ slice_get acts c.loop-index.index =
+    subst (λ o. option_copied o ≡ slice_get acts c.loop-index.index) c.in_default.is c.get.ensures in
     elim (slice_get_cases acts c.loop-index.index).1 [
       | inl h ↦ (let no : None ≡ Some h.0 = none ∙ h.2 in absurd (cc))
       | inr h ↦ omega (arith, h.0, c.loop-index-test.true, c.len-index-end.ensures)
@@ -68,17 +76,21 @@ loop-index-init c = record {
   made = sym (append-nil c.args.made.now.items);
   room = refl;
   space = refl;
-  asked = subst (λ (l : List Reply). AllAsked c.args.side [] l c.args.world.now c.args.world.now) (sym c.requires.none) (asked_none c.args.side c.args.world.now);
+  asked = subst (λ (l : List Reply). AllAsked c.args.side [] l c.args.world.now c.args.world.now) (sym c.requires.none)
+      (asked_none c.args.side c.args.world.now);
 }
 
 pub returns-clause-made : goal.returns-clause-made
 returns-clause-made c =
     let acts = c.args.actions.now in
-    let end : length acts ≤ c.loop-index.index = subst (λ (n : ℕ). n ≤ c.loop-index.index) c.len-index-end.ensures c.loop-index-test.false in
+    let end : length acts ≤ c.loop-index.index =
+    subst (λ (n : ℕ). n ≤ c.loop-index.index) c.len-index-end.ensures c.loop-index-test.false in
     c.loop-index.invariant.made ∙ ap (λ (l : List Action). c.args.made.now.items ++ offers l) (take_all c.loop-index.index acts end)
 
 pub returns-clause-asked : goal.returns-clause-asked
 returns-clause-asked c =
     let acts = c.args.actions.now in
-    let end : length acts ≤ c.loop-index.index = subst (λ (n : ℕ). n ≤ c.loop-index.index) c.len-index-end.ensures c.loop-index-test.false in
-    subst (λ (l : List Action). AllAsked c.args.side (commands l) c.loop-index.replies.items c.args.world.now c.loop-index.world) (take_all c.loop-index.index acts end) c.loop-index.invariant.asked
+    let end : length acts ≤ c.loop-index.index =
+    subst (λ (n : ℕ). n ≤ c.loop-index.index) c.len-index-end.ensures c.loop-index-test.false in
+    subst (λ (l : List Action). AllAsked c.args.side (commands l) c.loop-index.replies.items c.args.world.now c.loop-index.world)
+    (take_all c.loop-index.index acts end) c.loop-index.invariant.asked

@@ -8,7 +8,8 @@ use Rattle.ds_system.proofs.system.starting.over_parts.Goals as goal
 
 pub joined-requires : goal.joined-requires
 joined-requires c =
-    ap length c.requires.numberers ∙ (length-replicate (length c.args.settings.services) (numberer 0 0) ∙ sym (ap (λ (r : RsRecord). length r.settings.services) c.in_ok-rs.ensures))
+    ap length c.requires.numberers ∙ (length-replicate (length c.args.settings.services) (numberer 0 0) ∙
+    sym (ap (λ (r : RsRecord). length r.settings.services) c.in_ok-rs.ensures))
 
 pub returns : goal.returns
 returns c =

@@ -12,4 +12,5 @@ returns-clause-value c = bit_set c.self.inside.bits c.args.sub c.requires ∙ ap
 
 pub returns-clause-here : goal.returns-clause-here
 returns-clause-here c =
-    ap (λ (fs : List Bool). get_or fs c.args.sub false) (bit_set c.self.inside.bits c.args.sub c.requires) ∙ set_here (flags c.self.inside.bits) c.args.sub true (flags_long c.self.inside.bits) c.requires
+    ap (λ (fs : List Bool). get_or fs c.args.sub false) (bit_set c.self.inside.bits c.args.sub c.requires) ∙
+    set_here (flags c.self.inside.bits) c.args.sub true (flags_long c.self.inside.bits) c.requires

@@ -8,8 +8,10 @@ pub invariant_of-result : goal.invariant_of-result
 invariant_of-result c = clear_small c.self.inside.bits c.args.sub c.requires c.self.invariant
 
 pub returns-clause-value : goal.returns-clause-value
-returns-clause-value c = bit_cleared c.self.inside.bits c.args.sub c.requires ∙ ap (λ (fs : List Bool). set fs c.args.sub false) c.self.view_is
+returns-clause-value c = bit_cleared c.self.inside.bits c.args.sub c.requires ∙
+    ap (λ (fs : List Bool). set fs c.args.sub false) c.self.view_is
 
 pub returns-clause-here : goal.returns-clause-here
 returns-clause-here c =
-    ap (λ (fs : List Bool). get_or fs c.args.sub false) (bit_cleared c.self.inside.bits c.args.sub c.requires) ∙ set_here (flags c.self.inside.bits) c.args.sub false (flags_long c.self.inside.bits) c.requires
+    ap (λ (fs : List Bool). get_or fs c.args.sub false) (bit_cleared c.self.inside.bits c.args.sub c.requires) ∙
+    set_here (flags c.self.inside.bits) c.args.sub false (flags_long c.self.inside.bits) c.requires

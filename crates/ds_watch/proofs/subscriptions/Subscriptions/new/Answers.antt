@@ -9,10 +9,15 @@ invariant_of-result c = (
   c.default.ensures.long,
   c.requires,
   omega arith,
-  λ k l. elim (split 128 k) [ inl within ↦ c.default.ensures.at k None within | inr past ↦ get_or_past c.default.result k None (omega (arith, past, c.default.ensures.long)) ],
+  λ k l. elim (split 128 k) [
+    | inl within ↦ c.default.ensures.at k None within
+    | inr past ↦ get_or_past c.default.result k None
+        (omega (arith, past, c.default.ensures.long))
+  ],
 )
 
 pub returns : goal.returns
 returns c =
-    ap (take c.args.places) (replicate_by_place None None 128 c.default.result c.default.ensures.long (λ k l. c.default.ensures.at k None l))
+    ap (take c.args.places) (replicate_by_place None None 128 c.default.result c.default.ensures.long
+    (λ k l. c.default.ensures.at k None l))
     ∙ take-replicate c.args.places 128 None (omega arith)

@@ -8,7 +8,8 @@ use Rattle.ds_watch.proofs.subscriptions.Subscriptions.owed.Goals as goal
 pub returns : goal.returns
 returns c =
     let i = c.loop-i.invariant in
-    padded_by_used (watches c.args.key.now) None c.self.inside.count c.self.inside.used c.self.inside.places c.loop-i.owed i.long i.places c.self.invariant.1 c.self.invariant.2 refl c.self.invariant.3
+    padded_by_used (watches c.args.key.now) None c.self.inside.count c.self.inside.used c.self.inside.places c.loop-i.owed i.long i.places
+    c.self.invariant.1 c.self.invariant.2 refl c.self.invariant.3
     (λ k l. i.done k (omega (arith, l, c.loop-i-test.false))) (λ k l. i.rest k (omega (arith, l, c.loop-i-test.false)))
     ∙ ap (λ (ws : List (Option Watching)). padded (map (watches c.args.key.now) ws)) c.self.view_is
 

@@ -16,6 +16,7 @@ returns c =
     let d = c.index-self-sub.result in
     let within = place_within n sub ps (subst (λ (ws : List (Option Watching)). sub < length ws) (sym c.self.view_is) c.requires) in
     elim c.match-self-sub.branch [
-      | in-Some w ↦ ap the_view w.self-inside-is ∙ stamped_at n sub stamp ps d (Some w.in-Some.subscription) _ within.0 within.1 w.in-Some.is (ap Some w.set_stamp.ensures)
+      | in-Some w ↦ ap the_view w.self-inside-is ∙
+          stamped_at n sub stamp ps d (Some w.in-Some.subscription) _ within.0 within.1 w.in-Some.is (ap Some w.set_stamp.ensures)
       | in_default w ↦ ap the_view w.self-inside-is ∙ stamped_at n sub stamp ps d None _ within.0 within.1 w.in_default.is w.in_default.is
     ] ∙ ap (λ (ws : List (Option Watching)). set ws sub (option_map (stamped stamp) (get_or ws sub None))) c.self.view_is

@@ -21,8 +21,10 @@ returns-clause-leads c =
     let event = ClearMap c.args.map in
     let many : c.len.result ≡ length maps = omega (arith, c.len.ensures, c.self.inside.maps.ok.0) in
     let there = slice_get_read maps c.len.result c.args.map c.index_mut.result.now many c.if-map-len.false c.index_mut.ensures.value in
-    subst (λ (v : WorldRecord). EventLeads event Cleared v (world_of a b (slice_set maps c.args.map c.clear.new.self) messages)) c.self.view_is
-    (subst (λ (x : SubMapRecord). EventLeads event Cleared (world_of a b maps messages) (world_of a b (slice_set maps c.args.map x) messages)) (sym c.clear.ensures)
+    subst (λ (v : WorldRecord). EventLeads event Cleared v (world_of a b (slice_set maps c.args.map c.clear.new.self) messages))
+    c.self.view_is
+    (subst (λ (x : SubMapRecord). EventLeads event Cleared (world_of a b maps messages)
+    (world_of a b (slice_set maps c.args.map x) messages)) (sym c.clear.ensures)
     (map_cleared (world_of a b maps messages) c.args.map c.index_mut.result.now there))
 
 pub returns-clause-told : goal.returns-clause-told

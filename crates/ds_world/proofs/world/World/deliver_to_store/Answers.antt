@@ -24,7 +24,8 @@ returns-clause-leads c =
     let inside = c.self.inside in
     let value : WorldRecord = world_of inside.a inside.b inside.maps.items inside.messages.items in
     let items = items_lent c.in-Some.items in
-    let there : kept_items value.messages k ≡ Some items = subst (λ (l : List Reply). kept_items l k ≡ Some items) c.deref.ensures.value c.in-Some.ensures.some in
+    let there : kept_items value.messages k ≡ Some items =
+    subst (λ (l : List Reply). kept_items l k ≡ Some items) c.deref.ensures.value c.in-Some.ensures.some in
     let first = c.in-Some-first.ensures.some.0 in
     let few : count_of count items ≤ length items = c.in-Some-first.ensures.some.1 in
     let by_event = λ (side : Side). Deliver k (Store side) count in
@@ -34,13 +35,15 @@ returns-clause-leads c =
           let new = w.merge_all-tally.new.store in
           let taken = subst (λ (l : List Item). ItemsAreTaken value.a l (tally_of tally) new) first w.merge_all-tally.ensures in
           let to = to_a value k count items there few (tally_of tally) new taken in
-          carried (ap by_event (sym w.in-A.is)) (sym (c.outcome.ensures ∙ ap outcome_of w.tally-is)) c.self.view_is (sym w.self-is) (led value k count items there few (tally_of tally) A (record value { a = new }) to))
+          carried (ap by_event (sym w.in-A.is)) (sym (c.outcome.ensures ∙ ap outcome_of w.tally-is)) c.self.view_is (sym w.self-is)
+          (led value k count items there few (tally_of tally) A (record value { a = new }) to))
       | in-B w ↦
           (let tally = w.merge_all-tally-in-B.result in
           let new = w.merge_all-tally-in-B.new.store in
           let taken = subst (λ (l : List Item). ItemsAreTaken value.b l (tally_of tally) new) first w.merge_all-tally-in-B.ensures in
           let to = to_b value k count items there few (tally_of tally) new taken in
-          carried (ap by_event (sym w.in-B.is)) (sym (c.outcome.ensures ∙ ap outcome_of w.tally-is)) c.self.view_is (sym w.self-is) (led value k count items there few (tally_of tally) B (record value { b = new }) to))
+          carried (ap by_event (sym w.in-B.is)) (sym (c.outcome.ensures ∙ ap outcome_of w.tally-is)) c.self.view_is (sym w.self-is)
+          (led value k count items there few (tally_of tally) B (record value { b = new }) to))
     ]
 
 pub returns-clause-told : goal.returns-clause-told
@@ -50,7 +53,8 @@ returns-clause-told c =
     let inside = c.self.inside in
     let value : WorldRecord = world_of inside.a inside.b inside.maps.items inside.messages.items in
     let items = items_lent c.in-Some.items in
-    let there : kept_items value.messages k ≡ Some items = subst (λ (l : List Reply). kept_items l k ≡ Some items) c.deref.ensures.value c.in-Some.ensures.some in
+    let there : kept_items value.messages k ≡ Some items =
+    subst (λ (l : List Reply). kept_items l k ≡ Some items) c.deref.ensures.value c.in-Some.ensures.some in
     let first = c.in-Some-first.ensures.some.0 in
     let few : count_of count items ≤ length items = c.in-Some-first.ensures.some.1 in
     let by_event = λ (side : Side). Deliver k (Store side) count in
@@ -60,13 +64,15 @@ returns-clause-told c =
           let new = w.merge_all-tally.new.store in
           let taken = subst (λ (l : List Item). ItemsAreTaken value.a l (tally_of tally) new) first w.merge_all-tally.ensures in
           let to = to_a value k count items there few (tally_of tally) new taken in
-          told_so (ap by_event (sym w.in-A.is)) (sym (c.outcome.ensures ∙ ap outcome_of w.tally-is)) c.self.view_is (sym w.self-is) (store_told value k count items there few (tally_of tally) A (record value { a = new }) to refl))
+          told_so (ap by_event (sym w.in-A.is)) (sym (c.outcome.ensures ∙ ap outcome_of w.tally-is)) c.self.view_is (sym w.self-is)
+          (store_told value k count items there few (tally_of tally) A (record value { a = new }) to refl))
       | in-B w ↦
           (let tally = w.merge_all-tally-in-B.result in
           let new = w.merge_all-tally-in-B.new.store in
           let taken = subst (λ (l : List Item). ItemsAreTaken value.b l (tally_of tally) new) first w.merge_all-tally-in-B.ensures in
           let to = to_b value k count items there few (tally_of tally) new taken in
-          told_so (ap by_event (sym w.in-B.is)) (sym (c.outcome.ensures ∙ ap outcome_of w.tally-is)) c.self.view_is (sym w.self-is) (store_told value k count items there few (tally_of tally) B (record value { b = new }) to refl))
+          told_so (ap by_event (sym w.in-B.is)) (sym (c.outcome.ensures ∙ ap outcome_of w.tally-is)) c.self.view_is (sym w.self-is)
+          (store_told value k count items there few (tally_of tally) B (record value { b = new }) to refl))
     ]
 
 pub returns-in_default-clause-leads : goal.returns-in_default-clause-leads
@@ -74,8 +80,10 @@ returns-in_default-clause-leads c =
     let k = c.args.message in
     let inside = c.self.inside in
     let value : WorldRecord = world_of inside.a inside.b inside.maps.items inside.messages.items in
-    let none : kept_items value.messages k ≡ None = subst (λ (l : List Reply). kept_items l k ≡ None) c.deref.ensures.value c.in_default.ensures.none in
-    subst (λ (v : WorldRecord). EventLeads (Deliver k (Store c.args.side) c.args.count) (Refused NoMessage) v v) c.self.view_is (no_message value k c.args.count (Store c.args.side) none)
+    let none : kept_items value.messages k ≡ None =
+    subst (λ (l : List Reply). kept_items l k ≡ None) c.deref.ensures.value c.in_default.ensures.none in
+    subst (λ (v : WorldRecord). EventLeads (Deliver k (Store c.args.side) c.args.count) (Refused NoMessage) v v) c.self.view_is
+    (no_message value k c.args.count (Store c.args.side) none)
 
 pub returns-in_default-first-clause-leads : goal.returns-in_default-first-clause-leads
 returns-in_default-first-clause-leads c =
@@ -83,7 +91,8 @@ returns-in_default-first-clause-leads c =
     let inside = c.self.inside in
     let value : WorldRecord = world_of inside.a inside.b inside.maps.items inside.messages.items in
     let items = items_lent c.in-Some.items in
-    let there : kept_items value.messages k ≡ Some items = subst (λ (l : List Reply). kept_items l k ≡ Some items) c.deref.ensures.value c.in-Some.ensures.some in
+    let there : kept_items value.messages k ≡ Some items =
+    subst (λ (l : List Reply). kept_items l k ≡ Some items) c.deref.ensures.value c.in-Some.ensures.some in
     subst (λ (v : WorldRecord). EventLeads (Deliver k (Store c.args.side) c.args.count) (Refused TooMany) v v) c.self.view_is
     (too_many_for_store value k c.args.count items there c.args.side c.in_default-first.ensures.few)
 

@@ -18,8 +18,10 @@ returns-clause-leads c =
     let maps = c.self.inside.maps.items in
     let command : Command = Merge (c.args.item.now ∷ []) in
     let free : gives_items command && nat_le most_messages (length messages) ≡ false = refl in
-    subst (λ (v : WorldRecord). EventLeads (Ask c.args.side command) (Replied c.merge_one.result) v (world_of c.merge_one.new.a c.merge_one.new.b maps messages)) c.self.view_is
-    (replied c.self.inside.a c.self.inside.b c.merge_one.new.a c.merge_one.new.b maps messages c.args.side command c.merge_one.result c.merge_one.ensures.step free (none_given command c.merge_one.result refl c.merge_one.ensures.fits))
+    subst (λ (v : WorldRecord). EventLeads (Ask c.args.side command) (Replied c.merge_one.result) v
+    (world_of c.merge_one.new.a c.merge_one.new.b maps messages)) c.self.view_is
+    (replied c.self.inside.a c.self.inside.b c.merge_one.new.a c.merge_one.new.b maps messages c.args.side command c.merge_one.result
+    c.merge_one.ensures.step free (none_given command c.merge_one.result refl c.merge_one.ensures.fits))
 
 pub returns-clause-told : goal.returns-clause-told
 returns-clause-told c =
@@ -28,7 +30,12 @@ returns-clause-told c =
     let command : Command = Merge (c.args.item.now ∷ []) in
     let free : gives_items command && nat_le most_messages (length messages) ≡ false = refl in
     let none = none_given command c.merge_one.result refl c.merge_one.ensures.fits in
-    subst (λ (v : WorldRecord). IsTold (Ask c.args.side command) (Replied c.merge_one.result) v (world_of c.merge_one.new.a c.merge_one.new.b maps messages)) c.self.view_is (
+    subst (λ (v : WorldRecord). IsTold (Ask c.args.side command) (Replied c.merge_one.result) v
+    (world_of c.merge_one.new.a c.merge_one.new.b maps messages)) c.self.view_is (
       (λ i k. subst IsItem (sym (Contains-single c.args.item.now i k)) c.item_proof.ensures),
-      (replied_so c.self.inside.a c.self.inside.b c.merge_one.new.a c.merge_one.new.b maps messages c.args.side command c.merge_one.result c.merge_one.ensures.step free none c.merge_one.ensures.last, refl),
+      (
+        replied_so c.self.inside.a c.self.inside.b c.merge_one.new.a c.merge_one.new.b maps messages c.args.side command c.merge_one.result
+            c.merge_one.ensures.step free none c.merge_one.ensures.last,
+        refl,
+      ),
     )

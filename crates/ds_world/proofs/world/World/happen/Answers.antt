@@ -13,7 +13,8 @@ returns-clause-laws c =
     let says = c.answers_say.ensures in
     let went = c.carry_out-outcome in
     let told = told_alone c.args.event went.result c.args.self.now went.new.self went.ensures.leads went.ensures.told in
-    laws_hold says.snapped says.paged says.journaled c.args.self.now went.new.self ((c.args.event, went.result) ∷ []) told c.maps_proof.ensures
+    laws_hold says.snapped says.paged says.journaled c.args.self.now went.new.self ((c.args.event, went.result) ∷ []) told
+    c.maps_proof.ensures
 
 pub returns-clause-turns : goal.returns-clause-turns
 returns-clause-turns c =

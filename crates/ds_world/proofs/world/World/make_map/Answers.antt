@@ -23,19 +23,26 @@ returns-clause-leads c =
     let many : length maps ≡ c.len-number.result = omega (arith, c.len-number.ensures, c.self.inside.maps.ok.0) in
     let few : length maps < 64 = omega (arith, many, c.if-number-ge-MOST_MAPS.false) in
     let value = world_of a b maps messages in
-    let pattern : IsPattern query.text = subst (λ (m : SubMapRecord). IsPattern m.query.text) c.in-Ok.ensures.value c.in-Ok.ensures.pattern in
+    let pattern : IsPattern query.text = subst (λ (m : SubMapRecord). IsPattern m.query.text) c.in-Ok.ensures.value
+    c.in-Ok.ensures.pattern in
     elim c.match-push.branch [
       | in-Ok-push w ↦
           let pushed : c.push.new.self.items ≡ maps ++ c.in-Ok.map ∷ [] = rw w.in-Ok-push.is at c.push.ensures.items in
-          subst (λ (o : Outcome). EventLeads (NewMap query) o c.args.self.now (world_of a b c.push.new.self.items messages)) (ap MapMade many ∙ sym w.result-is)
-          (subst (λ (l : List SubMapRecord). EventLeads (NewMap query) (MapMade (length maps)) c.args.self.now (world_of a b l messages)) (sym pushed)
-          (subst (λ (v : WorldRecord). EventLeads (NewMap query) (MapMade (length maps)) v (world_of a b (maps ++ c.in-Ok.map ∷ []) messages)) c.self.view_is
+          subst (λ (o : Outcome). EventLeads (NewMap query) o c.args.self.now (world_of a b c.push.new.self.items messages))
+          (ap MapMade many ∙ sym w.result-is)
+          (subst (λ (l : List SubMapRecord). EventLeads (NewMap query) (MapMade (length maps)) c.args.self.now (world_of a b l messages))
+          (sym pushed)
+          (subst (λ (v : WorldRecord). EventLeads (NewMap query) (MapMade (length maps)) v
+          (world_of a b (maps ++ c.in-Ok.map ∷ []) messages)) c.self.view_is
           (map_made value query c.in-Ok.map few c.in-Ok.ensures.value pattern)))
       | in-Err-push w ↦
           let same : c.push.new.self.items ≡ maps = rw w.in-Err-push.is at c.push.ensures.items in
-          subst (λ (o : Outcome). EventLeads (NewMap query) o c.args.self.now (world_of a b c.push.new.self.items messages)) (sym w.result-is)
-          (subst (λ (l : List SubMapRecord). EventLeads (NewMap query) (Refused NoRoom) c.args.self.now (world_of a b l messages)) (sym same)
-          (subst (λ (v : WorldRecord). EventLeads (NewMap query) (Refused NoRoom) v value) c.self.view_is (map_noroom value query few pattern.limit)))
+          subst (λ (o : Outcome). EventLeads (NewMap query) o c.args.self.now (world_of a b c.push.new.self.items messages))
+          (sym w.result-is)
+          (subst (λ (l : List SubMapRecord). EventLeads (NewMap query) (Refused NoRoom) c.args.self.now (world_of a b l messages))
+          (sym same)
+          (subst (λ (v : WorldRecord). EventLeads (NewMap query) (Refused NoRoom) v value) c.self.view_is
+          (map_noroom value query few pattern.limit)))
     ]
 
 pub returns-clause-told : goal.returns-clause-told

@@ -18,12 +18,18 @@ returns-clause-leads c =
     let by_event = λ (side : Side). RestartStore side n in
     elim c.match-side.branch [
       | in-A w ↦
-          carried {outcome = Restarted} (ap by_event (sym w.in-A.is)) refl c.self.view_is (sym w.self-is) (restarted_a value n la lb w.restart.new.self w.restart.ensures)
+          carried {outcome = Restarted} (ap by_event (sym w.in-A.is)) refl c.self.view_is (sym w.self-is)
+          (restarted_a value n la lb w.restart.new.self w.restart.ensures)
       | in-B w ↦
-          carried {outcome = Restarted} (ap by_event (sym w.in-B.is)) refl c.self.view_is (sym w.self-is) (restarted_b value n la lb w.restart-in-B.new.self w.restart-in-B.ensures)
+          carried {outcome = Restarted} (ap by_event (sym w.in-B.is)) refl c.self.view_is (sym w.self-is)
+          (restarted_b value n la lb w.restart-in-B.new.self w.restart-in-B.ensures)
     ]
 
 pub returns-clause-told : goal.returns-clause-told
 returns-clause-told c =
     let messages = λ (v : WorldRecord). v.messages in
-    elim c.match-side.branch [ in-A w ↦ ap messages w.self-is ∙ ap messages c.self.view_is | in-B w ↦ ap messages w.self-is ∙ ap messages c.self.view_is ]
+    elim c.match-side.branch [
+      | in-A w ↦ ap messages w.self-is ∙ ap messages c.self.view_is
+      | in-B w ↦ ap messages w.self-is ∙
+          ap messages c.self.view_is
+    ]

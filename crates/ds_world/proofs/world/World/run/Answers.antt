@@ -7,14 +7,18 @@ use Rattle.ds_world.proofs.world.World.run.Goals as goal
 
 pub returns-clause-messages : goal.returns-clause-messages
 returns-clause-messages c =
-    let ran = c.happen_all-outcomes in
-    (replies_are_kept c.args.self.now ran.new.self (paired c.args.events ran.result) ran.ensures.told, messages_stay c.args.self.now ran.new.self (paired c.args.events ran.result) ran.ensures.told)
+    let ran = c.happen_all-outcomes in (
+      replies_are_kept c.args.self.now ran.new.self (paired c.args.events ran.result) ran.ensures.told,
+      messages_stay c.args.self.now
+          ran.new.self (paired c.args.events ran.result) ran.ensures.told,
+    )
 
 pub returns-clause-laws : goal.returns-clause-laws
 returns-clause-laws c =
     let says = c.answers_say.ensures in
     let ran = c.happen_all-outcomes in
-    laws_hold says.snapped says.paged says.journaled c.args.self.now ran.new.self (paired c.args.events ran.result) ran.ensures.told c.maps_proof.ensures
+    laws_hold says.snapped says.paged says.journaled c.args.self.now ran.new.self (paired c.args.events ran.result) ran.ensures.told
+    c.maps_proof.ensures
 
 pub returns-clause-turns : goal.returns-clause-turns
 returns-clause-turns c =

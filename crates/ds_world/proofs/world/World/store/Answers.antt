@@ -21,7 +21,8 @@ returns-in-A-clause-account c =
     let a = c.cursor.ensures.stood in
     let b = c.cursor-2.ensures.stood in
     subst (λ (v : WorldRecord). (known : Account) × IsFor known v) c.self.view_is
-    (some_account (world_of inside.a inside.b inside.maps.items inside.messages.items) a.0 b.0 a.1 b.1 c.self.invariant.0 c.self.invariant.1)
+    (some_account (world_of inside.a inside.b inside.maps.items inside.messages.items) a.0 b.0 a.1 b.1 c.self.invariant.0
+    c.self.invariant.1)
 
 pub returns-in-B-clause-stands : goal.returns-in-B-clause-stands
 returns-in-B-clause-stands c =
@@ -37,4 +38,5 @@ returns-in-B-clause-account c =
     let a = c.cursor.ensures.stood in
     let b = c.cursor-2.ensures.stood in
     subst (λ (v : WorldRecord). (known : Account) × IsFor known v) c.self.view_is
-    (some_account (world_of inside.a inside.b inside.maps.items inside.messages.items) a.0 b.0 a.1 b.1 c.self.invariant.0 c.self.invariant.1)
+    (some_account (world_of inside.a inside.b inside.maps.items inside.messages.items) a.0 b.0 a.1 b.1 c.self.invariant.0
+    c.self.invariant.1)

@@ -11,24 +11,29 @@ pub returns-in-A-clause-step : goal.returns-in-A-clause-step
 returns-in-A-clause-step c =
     λ w first second.
     let t = c.apply.ensures.step w.a first in
-    subst (λ (side : Side). (s : State) × Step (store_at w side) c.args.command c.apply.result s × ContentStands c.apply.new.self (with_state w side s).a × ContentStands c.args.b.now (with_state w side s).b)
+    subst (λ (side : Side). (s : State) × Step (store_at w side) c.args.command c.apply.result s ×
+    ContentStands c.apply.new.self (with_state w side s).a × ContentStands c.args.b.now (with_state w side s).b)
     (sym c.in-A.is) (t.0, t.1, t.2, second)
 
 pub returns-in-B-clause-step : goal.returns-in-B-clause-step
 returns-in-B-clause-step c =
     λ w first second.
     let t = c.apply-in-B.ensures.step w.b second in
-    subst (λ (side : Side). (s : State) × Step (store_at w side) c.args.command c.apply-in-B.result s × ContentStands c.args.a.now (with_state w side s).a × ContentStands c.apply-in-B.new.self (with_state w side s).b)
+    subst (λ (side : Side). (s : State) × Step (store_at w side) c.args.command c.apply-in-B.result s ×
+    ContentStands c.args.a.now (with_state w side s).a × ContentStands c.apply-in-B.new.self (with_state w side s).b)
     (sym c.in-B.is) (t.0, t.1, first, t.2)
 
 pub returns-in-A-clause-last : goal.returns-in-A-clause-last
-returns-in-A-clause-last c = λ w first second. subst (λ (side : Side). IsLast (store_at w side) c.args.command c.apply.result) (sym c.in-A.is) (c.apply.ensures.last w.a first)
+returns-in-A-clause-last c = λ w first second.
+    subst (λ (side : Side). IsLast (store_at w side) c.args.command c.apply.result) (sym c.in-A.is) (c.apply.ensures.last w.a first)
 
 pub returns-in-A-clause-fits : goal.returns-in-A-clause-fits
 returns-in-A-clause-fits c = c.apply.ensures.fits
 
 pub returns-in-B-clause-last : goal.returns-in-B-clause-last
-returns-in-B-clause-last c = λ w first second. subst (λ (side : Side). IsLast (store_at w side) c.args.command c.apply-in-B.result) (sym c.in-B.is) (c.apply-in-B.ensures.last w.b second)
+returns-in-B-clause-last c = λ w first second.
+    subst (λ (side : Side). IsLast (store_at w side) c.args.command c.apply-in-B.result) (sym c.in-B.is)
+    (c.apply-in-B.ensures.last w.b second)
 
 pub returns-in-B-clause-fits : goal.returns-in-B-clause-fits
 returns-in-B-clause-fits c = c.apply-in-B.ensures.fits

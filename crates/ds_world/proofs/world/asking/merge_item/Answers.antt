@@ -11,10 +11,13 @@ use Rattle.ds_world.proofs.world.asking.merge_item.Goals as goal
 
 pub returns-clause-step : goal.returns-clause-step
 returns-clause-step c =
-    subst (λ (x : List Item). ContentSteps c.args.store.now (λ s t. Step s (Merge x) c.fast_merge.result t) c.fast_merge.new.self) c.from_ref-items.ensures.value c.fast_merge.ensures.step
+    subst (λ (x : List Item). ContentSteps c.args.store.now (λ s t. Step s (Merge x) c.fast_merge.result t) c.fast_merge.new.self)
+    c.from_ref-items.ensures.value c.fast_merge.ensures.step
 
 pub returns-clause-last : goal.returns-clause-last
-returns-clause-last c = subst (λ (x : List Item). (s : State) → ContentStands c.args.store.now s → IsLast s (Merge x) c.fast_merge.result) c.from_ref-items.ensures.value c.fast_merge.ensures.last
+returns-clause-last c = subst (λ (x : List Item). (s : State) → ContentStands c.args.store.now s → IsLast s (Merge x) c.fast_merge.result)
+    c.from_ref-items.ensures.value c.fast_merge.ensures.last
 
 pub returns-clause-fits : goal.returns-clause-fits
-returns-clause-fits c = subst (λ (x : List Item). IsReplyTo (Merge x) c.fast_merge.result) c.from_ref-items.ensures.value c.fast_merge.ensures.fits
+returns-clause-fits c = subst (λ (x : List Item). IsReplyTo (Merge x) c.fast_merge.result) c.from_ref-items.ensures.value
+    c.fast_merge.ensures.fits

@@ -12,4 +12,5 @@ returns-clause-found c = λ _.
     let whole = subst (λ (it : LinesContent). IsUnbroken it.rest) (sym c.self.view_is) c.requires in
     subst (λ (old : LinesContent). GoesToLast old (lines_of more l.end end (l.count + 1) l.reads)) c.self.view_is
     (goes_last l.bytes.items more _ _ l.start l.end end l.count l.reads c.self.invariant l.bytes.ok.0
-    (λ e. c.if-self-len.false (e ∙ sym c.len.ensures)) (c.in_ok-push.ensures).items (c.len-self-inside.ensures ∙ c.push.new.self.ok.0) whole)
+    (λ e. c.if-self-len.false (e ∙ sym c.len.ensures)) (c.in_ok-push.ensures).items (c.len-self-inside.ensures ∙ c.push.new.self.ok.0)
+    whole)

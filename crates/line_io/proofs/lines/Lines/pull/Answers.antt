@@ -16,7 +16,8 @@ returns-then-front-gt-LONGEST_LINE-clause-pulls g c =
     (omega (arith, c.if-front-gt-LONGEST_LINE.true, ap length c.front.ensures, ap (λ (l : LinesContent). length l.rest) kept))
 
 pub returns-in-Failed-clause-told : goal.returns-in-Failed-clause-told
-returns-in-Failed-clause-told g c = λ first led. (c.loop-self.self.reads, inl (c.loop-self.reader, c.loop-self.invariant.led first led, (c.in-Failed.ensures).told))
+returns-in-Failed-clause-told g c = λ first led.
+    (c.loop-self.self.reads, inl (c.loop-self.reader, c.loop-self.invariant.led first led, (c.in-Failed.ensures).told))
 
 pub returns-clause-pulls : goal.returns-clause-pulls
 returns-clause-pulls g c =

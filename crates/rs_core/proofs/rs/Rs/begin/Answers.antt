@@ -13,7 +13,14 @@ pub invariant_of-self : goal.invariant_of-self
 invariant_of-self c =
     let s = c.self.inside in
     let r : Running =
-    record { endpoint = c.endpoint_at-endpoint.result; since = c.args.tick; beat = c.first_beat-beat.result; ping = c.args.tick; failures = c.args.failures } in
+    record {
+      endpoint = c.endpoint_at-endpoint.result;
+      since = c.args.tick;
+      beat = c.first_beat-beat.result;
+      ping = c.args.tick;
+      failures =
+          c.args.failures;
+    } in
     let within : c.args.place < length s.states.items =
     subst (λ (z : RsRecord). c.args.place < length z.states) (sym c.self.view_is) c.requires.within in
     let next : s.next ≤ 2097151 = subst (λ (z : RsRecord). z.next ≤ 2097151) (sym c.self.view_is) c.requires.next in
@@ -36,5 +43,7 @@ invariant_of-self c =
       slot = omega (arith, slot);
       failures = c.requires.failures;
     } in
-    subst (λ (z : SlotsRecord). IsRs s.settings (slice_set s.states.items c.args.place (Up r)) c.args.tick (s.next + 1) z) (sym c.take_next.ensures)
-    (kept_by_start s.settings s.states.items s.tick c.args.tick s.next s.slots c.args.place r c.self.invariant within c.requires.tick next free rest here slot)
+    subst (λ (z : SlotsRecord). IsRs s.settings (slice_set s.states.items c.args.place (Up r)) c.args.tick (s.next + 1) z)
+    (sym c.take_next.ensures)
+    (kept_by_start s.settings s.states.items s.tick c.args.tick s.next s.slots c.args.place r c.self.invariant within c.requires.tick next
+    free rest here slot)

@@ -26,5 +26,7 @@ invariant_of-self c =
     let up : get_or s.states.items c.args.place Down ≡ Up r =
     subst (λ (z : RsRecord). state_at z c.args.place ≡ Up r) (sym c.self.view_is) c.requires.up in
     subst (λ (z : SlotsRecord). IsRs s.settings (slice_set s.states.items c.args.place c.args.after) c.args.tick s.next z)
-    (sym (c.free.ensures ∙ ap (λ k. with_freed s.slots (k - c.first.result)) c.slot.ensures.value ∙ ap (λ k. with_freed s.slots (r.endpoint.slot - k)) c.first.ensures))
-    (kept_by_stop s.settings s.states.items s.tick c.args.tick s.next s.slots c.args.place r c.args.after c.self.invariant within c.requires.tick up c.requires.rest)
+    (sym (c.free.ensures ∙ ap (λ k. with_freed s.slots (k - c.first.result)) c.slot.ensures.value ∙
+    ap (λ k. with_freed s.slots (r.endpoint.slot - k)) c.first.ensures))
+    (kept_by_stop s.settings s.states.items s.tick c.args.tick s.next s.slots c.args.place r c.args.after c.self.invariant within
+    c.requires.tick up c.requires.rest)

@@ -11,4 +11,5 @@ invariant_of-self c =
     subst (λ (z : RsRecord). c.args.place < length z.states) (sym c.self.view_is) c.requires.within in
     let was : is_up (get_or s.states.items c.args.place Down) ≡ false =
     ap is_up (subst (λ (z : RsRecord). state_at z c.args.place ≡ Waiting c.args.pause) (sym c.self.view_is) c.requires.waiting) in
-    kept_at_rest s.settings s.states.items s.tick c.args.tick s.next s.slots c.args.place Down c.self.invariant within c.requires.tick was tt
+    kept_at_rest s.settings s.states.items s.tick c.args.tick s.next s.slots c.args.place Down c.self.invariant within c.requires.tick was
+    tt

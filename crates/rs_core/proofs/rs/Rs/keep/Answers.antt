@@ -15,6 +15,9 @@ invariant_of-self c =
     subst (λ (z : RsRecord). c.args.place < length z.states) (sym c.self.view_is) c.requires.within in
     let up : get_or s.states.items c.args.place Down ≡ Up r =
     subst (λ (z : RsRecord). state_at z c.args.place ≡ Up r) (sym c.self.view_is) c.requires.up in
-    let was : IsRunning s.slots.first s.next r = up_keeps s.settings s.states.items s.tick s.next s.slots c.args.place r c.self.invariant within up in
-    let here : IsRunning s.slots.first s.next q = record { valid = was.valid; given = was.given; below = was.below; slot = was.slot; failures = was.failures } in
-    kept_by_change s.settings s.states.items s.tick c.args.tick s.next s.next s.slots c.args.place r q c.self.invariant within c.requires.tick (omega arith) c.self.invariant.spent up here refl
+    let was : IsRunning s.slots.first s.next r =
+    up_keeps s.settings s.states.items s.tick s.next s.slots c.args.place r c.self.invariant within up in
+    let here : IsRunning s.slots.first s.next q =
+    record { valid = was.valid; given = was.given; below = was.below; slot = was.slot; failures = was.failures } in
+    kept_by_change s.settings s.states.items s.tick c.args.tick s.next s.next s.slots c.args.place r q c.self.invariant within
+    c.requires.tick (omega arith) c.self.invariant.spent up here refl

@@ -9,7 +9,8 @@ use Rattle.rs_core.proofs.rs.Rs.next_key.Goals as goal
 pub returns-clause-within : goal.returns-clause-within
 returns-clause-within c =
     let s = c.self.inside in
-    rw c.next_key.ensures (subst (λ (r : RsRecord). (next_key s.slots < r.settings.slots) ↔ (up_count r.states < r.settings.slots)) c.self.view_is
+    rw c.next_key.ensures (subst (λ (r : RsRecord). (next_key s.slots < r.settings.slots) ↔ (up_count r.states < r.settings.slots))
+    c.self.view_is
     (next_key_within s.settings s.states.items s.tick s.next s.slots c.self.invariant))
 
 pub returns-clause-free : goal.returns-clause-free

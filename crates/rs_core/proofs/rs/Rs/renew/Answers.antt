@@ -13,8 +13,10 @@ invariant_of-self c =
     let new = c.args.settings in
     let free : renewal_fault c.args.self.now new ≡ None = sym c.renewal_fault.ensures.value ∙ c.in_default.is in
     let states : c.in-Ok.states.items ≡ map (λ (n : Service). state_of_label c.args.self.now n.label) new.services =
-    c.in-Ok.ensures.states ∙ ap (λ (l : List Service). map (λ (n : Service). state_of_label c.args.self.now n.label) l) c.services.ensures.value in
-    let same : c.in-Ok.states.items ≡ map (λ (n : Service). state_of_label (rs_of s.settings s.states.items s.tick s.next s.slots) n.label) new.services =
+    c.in-Ok.ensures.states ∙ ap (λ (l : List Service). map (λ (n : Service). state_of_label c.args.self.now n.label) l)
+    c.services.ensures.value in
+    let same : c.in-Ok.states.items ≡ map (λ (n : Service). state_of_label (rs_of s.settings s.states.items s.tick s.next s.slots) n.label)
+    new.services =
     states ∙ ap (λ (z : RsRecord). map (λ (n : Service). state_of_label z n.label) new.services) (sym c.self.view_is) in
     subst (λ (l : List State). IsRs new l s.tick s.next s.slots) (sym same)
     (kept_by_renewal s.settings new s.states.items s.tick s.next s.slots c.self.invariant c.services.ensures.settings

@@ -11,14 +11,17 @@ pub returns-clause-value : goal.returns-clause-value
 returns-clause-value c =
     let s = c.self.inside in
     let at : slice_get s.settings.services c.args.place ≡ Some c.in-Some.service.now =
-    ap (λ (l : List Service). slice_get l c.args.place) (sym c.services.ensures.value) ∙ (sym c.get.ensures ∙ ap option_copied c.in-Some.is) in
-    subst (λ (z : RsRecord). c.in-Some.service.now ≡ service_at z c.args.place) c.self.view_is (sym (get_or_from_slice_get s.settings.services c.args.place c.in-Some.service.now no_service at))
+    ap (λ (l : List Service). slice_get l c.args.place) (sym c.services.ensures.value) ∙
+    (sym c.get.ensures ∙ ap option_copied c.in-Some.is) in
+    subst (λ (z : RsRecord). c.in-Some.service.now ≡ service_at z c.args.place) c.self.view_is
+    (sym (get_or_from_slice_get s.settings.services c.args.place c.in-Some.service.now no_service at))
 
 pub returns-clause-service : goal.returns-clause-service
 returns-clause-service c =
     let s = c.self.inside in
     let at : slice_get s.settings.services c.args.place ≡ Some c.in-Some.service.now =
-    ap (λ (l : List Service). slice_get l c.args.place) (sym c.services.ensures.value) ∙ (sym c.get.ensures ∙ ap option_copied c.in-Some.is) in
+    ap (λ (l : List Service). slice_get l c.args.place) (sym c.services.ensures.value) ∙
+    (sym c.get.ensures ∙ ap option_copied c.in-Some.is) in
     let within : c.args.place < length s.states.items =
     subst (λ (z : RsRecord). c.args.place < length z.states) (sym c.self.view_is) c.requires in
     subst IsService (get_or_from_slice_get s.settings.services c.args.place c.in-Some.service.now no_service at)

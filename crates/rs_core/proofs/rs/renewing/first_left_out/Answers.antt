@@ -11,7 +11,8 @@ returns-then-is_left_out c =
     let i = c.loop-i.i in
     let at : slice_get ss i ≡ Some c.in-Some.service.now = sym (subst (λ o. option_copied o ≡ slice_get ss i) c.in-Some.is c.get.ensures) in
     let rest = first_left_out c.args.new.now (i + 1) (drop (i + 1) ss) (drop (i + 1) c.args.states.now) in
-    sym (left_out-step c.args.new.now ss c.args.states.now i c.in-Some.service.now c.index-states-i.result (omega arith) (omega arith) at c.index-states-i.is
+    sym (left_out-step c.args.new.now ss c.args.states.now i c.in-Some.service.now c.index-states-i.result (omega arith) (omega arith) at
+    c.index-states-i.is
     ∙ ap (λ (b : Bool). cond b (Some i) rest) (sym c.is_left_out.ensures ∙ c.if-is_left_out.true)) ∙ c.loop-i.invariant
 
 pub loop-i-preserved : goal.loop-i-preserved
@@ -20,5 +21,6 @@ loop-i-preserved c =
     let i = c.loop-i.i in
     let at : slice_get ss i ≡ Some c.in-Some.service.now = sym (subst (λ o. option_copied o ≡ slice_get ss i) c.in-Some.is c.get.ensures) in
     let rest = first_left_out c.args.new.now (i + 1) (drop (i + 1) ss) (drop (i + 1) c.args.states.now) in
-    sym (left_out-step c.args.new.now ss c.args.states.now i c.in-Some.service.now c.index-states-i.result (omega arith) (omega arith) at c.index-states-i.is
+    sym (left_out-step c.args.new.now ss c.args.states.now i c.in-Some.service.now c.index-states-i.result (omega arith) (omega arith) at
+    c.index-states-i.is
     ∙ ap (λ (b : Bool). cond b (Some i) rest) (sym c.is_left_out.ensures ∙ c.if-is_left_out.false)) ∙ c.loop-i.invariant

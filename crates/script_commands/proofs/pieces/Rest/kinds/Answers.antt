@@ -4,13 +4,16 @@ use Rattle.script_commands.proofs.ReadsLemmas.{exits_byte, misses_at}
 use Rattle.script_commands.proofs.pieces.Rest.kinds.Goals as goal
 
 pub returns-in_err-byte : goal.returns-in_err-byte
-returns-in_err-byte c = exits_byte 32 (one_part ℕ (λ n. (0 < n) × (n ≤ 15)) number_part) 1 (omega arith, omega arith) _ _ c.from_residual.ensures.1 c.in_err-byte.ensures.stop c.in_err-byte.ensures.none
+returns-in_err-byte c = exits_byte 32 (one_part ℕ (λ n. (0 < n) × (n ≤ 15)) number_part) 1 (omega arith, omega arith) _ _
+    c.from_residual.ensures.1 c.in_err-byte.ensures.stop c.in_err-byte.ensures.none
 
 pub returns-in_default : goal.returns-in_default
-returns-in_default c = misses_at _ _ _ c.stop_at.ensures (no_kinds c.stop_at.result c.args.self.now.bytes.now _ c.in_ok-byte.ensures.found c.stop_at.ensures c.in_default.ensures.none)
+returns-in_default c = misses_at _ _ _ c.stop_at.ensures
+    (no_kinds c.stop_at.result c.args.self.now.bytes.now _ c.in_ok-byte.ensures.found c.stop_at.ensures c.in_default.ensures.none)
 
 pub returns-in_default-of : goal.returns-in_default-of
 returns-in_default-of c =
     misses_at _ _ _ c.stop_at-in_default-of.ensures
-    (kinds_zero c.stop_at-in_default-of.result c.args.self.now.bytes.now _ c.in-Some.rest.now c.in-Some.number c.in_ok-byte.ensures.found c.stop_at-in_default-of.ensures
+    (kinds_zero c.stop_at-in_default-of.result c.args.self.now.bytes.now _ c.in-Some.rest.now c.in-Some.number c.in_ok-byte.ensures.found
+    c.stop_at-in_default-of.ensures
     c.in-Some.ensures.found c.in-Some.ensures.limit c.in_default-of.ensures)

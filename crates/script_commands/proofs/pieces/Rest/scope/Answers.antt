@@ -19,11 +19,16 @@ returns-in_err-kinds-clause-stop c =
     let exit = err_from_is_err_and c.from_residual-in_err-kinds.result c.from_residual-in_err-kinds.ensures.1 in
     rw (exit.1, exit.2) (misses _ _ _ c.in_err-kinds.ensures.room
     (scope_kinds_stops c.in-Some-quoted_at.text.now c.in_err-kinds.field-0.0 c.args.self.now.bytes.now _
-    (pattern_found c.in-Some-quoted_at.text.now c.args.self.now.bytes.now _ c.in-Some-quoted_at.rest.now c.in_ok-byte.ensures.found c.in-Some-quoted_at.ensures.found)
+    (pattern_found c.in-Some-quoted_at.text.now c.args.self.now.bytes.now _ c.in-Some-quoted_at.rest.now c.in_ok-byte.ensures.found
+    c.in-Some-quoted_at.ensures.found)
     c.in_err-kinds.ensures.room c.in_err-kinds.ensures.stop))
 
 pub returns-clause-found : goal.returns-clause-found
 unfolding ReadsOr
 returns-clause-found c =
-    let found = pattern_found c.in-Some-quoted_at.text.now c.args.self.now.bytes.now _ c.in-Some-quoted_at.rest.now c.in_ok-byte.ensures.found c.in-Some-quoted_at.ensures.found in
-    (found.0, finds _ (query_found c.in-Some-quoted_at.text.now c.args.self.now.bytes.now _ _ c.in_ok-kinds.kinds found c.in_ok-kinds.ensures.found))
+    let found = pattern_found c.in-Some-quoted_at.text.now c.args.self.now.bytes.now _ c.in-Some-quoted_at.rest.now
+    c.in_ok-byte.ensures.found c.in-Some-quoted_at.ensures.found in (
+      found.0,
+      finds _ (query_found c.in-Some-quoted_at.text.now c.args.self.now.bytes.now _ _ c.in_ok-kinds.kinds found
+          c.in_ok-kinds.ensures.found),
+    )

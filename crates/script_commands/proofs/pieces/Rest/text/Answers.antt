@@ -11,11 +11,13 @@ pub returns-in_err-byte-clause-stop : goal.returns-in_err-byte-clause-stop
 returns-in_err-byte-clause-stop c =
     let exit = err_from_is_err_and c.from_residual.result c.from_residual.ensures.1 in
     rw (exit.1, exit.2) (misses_at _ _ _ c.in_err-byte.ensures.stop
-    (no_byte 32 text_rest [] c.in_err-byte.field-0.0 c.args.self.now.bytes.now unbroken_none c.in_err-byte.ensures.stop c.in_err-byte.ensures.none))
+    (no_byte 32 text_rest [] c.in_err-byte.field-0.0 c.args.self.now.bytes.now unbroken_none c.in_err-byte.ensures.stop
+    c.in_err-byte.ensures.none))
 
 pub returns-in_default-clause-stop : goal.returns-in_default-clause-stop
 returns-in_default-clause-stop c =
-    misses_at _ _ _ c.stop_at.ensures (no_newline c.stop_at.result c.args.self.now.bytes.now c.byte.new.self.bytes.now c.in_ok-byte.ensures.found c.stop_at.ensures c.in_default.ensures)
+    misses_at _ _ _ c.stop_at.ensures (no_newline c.stop_at.result c.args.self.now.bytes.now c.byte.new.self.bytes.now
+    c.in_ok-byte.ensures.found c.stop_at.ensures c.in_default.ensures)
 
 pub returns-clause-found : goal.returns-clause-found
 returns-clause-found c =

@@ -21,10 +21,15 @@ returns-in-File-clause-answered c =
     (λ written. (
       out,
       written,
-      subst (λ (k : Device). ServersLead (λ a b. AnswersAssign k c.args.label.now a out b) c.args.self.now (servers_of s.services new s.net)) (sym c.in-File.is)
-          (subst (λ (v : ServersRecord). ServersLead (λ a b. AnswersAssign (devices.File c.in-File.major c.in-File.class) c.args.label.now a out b) v (servers_of s.services new s.net)) c.self.view_is
-          (file_called s.services s.file s.net new (Assign c.in-File.major (file_driver c.in-File.class c.args.label.now)) assign_text (no_moves c.assign.result)
-          (λ t stands. assign_step s.file new t stands c.in-File.major (file_driver c.in-File.class c.args.label.now) c.assign.result c.assign.ensures.answer c.assign.ensures.after c.assign.ensures.unchanged))),
+      subst (λ (k : Device). ServersLead (λ a b. AnswersAssign k c.args.label.now a out b) c.args.self.now
+          (servers_of s.services new s.net)) (sym c.in-File.is)
+          (subst (λ (v : ServersRecord). ServersLead
+          (λ a b. AnswersAssign (devices.File c.in-File.major c.in-File.class) c.args.label.now a out b) v
+          (servers_of s.services new s.net)) c.self.view_is
+          (file_called s.services s.file s.net new (Assign c.in-File.major (file_driver c.in-File.class c.args.label.now)) assign_text
+          (no_moves c.assign.result)
+          (λ t stands. assign_step s.file new t stands c.in-File.major (file_driver c.in-File.class c.args.label.now) c.assign.result
+          c.assign.ensures.answer c.assign.ensures.after c.assign.ensures.unchanged))),
     ))
     c.append_assignment.ensures.written
 
@@ -37,10 +42,14 @@ returns-in-Net-clause-answered c =
     (λ written. (
       out,
       written,
-      subst (λ (k : Device). ServersLead (λ a b. AnswersAssign k c.args.label.now a out b) c.args.self.now (servers_of s.services s.file new)) (sym c.in-Net.is)
-          (subst (λ (v : ServersRecord). ServersLead (λ a b. AnswersAssign (devices.Net c.in-Net.port) c.args.label.now a out b) v (servers_of s.services s.file new)) c.self.view_is
-          (net_called s.services s.file s.net new (Assign c.in-Net.port (net_driver c.args.label.now)) assign_text (no_moves c.assign-in-Net.result)
-          (λ t stands. assign_step s.net new t stands c.in-Net.port (net_driver c.args.label.now) c.assign-in-Net.result c.assign-in-Net.ensures.answer c.assign-in-Net.ensures.after c.assign-in-Net.ensures.unchanged))),
+      subst (λ (k : Device). ServersLead (λ a b. AnswersAssign k c.args.label.now a out b) c.args.self.now
+          (servers_of s.services s.file new)) (sym c.in-Net.is)
+          (subst (λ (v : ServersRecord). ServersLead (λ a b. AnswersAssign (devices.Net c.in-Net.port) c.args.label.now a out b) v
+          (servers_of s.services s.file new)) c.self.view_is
+          (net_called s.services s.file s.net new (Assign c.in-Net.port (net_driver c.args.label.now)) assign_text
+          (no_moves c.assign-in-Net.result)
+          (λ t stands. assign_step s.net new t stands c.in-Net.port (net_driver c.args.label.now) c.assign-in-Net.result
+          c.assign-in-Net.ensures.answer c.assign-in-Net.ensures.after c.assign-in-Net.ensures.unchanged))),
     ))
     c.append_assignment-in-Net.ensures.written
 
@@ -53,10 +62,15 @@ returns-in-File-clause-carried c =
     let out = assign_text (no_moves c.assign.result) in
     on_each c.append_assignment.result (
       out,
-      subst (λ (k : Device). ServersLead (λ a b. AnswersAssign k c.args.label.now a out b) c.args.self.now (servers_of s.services new s.net)) (sym c.in-File.is)
-          (subst (λ (v : ServersRecord). ServersLead (λ a b. AnswersAssign (devices.File c.in-File.major c.in-File.class) c.args.label.now a out b) v (servers_of s.services new s.net)) c.self.view_is
-          (file_called s.services s.file s.net new (Assign c.in-File.major (file_driver c.in-File.class c.args.label.now)) assign_text (no_moves c.assign.result)
-          (λ t stands. assign_step s.file new t stands c.in-File.major (file_driver c.in-File.class c.args.label.now) c.assign.result c.assign.ensures.answer c.assign.ensures.after c.assign.ensures.unchanged))),
+      subst (λ (k : Device). ServersLead (λ a b. AnswersAssign k c.args.label.now a out b) c.args.self.now
+          (servers_of s.services new s.net)) (sym c.in-File.is)
+          (subst (λ (v : ServersRecord). ServersLead
+          (λ a b. AnswersAssign (devices.File c.in-File.major c.in-File.class) c.args.label.now a out b) v
+          (servers_of s.services new s.net)) c.self.view_is
+          (file_called s.services s.file s.net new (Assign c.in-File.major (file_driver c.in-File.class c.args.label.now)) assign_text
+          (no_moves c.assign.result)
+          (λ t stands. assign_step s.file new t stands c.in-File.major (file_driver c.in-File.class c.args.label.now) c.assign.result
+          c.assign.ensures.answer c.assign.ensures.after c.assign.ensures.unchanged))),
     )
 
 pub returns-in-Net-clause-carried : goal.returns-in-Net-clause-carried
@@ -66,8 +80,12 @@ returns-in-Net-clause-carried c =
     let out = assign_text (no_moves c.assign-in-Net.result) in
     on_each c.append_assignment-in-Net.result (
       out,
-      subst (λ (k : Device). ServersLead (λ a b. AnswersAssign k c.args.label.now a out b) c.args.self.now (servers_of s.services s.file new)) (sym c.in-Net.is)
-          (subst (λ (v : ServersRecord). ServersLead (λ a b. AnswersAssign (devices.Net c.in-Net.port) c.args.label.now a out b) v (servers_of s.services s.file new)) c.self.view_is
-          (net_called s.services s.file s.net new (Assign c.in-Net.port (net_driver c.args.label.now)) assign_text (no_moves c.assign-in-Net.result)
-          (λ t stands. assign_step s.net new t stands c.in-Net.port (net_driver c.args.label.now) c.assign-in-Net.result c.assign-in-Net.ensures.answer c.assign-in-Net.ensures.after c.assign-in-Net.ensures.unchanged))),
+      subst (λ (k : Device). ServersLead (λ a b. AnswersAssign k c.args.label.now a out b) c.args.self.now
+          (servers_of s.services s.file new)) (sym c.in-Net.is)
+          (subst (λ (v : ServersRecord). ServersLead (λ a b. AnswersAssign (devices.Net c.in-Net.port) c.args.label.now a out b) v
+          (servers_of s.services s.file new)) c.self.view_is
+          (net_called s.services s.file s.net new (Assign c.in-Net.port (net_driver c.args.label.now)) assign_text
+          (no_moves c.assign-in-Net.result)
+          (λ t stands. assign_step s.net new t stands c.in-Net.port (net_driver c.args.label.now) c.assign-in-Net.result
+          c.assign-in-Net.ensures.answer c.assign-in-Net.ensures.after c.assign-in-Net.ensures.unchanged))),
     )

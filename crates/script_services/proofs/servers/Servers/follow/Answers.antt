@@ -27,9 +27,13 @@ returns-clause-answered c =
     (λ written. (
       out,
       written ∙ ap (λ (own : Result (List Move) TableFault). c.args.output.now.items ++ moves_text (all_in rounds) own) c.ended_by.ensures,
-      subst (λ (o : Option (List Item)). ServersLead (λ a b. AnswersFollow o a out b) c.args.self.now (servers_of s.services file net)) (sym there)
-          (subst (λ (v : ServersRecord). ServersLead (λ a b. AnswersFollow (Some held) a out b) v (servers_of s.services file net)) c.self.view_is
-          (both_lead s.services s.file s.net file net held rounds fault (subst (λ (l : List (List Move)). BothFollowed held s.file file s.net net l rounds fault) c.new-rounds.ensures.items c.both_follow-ended.ensures))),
+      subst (λ (o : Option (List Item)). ServersLead (λ a b. AnswersFollow o a out b) c.args.self.now (servers_of s.services file net))
+          (sym there)
+          (subst (λ (v : ServersRecord). ServersLead (λ a b. AnswersFollow (Some held) a out b) v (servers_of s.services file net))
+          c.self.view_is
+          (both_lead s.services s.file s.net file net held rounds fault
+          (subst (λ (l : List (List Move)). BothFollowed held s.file file s.net net l rounds fault) c.new-rounds.ensures.items
+          c.both_follow-ended.ensures))),
     ))
     c.append_moves.ensures.written
 
@@ -47,12 +51,20 @@ returns-clause-carried c =
     let there : map_items (option_copied c.args.map) ≡ Some held = ap (λ o. map_items (option_copied o)) c.in-Some.is in
     on_each c.append_moves.result (
       out,
-      subst (λ (o : Option (List Item)). ServersLead (λ a b. AnswersFollow o a out b) c.args.self.now (servers_of s.services file net)) (sym there)
-          (subst (λ (v : ServersRecord). ServersLead (λ a b. AnswersFollow (Some held) a out b) v (servers_of s.services file net)) c.self.view_is
-          (both_lead s.services s.file s.net file net held rounds fault (subst (λ (l : List (List Move)). BothFollowed held s.file file s.net net l rounds fault) c.new-rounds.ensures.items c.both_follow-ended.ensures))),
+      subst (λ (o : Option (List Item)). ServersLead (λ a b. AnswersFollow o a out b) c.args.self.now (servers_of s.services file net))
+          (sym there)
+          (subst (λ (v : ServersRecord). ServersLead (λ a b. AnswersFollow (Some held) a out b) v (servers_of s.services file net))
+          c.self.view_is
+          (both_lead s.services s.file s.net file net held rounds fault
+          (subst (λ (l : List (List Move)). BothFollowed held s.file file s.net net l rounds fault) c.new-rounds.ensures.items
+          c.both_follow-ended.ensures))),
     )
 
 -- without a map nothing happens
 pub returns-in_default-clause-carried : goal.returns-in_default-clause-carried
 returns-in_default-clause-carried c =
-    on_each c.append_nomap.result (nomap_line, subst (λ o. ServersLead (λ a b. AnswersFollow (map_items (option_copied o)) a nomap_line b) c.args.self.now c.args.self.now) (sym c.in_default.is) (λ s stands. (s, (refl, refl), stands)))
+    on_each c.append_nomap.result (
+      nomap_line,
+      subst (λ o. ServersLead (λ a b. AnswersFollow (map_items (option_copied o)) a nomap_line b) c.args.self.now
+          c.args.self.now) (sym c.in_default.is) (λ s stands. (s, (refl, refl), stands)),
+    )

@@ -19,10 +19,13 @@ returns-in-File-clause-answered c =
     (λ written. (
       out,
       written,
-      subst (λ (k : Server). ServersLead (λ a b. AnswersReply k c.args.endpoint c.args.id a out b) c.args.self.now (servers_of s.services new s.net)) (sym c.in-File.is)
-          (subst (λ (v : ServersRecord). ServersLead (λ a b. AnswersReply File c.args.endpoint c.args.id a out b) v (servers_of s.services new s.net)) c.self.view_is
+      subst (λ (k : Server). ServersLead (λ a b. AnswersReply k c.args.endpoint c.args.id a out b) c.args.self.now
+          (servers_of s.services new s.net)) (sym c.in-File.is)
+          (subst (λ (v : ServersRecord). ServersLead (λ a b. AnswersReply File c.args.endpoint c.args.id a out b) v
+          (servers_of s.services new s.net)) c.self.view_is
           (file_called s.services s.file s.net new (Reply c.args.endpoint c.args.id) answer_text (one_move c.reply.result)
-          (λ t stands. reply_step s.file new t stands c.args.endpoint c.args.id c.reply.result c.reply.ensures.answer c.reply.ensures.after c.reply.ensures.unchanged))),
+          (λ t stands. reply_step s.file new t stands c.args.endpoint c.args.id c.reply.result c.reply.ensures.answer c.reply.ensures.after
+          c.reply.ensures.unchanged))),
     ))
     c.append_answer.ensures.written
 
@@ -35,10 +38,13 @@ returns-in-Net-clause-answered c =
     (λ written. (
       out,
       written,
-      subst (λ (k : Server). ServersLead (λ a b. AnswersReply k c.args.endpoint c.args.id a out b) c.args.self.now (servers_of s.services s.file new)) (sym c.in-Net.is)
-          (subst (λ (v : ServersRecord). ServersLead (λ a b. AnswersReply Net c.args.endpoint c.args.id a out b) v (servers_of s.services s.file new)) c.self.view_is
+      subst (λ (k : Server). ServersLead (λ a b. AnswersReply k c.args.endpoint c.args.id a out b) c.args.self.now
+          (servers_of s.services s.file new)) (sym c.in-Net.is)
+          (subst (λ (v : ServersRecord). ServersLead (λ a b. AnswersReply Net c.args.endpoint c.args.id a out b) v
+          (servers_of s.services s.file new)) c.self.view_is
           (net_called s.services s.file s.net new (Reply c.args.endpoint c.args.id) answer_text (one_move c.reply-in-Net.result)
-          (λ t stands. reply_step s.net new t stands c.args.endpoint c.args.id c.reply-in-Net.result c.reply-in-Net.ensures.answer c.reply-in-Net.ensures.after c.reply-in-Net.ensures.unchanged))),
+          (λ t stands. reply_step s.net new t stands c.args.endpoint c.args.id c.reply-in-Net.result c.reply-in-Net.ensures.answer
+          c.reply-in-Net.ensures.after c.reply-in-Net.ensures.unchanged))),
     ))
     c.append_answer-in-Net.ensures.written
 
@@ -51,10 +57,13 @@ returns-in-File-clause-carried c =
     let out = answer_text (one_move c.reply.result) in
     on_each c.append_answer.result (
       out,
-      subst (λ (k : Server). ServersLead (λ a b. AnswersReply k c.args.endpoint c.args.id a out b) c.args.self.now (servers_of s.services new s.net)) (sym c.in-File.is)
-          (subst (λ (v : ServersRecord). ServersLead (λ a b. AnswersReply File c.args.endpoint c.args.id a out b) v (servers_of s.services new s.net)) c.self.view_is
+      subst (λ (k : Server). ServersLead (λ a b. AnswersReply k c.args.endpoint c.args.id a out b) c.args.self.now
+          (servers_of s.services new s.net)) (sym c.in-File.is)
+          (subst (λ (v : ServersRecord). ServersLead (λ a b. AnswersReply File c.args.endpoint c.args.id a out b) v
+          (servers_of s.services new s.net)) c.self.view_is
           (file_called s.services s.file s.net new (Reply c.args.endpoint c.args.id) answer_text (one_move c.reply.result)
-          (λ t stands. reply_step s.file new t stands c.args.endpoint c.args.id c.reply.result c.reply.ensures.answer c.reply.ensures.after c.reply.ensures.unchanged))),
+          (λ t stands. reply_step s.file new t stands c.args.endpoint c.args.id c.reply.result c.reply.ensures.answer c.reply.ensures.after
+          c.reply.ensures.unchanged))),
     )
 
 pub returns-in-Net-clause-carried : goal.returns-in-Net-clause-carried
@@ -64,8 +73,11 @@ returns-in-Net-clause-carried c =
     let out = answer_text (one_move c.reply-in-Net.result) in
     on_each c.append_answer-in-Net.result (
       out,
-      subst (λ (k : Server). ServersLead (λ a b. AnswersReply k c.args.endpoint c.args.id a out b) c.args.self.now (servers_of s.services s.file new)) (sym c.in-Net.is)
-          (subst (λ (v : ServersRecord). ServersLead (λ a b. AnswersReply Net c.args.endpoint c.args.id a out b) v (servers_of s.services s.file new)) c.self.view_is
+      subst (λ (k : Server). ServersLead (λ a b. AnswersReply k c.args.endpoint c.args.id a out b) c.args.self.now
+          (servers_of s.services s.file new)) (sym c.in-Net.is)
+          (subst (λ (v : ServersRecord). ServersLead (λ a b. AnswersReply Net c.args.endpoint c.args.id a out b) v
+          (servers_of s.services s.file new)) c.self.view_is
           (net_called s.services s.file s.net new (Reply c.args.endpoint c.args.id) answer_text (one_move c.reply-in-Net.result)
-          (λ t stands. reply_step s.net new t stands c.args.endpoint c.args.id c.reply-in-Net.result c.reply-in-Net.ensures.answer c.reply-in-Net.ensures.after c.reply-in-Net.ensures.unchanged))),
+          (λ t stands. reply_step s.net new t stands c.args.endpoint c.args.id c.reply-in-Net.result c.reply-in-Net.ensures.answer
+          c.reply-in-Net.ensures.after c.reply-in-Net.ensures.unchanged))),
     )

@@ -27,11 +27,15 @@ returns-in-File-clause-answered c =
     (λ written. (
       out,
       written,
-      subst (λ (k : Server). ServersLead (λ a b. AnswersSubmit k c.args.id c.args.unit (map_items (option_copied c.args.map)) a out b) c.args.self.now new) (sym c.in-File.is)
-          (subst (λ (o : Option (List Item)). ServersLead (λ a b. AnswersSubmit File c.args.id c.args.unit o a out b) c.args.self.now new) (sym there)
-          (subst (λ (v : ServersRecord). ServersLead (λ a b. AnswersSubmit File c.args.id c.args.unit (Some held) a out b) v new) c.self.view_is
+      subst (λ (k : Server). ServersLead (λ a b. AnswersSubmit k c.args.id c.args.unit (map_items (option_copied c.args.map)) a out b)
+          c.args.self.now new) (sym c.in-File.is)
+          (subst (λ (o : Option (List Item)). ServersLead (λ a b. AnswersSubmit File c.args.id c.args.unit o a out b) c.args.self.now new)
+          (sym there)
+          (subst (λ (v : ServersRecord). ServersLead (λ a b. AnswersSubmit File c.args.id c.args.unit (Some held) a out b) v new)
+          c.self.view_is
           (file_led s.services s.file s.net file held c.args.id c.args.unit rounds own
-          (subst (λ (l : List (List Move)). FollowedAndTaken held c.args.id c.args.unit s.file file l rounds own) c.new-rounds.ensures.items c.submits-own.ensures)))),
+          (subst (λ (l : List (List Move)). FollowedAndTaken held c.args.id c.args.unit s.file file l rounds own)
+          c.new-rounds.ensures.items c.submits-own.ensures)))),
     ))
     c.append_moves.ensures.written
 
@@ -49,11 +53,15 @@ returns-clause-answered c =
     (λ written. (
       out,
       written,
-      subst (λ (k : Server). ServersLead (λ a b. AnswersSubmit k c.args.id c.args.unit (map_items (option_copied c.args.map)) a out b) c.args.self.now new) (sym c.in-Net.is)
-          (subst (λ (o : Option (List Item)). ServersLead (λ a b. AnswersSubmit Net c.args.id c.args.unit o a out b) c.args.self.now new) (sym there)
-          (subst (λ (v : ServersRecord). ServersLead (λ a b. AnswersSubmit Net c.args.id c.args.unit (Some held) a out b) v new) c.self.view_is
+      subst (λ (k : Server). ServersLead (λ a b. AnswersSubmit k c.args.id c.args.unit (map_items (option_copied c.args.map)) a out b)
+          c.args.self.now new) (sym c.in-Net.is)
+          (subst (λ (o : Option (List Item)). ServersLead (λ a b. AnswersSubmit Net c.args.id c.args.unit o a out b) c.args.self.now new)
+          (sym there)
+          (subst (λ (v : ServersRecord). ServersLead (λ a b. AnswersSubmit Net c.args.id c.args.unit (Some held) a out b) v new)
+          c.self.view_is
           (net_led s.services s.file s.net net held c.args.id c.args.unit rounds own
-          (subst (λ (l : List (List Move)). FollowedAndTaken held c.args.id c.args.unit s.net net l rounds own) c.new-rounds.ensures.items c.submits-own-in-Net.ensures)))),
+          (subst (λ (l : List (List Move)). FollowedAndTaken held c.args.id c.args.unit s.net net l rounds own) c.new-rounds.ensures.items
+          c.submits-own-in-Net.ensures)))),
     ))
     c.append_moves-in-Net.ensures.written
 
@@ -71,11 +79,15 @@ returns-in-File-clause-carried c =
     let there : map_items (option_copied c.args.map) ≡ Some held = ap (λ o. map_items (option_copied o)) c.in-Some.is in
     on_each c.append_moves.result (
       out,
-      subst (λ (k : Server). ServersLead (λ a b. AnswersSubmit k c.args.id c.args.unit (map_items (option_copied c.args.map)) a out b) c.args.self.now new) (sym c.in-File.is)
-          (subst (λ (o : Option (List Item)). ServersLead (λ a b. AnswersSubmit File c.args.id c.args.unit o a out b) c.args.self.now new) (sym there)
-          (subst (λ (v : ServersRecord). ServersLead (λ a b. AnswersSubmit File c.args.id c.args.unit (Some held) a out b) v new) c.self.view_is
+      subst (λ (k : Server). ServersLead (λ a b. AnswersSubmit k c.args.id c.args.unit (map_items (option_copied c.args.map)) a out b)
+          c.args.self.now new) (sym c.in-File.is)
+          (subst (λ (o : Option (List Item)). ServersLead (λ a b. AnswersSubmit File c.args.id c.args.unit o a out b) c.args.self.now new)
+          (sym there)
+          (subst (λ (v : ServersRecord). ServersLead (λ a b. AnswersSubmit File c.args.id c.args.unit (Some held) a out b) v new)
+          c.self.view_is
           (file_led s.services s.file s.net file held c.args.id c.args.unit rounds own
-          (subst (λ (l : List (List Move)). FollowedAndTaken held c.args.id c.args.unit s.file file l rounds own) c.new-rounds.ensures.items c.submits-own.ensures)))),
+          (subst (λ (l : List (List Move)). FollowedAndTaken held c.args.id c.args.unit s.file file l rounds own)
+          c.new-rounds.ensures.items c.submits-own.ensures)))),
     )
 
 pub returns-clause-carried : goal.returns-clause-carried
@@ -90,11 +102,15 @@ returns-clause-carried c =
     let there : map_items (option_copied c.args.map) ≡ Some held = ap (λ o. map_items (option_copied o)) c.in-Some.is in
     on_each c.append_moves-in-Net.result (
       out,
-      subst (λ (k : Server). ServersLead (λ a b. AnswersSubmit k c.args.id c.args.unit (map_items (option_copied c.args.map)) a out b) c.args.self.now new) (sym c.in-Net.is)
-          (subst (λ (o : Option (List Item)). ServersLead (λ a b. AnswersSubmit Net c.args.id c.args.unit o a out b) c.args.self.now new) (sym there)
-          (subst (λ (v : ServersRecord). ServersLead (λ a b. AnswersSubmit Net c.args.id c.args.unit (Some held) a out b) v new) c.self.view_is
+      subst (λ (k : Server). ServersLead (λ a b. AnswersSubmit k c.args.id c.args.unit (map_items (option_copied c.args.map)) a out b)
+          c.args.self.now new) (sym c.in-Net.is)
+          (subst (λ (o : Option (List Item)). ServersLead (λ a b. AnswersSubmit Net c.args.id c.args.unit o a out b) c.args.self.now new)
+          (sym there)
+          (subst (λ (v : ServersRecord). ServersLead (λ a b. AnswersSubmit Net c.args.id c.args.unit (Some held) a out b) v new)
+          c.self.view_is
           (net_led s.services s.file s.net net held c.args.id c.args.unit rounds own
-          (subst (λ (l : List (List Move)). FollowedAndTaken held c.args.id c.args.unit s.net net l rounds own) c.new-rounds.ensures.items c.submits-own-in-Net.ensures)))),
+          (subst (λ (l : List (List Move)). FollowedAndTaken held c.args.id c.args.unit s.net net l rounds own) c.new-rounds.ensures.items
+          c.submits-own-in-Net.ensures)))),
     )
 
 -- without a map nothing happens

@@ -24,8 +24,10 @@ pub returns-clause-reads : goal.returns-clause-reads
 returns-clause-reads g c =
     let reader = c.args.reader.now in
     let none = subst (λ (l : LinesContent). CallsLead g.R.Source.reads l.reads reader reader) (sym c.in_ok-lines.ensures) refl in
-    subst (λ (l : LinesContent). ReadsLead g.R.Source c.in_ok-beginning.beginning.next reader c.begin.new.reader l.reads) (sym c.in_ok-recorder.ensures.opens.lines_are) (c.in_ok-beginning.ensures.reads reader none)
+    subst (λ (l : LinesContent). ReadsLead g.R.Source c.in_ok-beginning.beginning.next reader c.begin.new.reader l.reads)
+    (sym c.in_ok-recorder.ensures.opens.lines_are) (c.in_ok-beginning.ensures.reads reader none)
 
 pub returns-clause-ready : goal.returns-clause-ready
 returns-clause-ready g c =
-    subst (λ (l : LinesContent). IsReady l c.in_ok-beginning.beginning.next) (sym c.in_ok-recorder.ensures.opens.lines_are) c.in_ok-beginning.ensures.ready
+    subst (λ (l : LinesContent). IsReady l c.in_ok-beginning.beginning.next) (sym c.in_ok-recorder.ensures.opens.lines_are)
+    c.in_ok-beginning.ensures.ready

@@ -45,8 +45,10 @@ returns-clause-stopped g c form known begun =
 pub returns-in_err-write_out-in-Ok-clause-cause : goal.returns-in_err-write_out-in-Ok-clause-cause
 returns-in_err-write_out-in-Ok-clause-cause g c =
     carried c.from_residual.result WriteFault _ c.from_residual.ensures.1
-    (λ first led. failed_on g.W.Sink.writes g.W.Sink.fails c.args.writer.now c.run.new.writer c.write_out.new.writer c.in-Ok.ensures.led c.in_err-write_out-in-Ok.ensures.cause)
+    (λ first led. failed_on g.W.Sink.writes g.W.Sink.fails c.args.writer.now c.run.new.writer c.write_out.new.writer c.in-Ok.ensures.led
+    c.in_err-write_out-in-Ok.ensures.cause)
 
 pub returns-clause-cause : goal.returns-clause-cause
 returns-clause-cause g c first led =
-    settled_caused g.R.Source g.W.Sink c.in-Err.fault c.settled.result first c.run.new.reader c.args.writer.now c.run.new.writer c.settled.new.writer (c.in-Err.ensures.cause first led) c.settled.ensures.cause
+    settled_caused g.R.Source g.W.Sink c.in-Err.fault c.settled.result first c.run.new.reader c.args.writer.now c.run.new.writer
+    c.settled.new.writer (c.in-Err.ensures.cause first led) c.settled.ensures.cause

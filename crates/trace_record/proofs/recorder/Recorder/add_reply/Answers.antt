@@ -6,7 +6,8 @@ use Rattle.trace_record.proofs.recorder.Recorder.add_reply.Goals as goal
 pub returns-clause-adds : goal.returns-clause-adds
 returns-clause-adds c =
     let old = c.args.self.now in
-    let lines = c.as_slice.ensures.value ∙ c.in_ok-append_reply.ensures.written ∙ ap (λ (l : List ℕ). l ++ reply_lines c.args.wording c.args.reply.now old.header.limits) c.clear.ensures.items in
+    let lines = c.as_slice.ensures.value ∙ c.in_ok-append_reply.ensures.written ∙
+    ap (λ (l : List ℕ). l ++ reply_lines c.args.wording c.args.reply.now old.header.limits) c.clear.ensures.items in
     record {
       header = refl;
       lines = refl;

@@ -25,7 +25,9 @@ returns-clause-goes c =
             step = q.3;
             last = q.4;
             stands = subst (λ (k : ContentRecord). ContentStands k q.1) (sym a.store) q.5;
-            output = a.output ∙ ap (λ (w : Wording). old.output.items ++ (old.entry.text.items ++ marked (reply_lines w answer.reply old.header.limits))) c.in_ok-answer.ensures.wording;
+            output = a.output ∙ ap (λ (w : Wording).
+                old.output.items ++ (old.entry.text.items ++ marked (reply_lines w answer.reply old.header.limits)))
+                c.in_ok-answer.ensures.wording;
           },
     ))
     c.add_reply.ensures.adds

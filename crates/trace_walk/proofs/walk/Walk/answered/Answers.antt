@@ -17,33 +17,41 @@ returns-then-is_noroom-clause-goes g c =
     IfOk-weaker c.judge_noroom.result _ _
     (λ passed r b x.
     let text = r.reply ∙ sym (noroom_text b old.entry.lines old.store old.header from c.args.pass c.args.asked old.entry.text.items x) in
-    passed_over b old.entry.lines old.store old.header from c.args.pass c.args.asked old.entry.text.items x (sym c.line.ensures ∙ c.if-is_noroom.ensures.0 refl) w passed r.lines r.store r.header r.asked_is text
+    passed_over b old.entry.lines old.store old.header from c.args.pass c.args.asked old.entry.text.items x
+    (sym c.line.ensures ∙ c.if-is_noroom.ensures.0 refl) w passed r.lines r.store r.header r.asked_is text
     (λ one. r.becomes one b.state old.header.limits c.args.pass))
     c.judge_noroom.ensures.goes
 
 pub returns-then-is_noroom-clause-fails : goal.returns-then-is_noroom-clause-fails
 returns-then-is_noroom-clause-fails g c =
-    IfErr-weaker c.judge_noroom.result _ _ (λ fault is b x. subst (λ (f : WalkFault). IsFault b.front b.bytes f) (sym is) tt) c.judge_noroom.ensures.fault
+    IfErr-weaker c.judge_noroom.result _ _ (λ fault is b x. subst (λ (f : WalkFault). IsFault b.front b.bytes f) (sym is) tt)
+    c.judge_noroom.ensures.fault
 
 pub returns-in-Line-clause-goes : goal.returns-in-Line-clause-goes
 returns-in-Line-clause-goes g c =
     IfOk-weaker c.judge_line.result _ _
-    (λ passed goes b x. goes b (subst (λ (a : Asked). HearsAt b c.args.self.now (g.R.Source.remaining c.args.reader.now) c.args.pass a) c.in-Line.is x)) c.judge_line.ensures.goes
+    (λ passed goes b x. goes b (subst (λ (a : Asked). HearsAt b c.args.self.now (g.R.Source.remaining c.args.reader.now) c.args.pass a)
+    c.in-Line.is x)) c.judge_line.ensures.goes
 
 pub returns-in-Line-clause-fails : goal.returns-in-Line-clause-fails
 returns-in-Line-clause-fails g c =
     IfErr-weaker c.judge_line.result _ _
-    (λ fault fails b x. fails b (subst (λ (a : Asked). HearsAt b c.args.self.now (g.R.Source.remaining c.args.reader.now) c.args.pass a) c.in-Line.is x)) c.judge_line.ensures.fails
+    (λ fault fails b x. fails b (subst (λ (a : Asked). HearsAt b c.args.self.now (g.R.Source.remaining c.args.reader.now) c.args.pass a)
+    c.in-Line.is x)) c.judge_line.ensures.fails
 
 pub returns-in-Merge-clause-goes : goal.returns-in-Merge-clause-goes
 returns-in-Merge-clause-goes g c =
     IfOk-weaker c.judge_merge.result _ _
-    (λ passed goes b x. goes b c.args.pass (subst (λ (a : Asked). HearsAt b c.args.self.now (g.R.Source.remaining c.args.reader.now) c.args.pass a) c.in-Merge.is x)) c.judge_merge.ensures.goes
+    (λ passed goes b x. goes b c.args.pass (subst
+    (λ (a : Asked). HearsAt b c.args.self.now (g.R.Source.remaining c.args.reader.now) c.args.pass a) c.in-Merge.is x))
+    c.judge_merge.ensures.goes
 
 pub returns-in-Merge-clause-fails : goal.returns-in-Merge-clause-fails
 returns-in-Merge-clause-fails g c =
     IfErr-weaker c.judge_merge.result _ _
-    (λ fault fails b x. fails b c.args.pass (subst (λ (a : Asked). HearsAt b c.args.self.now (g.R.Source.remaining c.args.reader.now) c.args.pass a) c.in-Merge.is x)) c.judge_merge.ensures.fails
+    (λ fault fails b x. fails b c.args.pass (subst
+    (λ (a : Asked). HearsAt b c.args.self.now (g.R.Source.remaining c.args.reader.now) c.args.pass a) c.in-Merge.is x))
+    c.judge_merge.ensures.fails
 
 -- ---- reads and lines
 

@@ -21,8 +21,10 @@ returns-clause-goes g c =
     let reply = c.apply-reply.result in
     let step = c.apply-reply.ensures.step b.state x.stands in
     subst (λ (p : Passed). HasPassed b old.header new to p) (sym says.0)
-    (passes_said b old.entry.lines old.store old.header from pass asked old.entry.text.items x c.args.command f.asks reply step.0 (f.steps b.state step.0 reply step.1) before new to AsItStands
-    (reply_lines c.args.wording reply old.header.limits) (ap (λ (w : Wording). reply_lines w reply old.header.limits) f.words) says.1 refl refl refl step.2 (λ one. f.stays one b.state _)))
+    (passes_said b old.entry.lines old.store old.header from pass asked old.entry.text.items x c.args.command f.asks reply step.0
+    (f.steps b.state step.0 reply step.1) before new to AsItStands
+    (reply_lines c.args.wording reply old.header.limits) (ap (λ (w : Wording). reply_lines w reply old.header.limits) f.words) says.1 refl
+    refl refl step.2 (λ one. f.stays one b.state _)))
     c.says.ensures.goes
 
 pub returns-clause-fails : goal.returns-clause-fails
@@ -34,9 +36,11 @@ returns-clause-fails g c =
     let reply = c.apply-reply.result in
     let step = c.apply-reply.ensures.step b.state x.stands in
     let room : is_some (room_wanted reply) ≡ false = sym c.wants_room.ensures ∙ c.if-wants_room.false in
-    answered_fails b old.entry.lines old.store old.header from pass asked old.entry.text.items x c.args.command f.asks reply step.0 (f.steps b.state step.0 reply step.1)
+    answered_fails b old.entry.lines old.store old.header from pass asked old.entry.text.items x c.args.command f.asks reply step.0
+    (f.steps b.state step.0 reply step.1)
     (reply_lines c.args.wording reply old.header.limits) (ap (λ (w : Wording). reply_lines w reply old.header.limits) f.words) fault fails
-    (known_by b old.entry.lines old.store old.header from pass asked old.entry.text.items x c.args.wording c.args.command reply step.0 f room
+    (known_by b old.entry.lines old.store old.header from pass asked old.entry.text.items x c.args.wording c.args.command reply step.0 f
+    room
     step.1))
     c.says.ensures.fails
 

@@ -9,7 +9,8 @@ pub returns-in-Err-clause-fails : goal.returns-in-Err-clause-fails
 returns-in-Err-clause-fails g c b x =
     let old = c.args.self.now in
     c.in-Err.ensures.fails b.front b.bytes (b.front ++ asked_text c.args.pass c.args.asked) x.at
-    (reply_wanted b old.entry.lines old.store old.header (g.R.Source.remaining c.args.reader.now) c.args.pass c.args.asked old.entry.text.items x)
+    (reply_wanted b old.entry.lines old.store old.header (g.R.Source.remaining c.args.reader.now) c.args.pass c.args.asked
+    old.entry.text.items x)
 
 pub returns-in-Ok-clause-goes : goal.returns-in-Ok-clause-goes
 returns-in-Ok-clause-goes g c =
@@ -17,7 +18,8 @@ returns-in-Ok-clause-goes g c =
     (λ passed goes b x.
     let old = c.args.self.now in
     let w = c.in-Ok.ensures.there b.bytes (b.front ++ asked_text c.args.pass c.args.asked) x.at in
-    goes b (hears b old.entry.lines c.reply_line.new.lines old.store old.header (g.R.Source.remaining c.args.reader.now) (g.R.Source.remaining c.reply_line.new.reader) c.args.pass c.args.asked old.entry.text.items x w.0 w.1 w.2))
+    goes b (hears b old.entry.lines c.reply_line.new.lines old.store old.header (g.R.Source.remaining c.args.reader.now)
+    (g.R.Source.remaining c.reply_line.new.reader) c.args.pass c.args.asked old.entry.text.items x w.0 w.1 w.2))
     c.answered.ensures.goes
 
 pub returns-in-Ok-clause-fails : goal.returns-in-Ok-clause-fails
@@ -26,7 +28,8 @@ returns-in-Ok-clause-fails g c =
     (λ fault fails b x.
     let old = c.args.self.now in
     let w = c.in-Ok.ensures.there b.bytes (b.front ++ asked_text c.args.pass c.args.asked) x.at in
-    fails b (hears b old.entry.lines c.reply_line.new.lines old.store old.header (g.R.Source.remaining c.args.reader.now) (g.R.Source.remaining c.reply_line.new.reader) c.args.pass c.args.asked old.entry.text.items x w.0 w.1 w.2))
+    fails b (hears b old.entry.lines c.reply_line.new.lines old.store old.header (g.R.Source.remaining c.args.reader.now)
+    (g.R.Source.remaining c.reply_line.new.reader) c.args.pass c.args.asked old.entry.text.items x w.0 w.1 w.2))
     c.answered.ensures.fails
 
 -- ---- reads and lines
@@ -36,4 +39,5 @@ returns-in-Err-clause-reads g c = λ first led. c.in-Err.ensures.reads first led
 
 pub returns-in-Ok-clause-reads : goal.returns-in-Ok-clause-reads
 returns-in-Ok-clause-reads g c =
-    on_then g.R.Source c.answered.result c.args.self.now.entry.lines c.reply_line.new.lines c.answered.new.self.entry.lines c.args.reader.now c.reply_line.new.reader c.answered.new.reader c.in-Ok.ensures.reads c.answered.ensures.reads
+    on_then g.R.Source c.answered.result c.args.self.now.entry.lines c.reply_line.new.lines c.answered.new.self.entry.lines
+    c.args.reader.now c.reply_line.new.reader c.answered.new.reader c.in-Ok.ensures.reads c.answered.ensures.reads

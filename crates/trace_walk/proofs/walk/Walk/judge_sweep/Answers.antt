@@ -33,7 +33,8 @@ returns-clause-goes g c =
     let step = sweep_step old.header.format b.state swept.caller swept.owner swept.generation reply c.requires.format r.0 in
     let last = (older_sweep b.state swept.caller swept.owner swept.generation).1 in
     subst (λ (p : Passed). HasPassed b old.header new to p) (sym says.0)
-    (passes_said b old.entry.lines old.store old.header from c.args.pass (swept_line swept) old.entry.text.items x (Sweep swept.caller swept.owner swept.generation) refl reply last step before new to (Swept c.in_ok-reply.merges)
+    (passes_said b old.entry.lines old.store old.header from c.args.pass (swept_line swept) old.entry.text.items x
+    (Sweep swept.caller swept.owner swept.generation) refl reply last step before new to (Swept c.in_ok-reply.merges)
     (reply_lines AsMerge reply old.header.limits) refl says.1 refl refl refl r.1 (λ one. c.in_ok-reply.ensures.1 b.state x.stands traced)))
     c.says.ensures.goes
 
@@ -49,12 +50,16 @@ returns-clause-fails g c =
     let r = c.in_ok-reply.ensures.0 b.state x.stands traced in
     answered_fails b old.entry.lines old.store old.header from c.args.pass (swept_line swept) old.entry.text.items x
     (Sweep swept.caller swept.owner swept.generation) refl reply (older_sweep b.state swept.caller swept.owner swept.generation).1
-    (sweep_step old.header.format b.state swept.caller swept.owner swept.generation reply c.requires.format r.0) (reply_lines AsMerge reply old.header.limits) refl fault fails
-    (sweep_known b old.entry.lines old.store old.header from c.args.pass swept.caller swept.owner swept.generation old.entry.text.items x c.requires.line reply c.requires.format r.0))
+    (sweep_step old.header.format b.state swept.caller swept.owner swept.generation reply c.requires.format r.0)
+    (reply_lines AsMerge reply old.header.limits) refl fault fails
+    (sweep_known b old.entry.lines old.store old.header from c.args.pass swept.caller swept.owner swept.generation old.entry.text.items x
+    c.requires.line reply c.requires.format r.0))
     c.says.ensures.fails
 
 -- ---- reads and lines
 
 pub returns-in_err-reply-clause-reads : goal.returns-in_err-reply-clause-reads
 returns-in_err-reply-clause-reads g c =
-    carried_as c.from_residual.result NoRoom (λ r. Advances g.R.Source r c.args.self.now.entry.lines c.args.reader.now c.args.self.now.entry.lines c.args.reader.now) c.from_residual.ensures.1 (λ first led. tt)
+    carried_as c.from_residual.result NoRoom (λ r.
+    Advances g.R.Source r c.args.self.now.entry.lines c.args.reader.now c.args.self.now.entry.lines c.args.reader.now)
+    c.from_residual.ensures.1 (λ first led. tt)

@@ -1,0 +1,6 @@
+pub mod RepresentLemmas
+pub mod QuestionLemmas
+pub mod AnswerLemmas
+pub mod GatherLemmas
+pub mod NewsLemmas
+pub mod OpenLemmas

@@ -1,0 +1,4 @@
+pub mod JoinLemmas
+pub mod TakingLemmas
+pub mod ChangeLemmas
+pub mod JournalLemmas
