@@ -78,7 +78,7 @@ while some := it.recv(9999): print(some.decode(), end="")
 def complaints(host):
     """A server complains about a driver's instance by its endpoint, so a late complaint hits no newer instance."""
     server = '''
-while not os.path.exists("../../notes"): time.sleep(0.01)
+while not os.path.exists("../../notes") or "driver" not in open("../../notes").read(): time.sleep(0.01)
 note("self " + ask("complain 2/17"))
 note("first " + ask("complain 1/16").replace("\\n", "|"))
 while ask("retrieve d label") != "found 3/16": time.sleep(0.01)
