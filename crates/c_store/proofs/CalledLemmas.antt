@@ -1,11 +1,11 @@
 -- How a request is answered, and what some requests stand for.
 use Rattle.std.proofs.Common.{◌≡◌, ℕ, Bool, true, false, cond, List, inl, refl, sym, ap, ◌∙◌, subst, arith}
-use Rattle.std.specs.Prelude.{Option, Some, None, Result, Ok, Err, IfOk, IsOk}
+use Rattle.std.specs.Prelude.{Option, Some, None, Result, Ok, Err, IfOk, OnErr}
 use Rattle.std.specs.Option.{option_map}
 use Rattle.ds_names.specs.Endpoint.{EndpointRecord, is_rs}
 use Rattle.ds_names.specs.declared.key.Key.{Key}
 use Rattle.ds_names.specs.declared.room.NoRoom as room
-use Rattle.ds_entry.specs.Change.{kind_of, IsInPlace}
+use Rattle.ds_entry.specs.Change.{ValueCopyTakesMemory}
 use Rattle.ds_entry.specs.declared.body.Value.{Value}
 use Rattle.ds_machine.specs.Asking.{name_of}
 use Rattle.ds_machine.specs.Machine.{live_at, found_or}
@@ -117,9 +117,8 @@ nameless_turn v endpoint stood is client = record {
 -- ---- the turn of a Retrieve that copies the value
 
 pub copied_turn : (v : ContentRecord) (key : Key) (value : Value) (copied : Result Value room.NoRoom) → ((s : State) × ContentStands v s) →
-    InEachState v (λ s. Some value ≡ live_at s key) → kind_of value ≡ key.kind
-    → IfOk copied (λ copy. copy ≡ value) → (IsInPlace value → IsOk copied) → Turn v (Retrieve key) (copy_reply copied) v
-copied_turn v key value (Ok copy) stood is kind same in_place =
+    InEachState v (λ s. Some value ≡ live_at s key) → IfOk copied (λ copy. copy ≡ value)
+    → OnErr copied (ValueCopyTakesMemory value) → Turn v (Retrieve key) (copy_reply copied) v
+copied_turn v key value (Ok copy) stood is same room =
     subst (λ (x : Value). Turn v (Retrieve key) (Found x) v) (sym same) (retrieve_turn v key (Some value) stood is)
-copied_turn v key value (Err want) stood is kind same in_place =
-    copyless_turn v key value stood is kind (λ p. let no : false ≡ true = in_place p in absurd (cc))
+copied_turn v key value (Err want) stood is same room = copyless_turn v key value stood is room

@@ -22,7 +22,7 @@ copy_in_place_needs_none old h c e b a = by_cause a.1
   where
     by_cause : ChangeTakesMemory old c → ⊥
     by_cause (inl none) = no_some h (sym none ∙ e)
-    by_cause (inr away) = away b
+    by_cause (inr takes) = b takes
 
 pub held_owner_needs_none : HeldOwnerIsNotRefused
 held_owner_needs_none old g f fault e a = subst (λ o. AnswersFloor o (floor_count old) f.generation (Err fault)) e a

@@ -1,6 +1,6 @@
 -- What allocates nothing: a command for a key, or an owner, of which something is held.
 use Rattle.std.specs.Prelude.{◌≡◌, ℕ, Some, Err}
-use Rattle.ds_entry.specs.Change.{ChangeRecord, IsBodyInPlace}
+use Rattle.ds_entry.specs.Change.{ChangeRecord, BodyCopyTakesMemory}
 use Rattle.ds_entry.specs.declared.floor.Floor.{Floor}
 use Rattle.ds_join.specs.declared.merge.JoinFault.{JoinFault}
 use Rattle.ds_join.specs.declared.merge.JoinFault.TheVariants.{NoRoom}
@@ -12,10 +12,10 @@ use Rattle.ds_held.specs.Raise.{RaiseAnswer}
 abbrev pub HeldKeyNeedsNoRoom : Type 0
 HeldKeyNeedsNoRoom = (old : Holding) (h c : ChangeRecord) → held_for old c.key ≡ Some h → ¬ MergeAnswer old c (Err NoRoom)
 
--- A law: nor is the merge of a borrowed change whose body is kept in place.
+-- A law: nor is the merge of a borrowed change whose copy takes no memory.
 abbrev pub CopyInPlaceNeedsNoRoom : Type 0
 CopyInPlaceNeedsNoRoom =
-    (old : Holding) (h c : ChangeRecord) → held_for old c.key ≡ Some h → IsBodyInPlace c.body → ¬ IsMergeRefused old c NoRoom
+    (old : Holding) (h c : ChangeRecord) → held_for old c.key ≡ Some h → ¬ BodyCopyTakesMemory c.body → ¬ IsMergeRefused old c NoRoom
 
 -- A law: the floor of an owner who has one is never refused.
 abbrev pub HeldOwnerIsNotRefused : Type 0

@@ -3,7 +3,7 @@ use Rattle.std.specs.Prelude.{◌≡◌, ◌≢◌, ◌⊎◌, ℕ, ◌<◌, Boo
 use Rattle.std.specs.declared.cmp.Ordering.TheVariants.{Less, Greater}
 use Rattle.std.specs.FinMap.{insert}
 use Rattle.ds_names.specs.Version.{version_cmp}
-use Rattle.ds_entry.specs.Change.{ChangeRecord, IsBodyInPlace}
+use Rattle.ds_entry.specs.Change.{ChangeRecord, BodyCopyTakesMemory}
 use Rattle.ds_join.specs.declared.merge.Merge.{Merge}
 use Rattle.ds_join.specs.declared.merge.Merge.TheVariants.{Taken, Known, Stale}
 use Rattle.ds_join.specs.declared.merge.JoinFault.{JoinFault}
@@ -57,9 +57,9 @@ after_merge old c (Ok Known) = old
 after_merge old c (Ok Stale) = old
 after_merge old c (Err fault) = old
 
--- Whether copying the change takes memory: its key isn't held, or its body isn't kept in place.
+-- Whether taking a copy of the change takes memory: its key isn't held, or the copy of its body takes some.
 abbrev pub ChangeTakesMemory : Holding → ChangeRecord → Type 0
-ChangeTakesMemory held c = (held_for held c.key ≡ None) ⊎ (¬ IsBodyInPlace c.body)
+ChangeTakesMemory held c = (held_for held c.key ≡ None) ⊎ BodyCopyTakesMemory c.body
 
 -- Whether the borrowed change is refused by this fault: NoRoom only if it would be taken and takes memory.
 abbrev pub IsMergeRefused : Holding → ChangeRecord → JoinFault → Type 0

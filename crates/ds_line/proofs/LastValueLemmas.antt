@@ -9,8 +9,13 @@ use Rattle.ds_names.specs.Kind.{kind_place}
 use Rattle.ds_names.specs.declared.kind.Kind.{Kind}
 use Rattle.ds_names.specs.declared.kind.Kind.TheVariants.{Label, U32, Str, Mem}
 use Rattle.ds_entry.specs.Value.{IsText as IsPrintable, IsBlob}
+use Rattle.ds_entry.specs.ValueFault.{IsTextFault, IsBlobFault}
+use Rattle.ds_entry.specs.declared.blob.BlobFault.{BlobFault}
+use Rattle.ds_entry.specs.declared.blob.BlobFault.TheVariants as blobs
 use Rattle.ds_entry.specs.declared.body.Value.{Value}
 use Rattle.ds_entry.specs.declared.body.Value.TheVariants as values
+use Rattle.ds_entry.specs.declared.text.TextFault.{TextFault}
+use Rattle.ds_entry.specs.declared.text.TextFault.TheVariants as texts
 use Rattle.ds_line.specs.Part.{Class, Quoted, Hex, run_of}
 use Rattle.ds_line.specs.Spelling.{newline, quoted, value_part}
 use Rattle.ds_line.specs.Piece.{Found, Breaks, IsValueOf, last_value, StopsValue}
@@ -109,3 +114,13 @@ blob_missing bytes none =
       | values.Str t ↦ λ k b. omega (arith, ap kind_place k.of)
       | values.Mem m ↦ λ k b. none m rest k.valid b
     ] is begins)
+
+-- A text, or a blob, is refused for want of memory alone.
+pub text_lacks_room : (fault : TextFault) (text : List ℕ) → IsPrintable text → IsTextFault fault text → fault ≡ texts.NoRoom
+text_lacks_room texts.TooLong text is long = absurd (omega (arith, long, is.limit))
+text_lacks_room texts.BadText text is bad = absurd (bad.1 is.printable)
+text_lacks_room texts.NoRoom text is room = refl
+
+pub blob_lacks_room : (fault : BlobFault) (blob : List ℕ) → IsBlob blob → IsBlobFault fault blob → fault ≡ blobs.NoRoom
+blob_lacks_room blobs.TooLong blob is long = absurd (omega (arith, long, is.limit))
+blob_lacks_room blobs.NoRoom blob is room = refl

@@ -1,7 +1,7 @@
 -- The place of the first part that can't be read, for anything that consists of parts, such as a change or a command.
 use Rattle.std.specs.Prelude.{◌≡◌, ◌≢◌, ℕ, zero, suc, ◌+◌, List, [], ◌∷◌, ◌++◌, length}
 use Rattle.ds_names.specs.Run.{Begins}
-use Rattle.ds_entry.specs.Change.{ChangeRecord, IsChange, IsBodyInPlace}
+use Rattle.ds_entry.specs.Change.{ChangeRecord, IsChange, BodyCopyTakesMemory}
 use Rattle.ds_line.specs.Part.{Part, run_of}
 use Rattle.ds_line.specs.Spelling.{change_parts, spelling}
 use Rattle.ds_line.specs.declared.fault.LineFault.{LineFault}
@@ -42,12 +42,12 @@ pub record IsLineFault (bytes : List ℕ) (place : ℕ) : Type 0 where
   pub none : HasNoLine bytes
   pub first : IsFaultPlace IsChange change_parts bytes place
 
--- Whether the bytes begin with the whole line of a put of a text or a blob, whose value takes memory.
+-- Whether the bytes begin with the whole line of a put of a text or a blob that isn't empty, whose value takes memory.
 pub record ItemLineTakesMemory (bytes : List ℕ) : Type 0 where
   pub change : ChangeRecord
   pub rest : List ℕ
   pub line : IsChange change
-  pub value : ¬ IsBodyInPlace change.body
+  pub value : BodyCopyTakesMemory change.body
   pub front : bytes ≡ spelling change ++ rest
 
 -- The meaning of a fault of a change's reader.

@@ -2,7 +2,7 @@
 use Rattle.std.specs.Prelude.{◌≡◌, ℕ, suc, List, [], ◌∷◌, length}
 use Rattle.ds_names.specs.declared.kind.Kind.{Kind}
 use Rattle.ds_entry.specs.declared.body.Value.{Value}
-use Rattle.ds_entry.specs.Change.{kind_of, IsValue, IsInPlace}
+use Rattle.ds_entry.specs.Change.{kind_of, IsValue, ValueCopyTakesMemory}
 use Rattle.ds_line.specs.Part.{Part}
 use Rattle.ds_line.specs.Spelling.{newline, value_part}
 use Rattle.ds_line.specs.FaultPlace.{Stand}
@@ -44,7 +44,7 @@ pub record IsValueOf (kind : Kind) (value : Value) : Type 0 where
 abbrev pub last_value : Kind → Piece
 last_value kind = record { Of = Value; Can = IsValueOf kind; parts = λ (value : Value). value_part value ∷ newline ∷ [] }
 
--- The meaning of a fault of a value's reader. Only texts and blobs run out of memory.
+-- The meaning of a fault of a value's reader. Only texts and blobs that aren't empty run out of memory.
 abbrev pub StopsValue : Kind → PartFault → List ℕ → Type 0
 StopsValue kind (BadPart left) bytes = StopsIn (last_value kind) (BadPart left) bytes
-StopsValue kind NoRoom bytes = (value : Value) × (rest : List ℕ) × Found (last_value kind) value bytes rest × ¬ IsInPlace value
+StopsValue kind NoRoom bytes = (value : Value) × (rest : List ℕ) × Found (last_value kind) value bytes rest × ValueCopyTakesMemory value

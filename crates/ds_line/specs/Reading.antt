@@ -8,7 +8,7 @@ use Rattle.ds_entry.specs.declared.body.Body.{Body}
 use Rattle.ds_entry.specs.declared.body.Body.TheVariants.{Put}
 use Rattle.ds_entry.specs.declared.item.Item.{Item}
 use Rattle.ds_entry.specs.declared.item.Item.TheVariants.{Change as Changed, Floor as Floored}
-use Rattle.ds_entry.specs.Change.{ChangeRecord, change_of, IsChange, IsBodyInPlace}
+use Rattle.ds_entry.specs.Change.{ChangeRecord, change_of, IsChange, BodyCopyTakesMemory}
 use Rattle.ds_line.specs.Part.{Part, part, byte, Name, Word, Number, texts}
 use Rattle.ds_line.specs.Spelling.{space, kind_word, change_parts, spelling}
 use Rattle.ds_line.specs.FaultPlace.{Stand, IsFaultIn}
@@ -76,12 +76,12 @@ pub record Completes (known : List Part) (c : ChangeRecord) (bytes rest : List �
   pub split : change_parts c ≡ known ++ further
   pub text : bytes ≡ texts further ++ rest
 
--- Whether the bytes begin with the further parts of a put of a text or a blob.
+-- Whether the bytes begin with the further parts of a put of a text or a blob that isn't empty.
 pub record CompletesInRoom (known : List Part) (bytes : List ℕ) : Type 0 where
   pub put : ChangeRecord
   pub rest : List ℕ
   pub completes : Completes known put bytes rest
-  pub value : ¬ IsBodyInPlace put.body
+  pub value : BodyCopyTakesMemory put.body
 
 -- The answer of a reader after the known parts: the change and the number of bytes after its line, or the number of bytes
 -- from the first part on that can't be read, or out of memory for the value.

@@ -16,7 +16,7 @@ use std::alloc::Global;
 /// read lines of their own that end with a value.
 ///
 /// Notes each of the two before it reads it. A label's value is `generation/slot`, of any generation. Refuses bytes that
-/// don't begin with the two as BadPart. Then reports NoRoom if memory runs out, which only texts and blobs take.
+/// don't begin with the two as BadPart. Then reports NoRoom if memory runs out, which only texts and blobs that aren't empty take.
 pub fn last_value_at<'a>(
     alloc: Global,
     kind: Kind,

@@ -27,7 +27,7 @@ use std::alloc::Global;
 /// Reads the change whose line is at the front, and returns it with the line's length, newline included.
 ///
 /// Refuses bytes that don't begin with a change's line as BadLine, with the place of the first part that can't be read.
-/// Then reports NoRoom if memory runs out, which only a put of a text or a blob takes.
+/// Then reports NoRoom if memory runs out, which only a put of a text or a blob that isn't empty takes.
 pub fn read_change(alloc: Global, bytes: &[u8]) -> Result<(Change, usize), LineFault>
     ensures line { IfOk result (λ r. IsChange r.0) }
     ensures found { IfOk result (λ r. take r.1 bytes.now ≡ spelling r.0) }

@@ -4,7 +4,7 @@ use Rattle.std.specs.Option.{option_map_or}
 use Rattle.ds_names.specs.declared.key.Key.{Key}
 use Rattle.ds_names.specs.declared.kind.Kind.{Kind}
 use Rattle.ds_names.specs.Endpoint.{EndpointRecord}
-use Rattle.ds_entry.specs.Change.{ChangeRecord, kind_of, IsInPlace, IsBodyInPlace, IsOfKind, IsChange}
+use Rattle.ds_entry.specs.Change.{ChangeRecord, kind_of, IsInPlace, BodyCopyTakesMemory, IsOfKind, IsChange}
 use Rattle.ds_entry.specs.declared.body.Body.{Body}
 use Rattle.ds_entry.specs.declared.body.Body.TheVariants.{Put}
 use Rattle.ds_entry.specs.declared.body.Value.{Value}
@@ -84,7 +84,7 @@ asked_taken v s a body c bits stands e made owes =
 
 -- memory may run out for a change that would take effect, if its key isn't held or its copy takes memory
 pub asked_lacks : (v : ContentRecord) (s : State) (a : AskedChange) (body : Body) → ContentStands v s → cause_against s a body ≡ None →
-    (held_at v.held a.key ≡ None) ⊎ (¬ IsBodyInPlace body) → MayLackAsked s a body
+    (held_at v.held a.key ≡ None) ⊎ BodyCopyTakesMemory body → MayLackAsked s a body
 asked_lacks v s a body stands e takes =
     (e, elim takes [ inl none ↦ inl (sym (ap (λ (hs : List Item). held_at hs a.key) stands.held) ∙ none) | inr copies ↦ inr copies ])
 

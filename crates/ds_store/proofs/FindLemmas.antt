@@ -1,10 +1,9 @@
 -- What a Retrieve and a NameOf find, in the words of a store's content.
 use Rattle.std.proofs.Common.{◌≡◌, ℕ, Bool, true, false, List, Option, Some, None, cond, ap, sym, refl, inl, inr}
-use Rattle.std.specs.Prelude.{is_some}
 use Rattle.std.specs.Option.{option_and_then, option_map}
 use Rattle.ds_names.specs.declared.key.Key.{Key}
 use Rattle.ds_names.specs.Endpoint.{EndpointRecord, is_rs}
-use Rattle.ds_entry.specs.Change.{kind_of, IsInPlace}
+use Rattle.ds_entry.specs.Change.{ValueCopyTakesMemory}
 use Rattle.ds_entry.specs.Left.{value_of}
 use Rattle.ds_entry.specs.declared.body.Value.{Value}
 use Rattle.ds_entry.specs.declared.item.Item.{Item}
@@ -20,7 +19,6 @@ use Rattle.ds_content.specs.Content.{ContentRecord}
 use Rattle.ds_content.specs.Stands.{ContentStands, InEachState}
 use Rattle.ds_store.specs.Finding.{label_name}
 use Rattle.ds_store.specs.Turns.{Turn}
-use Rattle.ds_store.proofs.AnswerLemmas.{kind_in_place}
 
 -- ---- a Retrieve
 
@@ -48,12 +46,11 @@ retrieve_turn v key live stood is = record {
 
 -- The turn of a Retrieve that runs out of memory to copy the value.
 pub copyless_turn : (v : ContentRecord) (key : Key) (value : Value) → ((s : State) × ContentStands v s) →
-    InEachState v (λ s. Some value ≡ live_at s key) → kind_of value ≡ key.kind
-    → ¬ IsInPlace value → Turn v (Retrieve key) (Refused NoRoom) v
-copyless_turn v key value stood is kind takes = record {
+    InEachState v (λ s. Some value ≡ live_at s key) → ValueCopyTakesMemory value → Turn v (Retrieve key) (Refused NoRoom) v
+copyless_turn v key value stood is takes = record {
   stood = stood;
   steps = λ s stands. (s, inl (inr (record { reply_is = refl; state_is = refl })), stands);
-  last = λ s stands. (sym (ap is_some (is s stands)), λ p. takes (kind_in_place key.kind value kind p));
+  last = λ s stands. (value, sym (is s stands), takes);
 }
 
 -- ---- a NameOf

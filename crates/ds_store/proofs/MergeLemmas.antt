@@ -8,7 +8,7 @@ use Rattle.std.proofs.lemmas.List.Folds.{list_any-append}
 use Rattle.std.proofs.lemmas.Option.{slice_get_within, slice_get_read, get_or_from_slice_get, slice_get_cases}
 use Rattle.std.specs.Prelude.{slice_get}
 use Rattle.std.specs.Option.{option_map_or}
-use Rattle.ds_entry.specs.Change.{ChangeRecord, IsBodyInPlace}
+use Rattle.ds_entry.specs.Change.{ChangeRecord, BodyCopyTakesMemory}
 use Rattle.ds_entry.specs.declared.item.Item.{Item}
 use Rattle.ds_entry.specs.declared.item.Item.TheVariants.{Change as Changed}
 use Rattle.ds_join.specs.Count.{counted, none_counted, CanCountOne}
@@ -329,6 +329,6 @@ stopped_last s items i item refusals.BadFirst o at lacks = tt
 
 -- memory may run out for a change that would take effect, if its key isn't held or its copy takes memory
 pub change_lacks : (v : ContentRecord) (s : State) (c : ChangeRecord) → ContentStands v s → cause_of s (Changed c) ≡ None →
-    (held_at v.held c.key ≡ None) ⊎ (¬ IsBodyInPlace c.body) → MayLackItem s (Changed c)
+    (held_at v.held c.key ≡ None) ⊎ BodyCopyTakesMemory c.body → MayLackItem s (Changed c)
 change_lacks v s c stands e takes =
     (e, elim takes [ inl none ↦ inl (sym (ap (λ (hs : List Item). held_at hs c.key) stands.held) ∙ none) | inr copies ↦ inr copies ])

@@ -4,9 +4,10 @@ use Rattle.std.specs.List.{find}
 use Rattle.ds_names.specs.declared.kind.Kind.{Kind}
 use Rattle.ds_names.specs.declared.kind.Kind.TheVariants.{Label, U32, Str, Mem}
 use Rattle.ds_names.specs.declared.version.Version.{Version}
-use Rattle.ds_entry.specs.Change.{IsBodyInPlace}
+use Rattle.ds_entry.specs.Change.{ValueCopyTakesMemory, BodyCopyTakesMemory}
 use Rattle.ds_entry.specs.Floor.{floor_of}
 use Rattle.ds_entry.specs.declared.body.Body.{Body}
+use Rattle.ds_entry.specs.declared.body.Value.{Value}
 use Rattle.ds_entry.specs.declared.body.Body.TheVariants.{Put, Gone}
 use Rattle.ds_entry.specs.declared.item.Item.{Item}
 use Rattle.ds_entry.specs.declared.item.Item.TheVariants.{Change as Changed, Floor as Floored}
@@ -62,9 +63,9 @@ IsKindInPlace Str = ⊥
 IsKindInPlace Mem = ⊥
 
 -- Whether the item takes memory when it takes effect. A change does if its key isn't held, or if its body is a text
--- or a blob; a floor does if its owner has none yet.
+-- or a blob that isn't empty; a floor does if its owner has none yet.
 abbrev pub MergeTakesMemory : State → Item → Type 0
-MergeTakesMemory s (Changed c) = (held_at (held s) c.key ≡ None) ⊎ (¬ IsBodyInPlace c.body)
+MergeTakesMemory s (Changed c) = (held_at (held s) c.key ≡ None) ⊎ BodyCopyTakesMemory c.body
 MergeTakesMemory s (Floored f) = floor_at (held s) f.owner ≡ None
 
 -- What the caller asks for takes effect, since no cause applies to it, and takes memory.
@@ -82,7 +83,7 @@ MayLackRoom s (Publish caller key version value overwrite) = MayLackAsked s (pub
 MayLackRoom s (Delete caller key version) = MayLackAsked s (deleted caller key version) Gone
 MayLackRoom s (Sweep caller owner generation) =
     let f = floor_of owner generation in (sweep_cause s caller f ≡ None) × MergeTakesMemory s (Floored f)
-MayLackRoom s (Retrieve key) = (is_some (live_at s key) ≡ true) × (¬ IsKindInPlace key.kind)
+MayLackRoom s (Retrieve key) = (value : Value) × (live_at s key ≡ Some value) × ValueCopyTakesMemory value
 MayLackRoom s (NameOf endpoint) = ⊥
 MayLackRoom s (Subscribe sub query initial overwrite) =
     find (against_subscribe (subscribe_case s sub query overwrite)) before_patterns ≡ None

@@ -1,7 +1,7 @@
 -- What reaches a store besides new changes.
 use Rattle.std.proofs.Common.{◌≡◌, ℕ, zero, suc, ◌≤◌, true, false, List, [], ◌∷◌, length, Some, None, refl, ap, sym, ◌∙◌, subst, arith}
 use Rattle.std.specs.List.{slice_get}
-use Rattle.ds_entry.specs.Change.{ChangeRecord, IsBodyInPlace, IsChange}
+use Rattle.ds_entry.specs.Change.{ChangeRecord, BodyCopyTakesMemory, IsChange}
 use Rattle.ds_entry.specs.Item.{IsItem}
 use Rattle.ds_entry.specs.declared.item.Item.TheVariants.{Change as Changed}
 use Rattle.ds_entry.proofs.Members.{Contains-single}
@@ -59,7 +59,7 @@ module _ (value : SystemRecord) where
     refl,
   )
 
-  pub no_room_again : (k : ℕ) (side : Side) (c : ChangeRecord) → slice_get value.made k ≡ Some c → ¬ IsBodyInPlace c.body →
+  pub no_room_again : (k : ℕ) (side : Side) (c : ChangeRecord) → slice_get value.made k ≡ Some c → BodyCopyTakesMemory c.body →
       SystemEventLeads (events.Again k side) (Refused refusals.NoRoom) value value
   no_room_again k side c e takes s st = (
     s,

@@ -1,7 +1,7 @@
 -- Which events a system refuses, and why, each by the first cause against it.
 use Rattle.std.specs.Prelude.{◌≡◌, ℕ, ◌≤◌, true, List, length, Some, None, Result, Err, IsOk}
 use Rattle.std.specs.List.{slice_get}
-use Rattle.ds_entry.specs.Change.{ChangeRecord, IsBodyInPlace}
+use Rattle.ds_entry.specs.Change.{ChangeRecord, BodyCopyTakesMemory}
 use Rattle.ds_entry.specs.declared.body.Body.TheVariants as bodies
 use Rattle.rs_core.specs.declared.fault.RsFault.{RsFault}
 use Rattle.rs_core.specs.declared.fault.RsFault.TheVariants as faults
@@ -27,11 +27,11 @@ abbrev pub IsWriteFault : Result Instance SystemFault → SystemFault → Type 0
 IsWriteFault judgement refusals.NoRoom = IsOk judgement
 IsWriteFault judgement fault = judgement ≡ Err fault
 
--- Whether the made change of this number puts a text or a blob, whose copy takes memory.
+-- Whether the made change of this number puts a text or a blob that isn't empty, whose copy takes memory.
 pub record CopyTakesMemory (made : List ChangeRecord) (k : ℕ) : Type 0 where
   pub change : ChangeRecord
   pub there : slice_get made k ≡ Some change
-  pub takes : ¬ IsBodyInPlace change.body
+  pub takes : BodyCopyTakesMemory change.body
 
 -- Whether the event is refused by this fault. No other fault refuses an event, and nothing refuses a Follow, a Submit
 -- or an Answered as a whole.

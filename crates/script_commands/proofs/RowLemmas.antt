@@ -3,8 +3,8 @@ use Rattle.std.proofs.Common.{◌≡◌, ◌≢◌, ℕ, ◌⊎◌, inl, inr, Li
 use Rattle.std.specs.Result.{IsErrAnd, MatchResult}
 use Rattle.ds_names.specs.declared.kind.Kind.{Kind}
 use Rattle.ds_names.specs.declared.kind.Kind.TheVariants.{U32}
-use Rattle.ds_entry.specs.Change.{IsInPlace}
-use Rattle.ds_entry.specs.Item.{IsItemInPlace}
+use Rattle.ds_entry.specs.Change.{ValueCopyTakesMemory}
+use Rattle.ds_entry.specs.Item.{ItemCopyTakesMemory}
 use Rattle.ds_line.specs.Piece.{Piece, Found, StopsIn}
 use Rattle.ds_line.specs.declared.part_fault.PartFault.{PartFault}
 use Rattle.ds_line.specs.declared.part_fault.PartFault.TheVariants.{BadPart, NoRoom}
@@ -26,8 +26,8 @@ use Rattle.script_commands.proofs.TableLemmas.{taken_by, IsRow, row_first, slots
 
 -- the contents of the slot take memory
 abbrev IsBig : (k : Kind) (s : Slot) → (piece_of k s).Of → Type 0
-IsBig k slots.Item i = ¬ IsItemInPlace i
-IsBig k slots.Value value = ¬ IsInPlace value
+IsBig k slots.Item i = ItemCopyTakesMemory i
+IsBig k slots.Value value = ValueCopyTakesMemory value
 IsBig k s x = ⊥
 
 -- as do those of the last slot of a row

@@ -9,7 +9,7 @@ use Rattle.ds_names.specs.declared.key.Key.{Key}
 use Rattle.ds_names.specs.declared.version.Version.{Version}
 use Rattle.ds_entry.specs.declared.body.Value.{Value}
 use Rattle.ds_entry.specs.declared.body.Body.TheVariants.{Put}
-use Rattle.ds_entry.specs.Change.{IsInPlace}
+use Rattle.ds_entry.specs.Change.{ValueCopyTakesMemory}
 use Rattle.ds_line.specs.Part.{part, byte, Word as AWord, Name, Number, Endpoint, Quoted}
 use Rattle.ds_line.specs.Spelling.{space, newline, kind_word, quoted, body_parts}
 use Rattle.ds_line.specs.Piece.{Piece, Found, IsValueOf}
@@ -91,7 +91,7 @@ a_value kind = record { Of = Value; Can = IsValueOf kind; parts = λ (value : Va
 
 -- A value of the kind that takes memory comes next, with its `=` and the newline.
 abbrev pub ValueTakesMemory : Kind → List ℕ → Type 0
-ValueTakesMemory kind bytes = (value : Value) × (rest : List ℕ) × Found (a_value kind) value bytes rest × ¬ IsInPlace value
+ValueTakesMemory kind bytes = (value : Value) × (rest : List ℕ) × Found (a_value kind) value bytes rest × ValueCopyTakesMemory value
 
 -- The newline.
 abbrev pub an_end : Piece

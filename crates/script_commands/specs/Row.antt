@@ -3,7 +3,7 @@ use Rattle.std.specs.Prelude.{◌≡◌, List, [], ◌∷◌, ℕ, Result, Ok, E
 use Rattle.ds_names.specs.declared.kind.Kind.{Kind}
 use Rattle.ds_names.specs.declared.kind.Kind.TheVariants.{U32}
 use Rattle.ds_entry.specs.declared.item.Item.{Item}
-use Rattle.ds_entry.specs.Item.{IsItemInPlace}
+use Rattle.ds_entry.specs.Item.{ItemCopyTakesMemory}
 use Rattle.ds_line.specs.Piece.{Found}
 use Rattle.ds_line.specs.declared.part_fault.PartFault.{PartFault}
 use Rattle.ds_line.specs.declared.part_fault.PartFault.TheVariants.{NoRoom}
@@ -60,7 +60,7 @@ command_in words.Reply x = Reply x.0 x.1.0 x.1.1.0
 
 -- An item that takes memory comes next.
 abbrev pub ItemTakesMemory : List ℕ → Type 0
-ItemTakesMemory bytes = (i : Item) × (rest : List ℕ) × Found an_item i bytes rest × ¬ IsItemInPlace i
+ItemTakesMemory bytes = (i : Item) × (rest : List ℕ) × Found an_item i bytes rest × ItemCopyTakesMemory i
 
 -- What comes next if memory runs out for the slot.
 abbrev pub slot_wants : Kind → Slot → List ℕ → Type 0

@@ -3,8 +3,8 @@ use Rattle.std.specs.Prelude.{◌≢◌, List, [], ◌∷◌, ◌++◌}
 use Rattle.ds_names.specs.declared.kind.Kind.{Kind}
 use Rattle.ds_names.specs.declared.kind.Kind.TheVariants.{U32}
 use Rattle.ds_entry.specs.declared.item.Item.{Item}
-use Rattle.ds_entry.specs.Change.{IsInPlace}
-use Rattle.ds_entry.specs.Item.{IsItem, IsItemInPlace}
+use Rattle.ds_entry.specs.Change.{ValueCopyTakesMemory}
+use Rattle.ds_entry.specs.Item.{IsItem, ItemCopyTakesMemory}
 use Rattle.ds_line.specs.Spelling.{space}
 use Rattle.ds_line.specs.ItemSpelling.{item_parts}
 use Rattle.ds_line.specs.Piece.{Piece}
@@ -119,8 +119,8 @@ line_of w = row_of U32 (slots_of w)
 -- which end the line, or a pattern or a scope.
 abbrev pub RowTakesMemory : (k : Kind) (ss : List Slot) → (row_of k ss).Of → Type 0
 RowTakesMemory k [] x = ⊥
-RowTakesMemory k (slots.Item ∷ []) i = ¬ IsItemInPlace i
-RowTakesMemory k (slots.Value ∷ []) value = ¬ IsInPlace value
+RowTakesMemory k (slots.Item ∷ []) i = ItemCopyTakesMemory i
+RowTakesMemory k (slots.Value ∷ []) value = ValueCopyTakesMemory value
 RowTakesMemory k (slots.Text ∷ []) text = text ≢ []
 RowTakesMemory k (s ∷ []) x = ⊥
 RowTakesMemory k (slots.Pattern ∷ t ∷ ss) x = Unit {0}

@@ -1,7 +1,7 @@
 //! Changes that take effect.
 
 ghost use Rattle.std.specs.Prelude.{◌≡◌, ◌∷◌, [], None, ◌⊎◌, IfOk, OnOk, OnErr};
-ghost use Rattle.ds_entry.specs.Change.{ChangeRecord, IsBodyInPlace};
+ghost use Rattle.ds_entry.specs.Change.{ChangeRecord, BodyCopyTakesMemory};
 ghost use Rattle.ds_entry.specs.declared.item.Item.TheVariants.{Change as Changed};
 ghost use Rattle.ds_held.specs.Kept.{IsPlace};
 ghost use Rattle.ds_machine.specs.Parts.{changes_in, held_at};
@@ -49,7 +49,7 @@ impl Content {
         requires free { IsFree (standing_in self.old change.now) change.now }
         ensures ok { OnOk result (StandsAfter self.old (λ s. takes_effect s (Changed change.now ∷ [])) self.new) }
         ensures err { OnErr result (self.new ≡ self.old) }
-        ensures wants { OnErr result ((held_at self.old.held change.now.key ≡ None) ⊎ (¬ IsBodyInPlace change.now.body)) }
+        ensures wants { OnErr result ((held_at self.old.held change.now.key ≡ None) ⊎ BodyCopyTakesMemory change.now.body) }
     {
         let held = change.body().copy(self.alloc)?;
         let listed = change.body().copy(self.alloc)?;

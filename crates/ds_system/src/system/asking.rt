@@ -2,7 +2,7 @@
 
 ghost use Rattle.std.specs.Prelude.{◌≡◌, slice_get, IfOk, OnErr};
 ghost use Rattle.std.specs.Option.{option_copied};
-ghost use Rattle.ds_entry.specs.Change.{IsBodyInPlace, IsChange};
+ghost use Rattle.ds_entry.specs.Change.{BodyCopyTakesMemory, IsChange};
 ghost use Rattle.ds_entry.specs.declared.item.Item.TheVariants.{Change as Changed};
 ghost use Rattle.ds_system.specs.Steps.{is_barred, is_bringing};
 ghost use Rattle.ds_system.specs.declared.event.SystemEvent.TheVariants as events;
@@ -16,11 +16,11 @@ use ds_names::NoRoom;
 use ds_replica::{Event, Side};
 use std::alloc::Global;
 
-// Returns a copy of a change, as an item. Takes memory only for a text or a blob.
+// Returns a copy of a change, as an item. Takes memory only for a text or a blob that isn't empty.
 fn item_of(alloc: Global, change: &Change) -> Result<Item, NoRoom>
     ensures item { IfOk result (λ item. item ≡ Changed change.now) }
     ensures change { IsChange change.now }
-    ensures room { OnErr result (¬ IsBodyInPlace change.now.body) }
+    ensures room { OnErr result (BodyCopyTakesMemory change.now.body) }
 {
     match change.copy(alloc) {
         Ok(copied) => Ok(Item::Change(copied)),

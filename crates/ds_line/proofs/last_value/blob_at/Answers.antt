@@ -4,7 +4,7 @@ use Rattle.ds_names.specs.declared.kind.Kind.TheVariants.{Mem}
 use Rattle.ds_entry.specs.declared.body.Value.TheVariants as values
 use Rattle.ds_line.specs.Part.{Hex, run_of}
 use Rattle.hex.specs.Hex.{encode_lower}
-use Rattle.ds_line.proofs.LastValueLemmas.{blob_missing, end_missing, value_whole, stops_value}
+use Rattle.ds_line.proofs.LastValueLemmas.{blob_missing, blob_lacks_room, end_missing, value_whole, stops_value}
 use Rattle.ds_line.proofs.last_value.blob_at.Goals as goal
 
 pub returns-in_default-clause-stop : goal.returns-in_default-clause-stop
@@ -32,5 +32,5 @@ returns-in-Err-clause-stop c =
       c.in-Some-read_byte.rest.now,
       value_whole Mem (values.Mem blob) c.args.bytes.now c.in-Some.rest.now c.in-Some-read_byte.rest.now
           (record { valid = c.in-Some.ensures.valid; of = refl }) c.in-Some.ensures.found c.in-Some-read_byte.ensures.found,
-      λ in_place. in_place,
+      c.in-Err.ensures.room (blob_lacks_room c.in-Err.field-0 blob c.in-Some.ensures.valid c.in-Err.ensures.refused),
     )

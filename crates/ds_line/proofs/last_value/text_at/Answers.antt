@@ -4,7 +4,7 @@ use Rattle.ds_names.specs.declared.kind.Kind.TheVariants.{Str}
 use Rattle.ds_entry.specs.declared.body.Value.TheVariants as values
 use Rattle.ds_line.specs.Part.{Quoted, run_of}
 use Rattle.ds_line.specs.Spelling.{quoted}
-use Rattle.ds_line.proofs.LastValueLemmas.{text_missing, end_missing, value_whole, stops_value}
+use Rattle.ds_line.proofs.LastValueLemmas.{text_missing, text_lacks_room, end_missing, value_whole, stops_value}
 use Rattle.ds_line.proofs.last_value.text_at.Goals as goal
 
 pub returns-in_default-clause-stop : goal.returns-in_default-clause-stop
@@ -32,5 +32,5 @@ returns-in-Err-clause-stop c =
       c.in-Some-read_byte.rest.now,
       value_whole Str (values.Str text) c.args.bytes.now c.in-Some.rest.now c.in-Some-read_byte.rest.now
           (record { valid = c.in-Some.ensures.valid; of = refl }) c.in-Some.ensures.found c.in-Some-read_byte.ensures.found,
-      λ in_place. in_place,
+      c.in-Err.ensures.room (text_lacks_room c.in-Err.field-0 text c.in-Some.ensures.valid c.in-Err.ensures.refused),
     )

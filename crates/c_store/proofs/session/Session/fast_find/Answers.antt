@@ -25,7 +25,7 @@ returns-in-Some c =
     told_so c.args.self.now c.args.self.now c.tell_copy.new.self c.tell_copy.new.answer (Retrieve c.args.key.now)
     (copy_reply c.copy-copied.result) refl c.store-store.result.now c.store-store.ensures
     (copied_turn c.store-store.result.now c.args.key.now c.in-Some.value.now c.copy-copied.result c.cursor-stood.ensures.stood
-    c.in-Some.ensures.live c.in-Some.ensures.kind c.copy-copied.ensures.same c.copy-copied.ensures.in_place)
+    c.in-Some.ensures.live c.copy-copied.ensures.same c.copy-copied.ensures.room)
     c.tell_copy.ensures
 
 pub returns-in-None : goal.returns-in-None

@@ -1,6 +1,6 @@
 use Rattle.std.proofs.Common.{◌≡◌, [], ◌∷◌, ◌++◌, None, map, ap, sym, ◌∙◌, subst, inl, Ok, ◌⊎◌}
 use Rattle.std.specs.FinMap.{insert}
-use Rattle.ds_entry.specs.Change.{ChangeRecord, IsBodyInPlace}
+use Rattle.ds_entry.specs.Change.{ChangeRecord, BodyCopyTakesMemory}
 use Rattle.ds_entry.specs.declared.item.Item.TheVariants.{Change as Changed}
 use Rattle.ds_feed.specs.Feed as feeds
 use Rattle.ds_feed.specs.Feed.{Feed}
@@ -56,7 +56,7 @@ returns-in_err-put_at-clause-wants c =
     held_at-is c.self.inside.held.held c.held-held.ensures.sound c.args.change.now.key ∙
     subst (λ (x : ChangeRecord). held_for c.self.inside.held.held x.key ≡ None) c.again.ensures c.in_err-put_at.ensures.new in
     on_err c.from_residual-in_err-put_at.result
-    ((held_at c.args.self.now.held c.args.change.now.key ≡ None) ⊎ (IsBodyInPlace c.args.change.now.body → ⊥))
+    ((held_at c.args.self.now.held c.args.change.now.key ≡ None) ⊎ BodyCopyTakesMemory c.args.change.now.body)
     (inl (subst (λ (v : ContentRecord). held_at v.held c.args.change.now.key ≡ None) c.self.view_is new))
 
 -- the copy was put, which is the change

@@ -1,5 +1,5 @@
 use Rattle.std.proofs.Common.{◌≡◌, [], ◌∷◌, None, Some, ◌⊎◌, ap, sym, ◌∙◌, subst, refl, inl, inr}
-use Rattle.ds_entry.specs.Change.{ChangeRecord, IsBodyInPlace}
+use Rattle.ds_entry.specs.Change.{ChangeRecord, BodyCopyTakesMemory}
 use Rattle.ds_entry.specs.declared.item.Item.TheVariants.{Change as Changed}
 use Rattle.ds_machine.specs.State.{takes_effect, owed}
 use Rattle.ds_machine.specs.Asking.{against_asked, change_asked, name_of, asked_in}
@@ -78,6 +78,6 @@ returns-clause-last c = λ e s stands.
     let change = c.change_asked-change.result in
     let here : ContentStands v s = subst (λ (x : ContentRecord). ContentStands x s) (sym c.self.view_is) stands in
     asked_lacks v s a c.args.body here (sym (c.cause_against.ensures.first s stands) ∙ c.in_default.is)
-    (subst (λ (x : ChangeRecord). (held_at v.held x.key ≡ None) ⊎ (¬ IsBodyInPlace x.body)) c.change_asked-change.ensures
-    (subst (λ (x : ContentRecord). (held_at x.held change.key ≡ None) ⊎ (¬ IsBodyInPlace change.body)) c.deref_mut.ensures.value
+    (subst (λ (x : ChangeRecord). (held_at v.held x.key ≡ None) ⊎ BodyCopyTakesMemory x.body) c.change_asked-change.ensures
+    (subst (λ (x : ContentRecord). (held_at x.held change.key ≡ None) ⊎ BodyCopyTakesMemory change.body) c.deref_mut.ensures.value
     c.in-Err.ensures.wants))

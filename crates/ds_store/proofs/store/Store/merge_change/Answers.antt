@@ -1,5 +1,5 @@
 use Rattle.std.proofs.Common.{◌≡◌, [], ◌∷◌, map, None, Some, Result, Ok, Err, ◌⊎◌, ap, sym, ◌∙◌, subst, refl, inl}
-use Rattle.ds_entry.specs.Change.{IsBodyInPlace}
+use Rattle.ds_entry.specs.Change.{BodyCopyTakesMemory}
 use Rattle.ds_watch.specs.Mask.{either, padded}
 use Rattle.ds_entry.specs.declared.item.Item.TheVariants.{Change as Changed}
 use Rattle.ds_join.specs.declared.merge.Merge.{Merge}
@@ -98,6 +98,6 @@ returns-clause-last c = λ e s stands.
     elim c.match-accept_at.branch [
       | in-Ok-accept_at w ↦ absurd (let no : Ok Taken ≡ Err NoRoom = sym w.result-is ∙ e in cc)
       | in-Err w ↦ change_lacks v s change here (sym (c.cause_of_change.ensures.first s stands) ∙ c.in_default.is)
-          (subst (λ (x : ContentRecord). (held_at x.held change.key ≡ None) ⊎ (¬ IsBodyInPlace change.body)) c.deref_mut.ensures.value
+          (subst (λ (x : ContentRecord). (held_at x.held change.key ≡ None) ⊎ BodyCopyTakesMemory change.body) c.deref_mut.ensures.value
           w.in-Err.ensures.wants)
     ]

@@ -1,5 +1,4 @@
-use Rattle.std.proofs.Common.{◌≡◌, true, false, Some, None, refl, ap, sym, subst, inl, inr}
-use Rattle.std.specs.Prelude.{is_some}
+use Rattle.std.proofs.Common.{◌≡◌, true, false, Some, None, refl, sym, subst, inl, inr}
 use Rattle.ds_entry.specs.declared.body.Value.{Value}
 use Rattle.ds_machine.specs.Machine.{Step, live_at}
 use Rattle.ds_machine.specs.declared.command.Command.TheVariants.{Retrieve}
@@ -30,4 +29,4 @@ returns-in-Err-clause-in_place c = λ p e.
 pub returns-in-Err-clause-last : goal.returns-in-Err-clause-last
 returns-in-Err-clause-last c = λ s stands.
     let live : Some c.in-Some.value.now ≡ live_at s c.args.key.now = c.in-Some.ensures.live s stands in
-    (sym (ap is_some live), λ p. returns-in-Err-clause-in_place c p refl)
+    (c.in-Some.value.now, sym live, c.in-Err.ensures.room)
