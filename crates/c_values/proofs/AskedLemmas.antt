@@ -1,5 +1,5 @@
 -- What is read of a request, and when it stands for no command.
-use Rattle.std.proofs.Common.{◌≡◌, ◌≢◌, ℕ, Bool, true, false, List, refl, sym, ap, ◌∙◌, subst, inl, inr}
+use Rattle.std.proofs.Common.{◌≡◌, ◌≢◌, ℕ, Bool, true, false, List, [], refl, sym, ap, ◌∙◌, subst, inl, inr}
 use Rattle.std.specs.Prelude.{◌||◌, Option, Some, None, Result, Ok, Err, IfOk, OnErr, IsTrue}
 use Rattle.ds_entry.specs.declared.item.Item.{Item}
 use Rattle.c_values.specs.declared.request.Request.{Request}
@@ -30,11 +30,11 @@ none_of_items r text ten none command (inr merge) = none merge.items merge.lines
 -- the result of reading a request that isn't a Merge
 pub of_parts : (r : Request) (text : List ℕ) (result : Result (Option Command) NoRoom) → r.command ≢ 10
     → IfOk result (λ (command : Option Command). command ≡ command_of r text) → OnErr result (IsTrue (has_text r)) →
-    OnErr result (command_of r text ≢ None)
+    OnErr result (text ≢ []) → OnErr result (command_of r text ≢ None)
     → ReadsRequest r text result
-of_parts r text (Ok None) other read room fits = none_of_parts r text other (sym read)
-of_parts r text (Ok (Some command)) other read room fits = inl (sym read)
-of_parts r text (Err wanting) other read room fits = inl (room, fits)
+of_parts r text (Ok None) other read room some fits = none_of_parts r text other (sym read)
+of_parts r text (Ok (Some command)) other read room some fits = inl (sym read)
+of_parts r text (Err wanting) other read room some fits = inl (room, some, fits)
 
 -- ---- the kind of a key
 
@@ -61,7 +61,7 @@ or_left false c is = absurd (cc)
 has_long : (r : Request) → r.command ≡ 0 → IsTrue (is_long (kind_at r.kinds)) → IsTrue (has_text r)
 has_long r zero is = rw zero (or_left (is_long (kind_at r.kinds)) _ is)
 
--- a Publish of a text or a blob takes memory
-pub publish_takes_memory : (r : Request) (text : List ℕ) → r.command ≡ 0 → IsTrue (is_long (kind_at r.kinds)) → publish_of r text ≢ None →
-    ReadingTakesMemory r text
-publish_takes_memory r text zero is some = inl (has_long r zero is, λ none. some (sym (publishes r text zero) ∙ none))
+-- a Publish of a text or a blob that isn't empty takes memory
+pub publish_takes_memory : (r : Request) (text : List ℕ) → r.command ≡ 0 → IsTrue (is_long (kind_at r.kinds)) → text ≢ [] →
+    publish_of r text ≢ None → ReadingTakesMemory r text
+publish_takes_memory r text zero is some asked = inl (has_long r zero is, some, λ none. asked (sym (publishes r text zero) ∙ none))

@@ -1,5 +1,5 @@
 -- The commands of requests.
-use Rattle.std.specs.Prelude.{◌≡◌, ◌≢◌, ℕ, ◌+◌, ◌==◌, ◌||◌, ◌&&◌, ◌⊎◌, nat_le, not, true, false, cond, IsTrue, Bool, List}
+use Rattle.std.specs.Prelude.{◌≡◌, ◌≢◌, ℕ, ◌+◌, ◌==◌, ◌||◌, ◌&&◌, ◌⊎◌, nat_le, not, true, false, cond, IsTrue, Bool, List, []}
 use Rattle.std.specs.Prelude.{length, take, drop, Option, Some, None, Result, Ok, Err}
 use Rattle.ds_entry.specs.declared.item.Item.{Item}
 use Rattle.ds_machine.specs.declared.command.Command.{Command}
@@ -47,10 +47,10 @@ has_text r =
     (r.command == 0 && is_long (kind_at r.kinds))
     || (r.command == 5 || (not (r.under == 0) && (r.command == 7 || (r.command == 8 || r.command == 9))))
 
--- Whether reading the request with this text takes memory: it is a command with a text, a blob or a pattern, or a Merge whose text begins
--- with an item's line.
+-- Whether reading the request with this text takes memory: it is a command with a text, a blob or a pattern that isn't empty, or a Merge
+-- whose text begins with an item's line.
 abbrev pub ReadingTakesMemory : Request → List ℕ → Type 0
-ReadingTakesMemory r text = (IsTrue (has_text r) × (command_of r text ≢ None)) ⊎ ((r.command ≡ 10) × BeginsWithItem text)
+ReadingTakesMemory r text = (IsTrue (has_text r) × (text ≢ []) × (command_of r text ≢ None)) ⊎ ((r.command ≡ 10) × BeginsWithItem text)
 
 -- The result of reading a request: its command, `None` if it isn't one, or NoRoom if memory runs out for its text.
 abbrev pub ReadsRequest : Request → List ℕ → Result (Option Command) NoRoom → Type 0

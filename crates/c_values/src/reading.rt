@@ -1,6 +1,6 @@
 //! Reading the command of a request.
 
-ghost use Rattle.std.specs.Prelude.{◌≡◌, ◌≢◌, IfOk, OnErr, IsTrue};
+ghost use Rattle.std.specs.Prelude.{◌≡◌, ◌≢◌, [], IfOk, OnErr, IsTrue};
 ghost use Rattle.std.specs.Option.{option_map};
 ghost use Rattle.ds_machine.specs.declared.command.Command.TheVariants.{Retrieve, NameOf, Check};
 ghost use Rattle.c_values.specs.Request.{command_of, key_of, caller_of};
@@ -33,6 +33,7 @@ fn name_of(request: &Request) -> Option<Command>
 fn command(alloc: Global, request: &Request, text: &[u8]) -> Result<Option<Command>, NoRoom>
     ensures read { IfOk result (λ command. command ≡ command_of request.now text.now) }
     ensures room { OnErr result (IsTrue (has_text request.now)) }
+    ensures some { OnErr result (text.now ≢ []) }
     ensures fits { OnErr result (command_of request.now text.now ≢ None) }
 {
     match request.command {

@@ -30,6 +30,7 @@ pub fn text_of<'a>(texts: &'a [u8], request: &Request) -> Option<&'a [u8]>
 #[tactic(auto, unfolding(crate::specs::Request::string_at))]
 fn string(alloc: Global, text: &[u8]) -> Result<Option<Value>, NoRoom>
     ensures read { IfOk result (λ value. value ≡ string_at text.now) }
+    ensures some { OnErr result (text.now ≢ []) }
     ensures fits { OnErr result (string_at text.now ≢ None) }
 {
     match Text::read(alloc, text) {
@@ -43,6 +44,7 @@ fn string(alloc: Global, text: &[u8]) -> Result<Option<Value>, NoRoom>
 #[tactic(auto, unfolding(crate::specs::Request::memory_at))]
 fn memory(alloc: Global, bytes: &[u8]) -> Result<Option<Value>, NoRoom>
     ensures read { IfOk result (λ value. value ≡ memory_at bytes.now) }
+    ensures some { OnErr result (bytes.now ≢ []) }
     ensures fits { OnErr result (memory_at bytes.now ≢ None) }
 {
     match Blob::read(alloc, bytes) {
@@ -56,6 +58,7 @@ fn memory(alloc: Global, bytes: &[u8]) -> Result<Option<Value>, NoRoom>
 fn value(alloc: Global, request: &Request, text: &[u8], kind: Kind) -> Result<Option<Value>, NoRoom>
     ensures read { IfOk result (λ value. value ≡ valued request.now text.now kind) }
     ensures room { OnErr result (IsTrue (is_long (Some kind))) }
+    ensures some { OnErr result (text.now ≢ []) }
     ensures fits { OnErr result (valued request.now text.now kind ≢ None) }
 {
     match kind {
@@ -117,6 +120,7 @@ pub fn read_publication(
 ) -> Result<Option<Publication>, NoRoom>
     ensures read { IfOk result (λ asked. option_map publish_command asked ≡ publish_of request.now text.now) }
     ensures room { OnErr result (IsTrue (is_long (kind_at request.now.kinds))) }
+    ensures some { OnErr result (text.now ≢ []) }
     ensures fits { OnErr result (publish_of request.now text.now ≢ None) }
 {
     let Some(key) = key_of(request) else {
@@ -147,6 +151,7 @@ pub(crate) fn publish(
 ) -> Result<Option<Command>, NoRoom>
     ensures read { IfOk result (λ command. command ≡ publish_of request.now text.now) }
     ensures room { OnErr result (IsTrue (is_long (kind_at request.now.kinds))) }
+    ensures some { OnErr result (text.now ≢ []) }
     ensures fits { OnErr result (publish_of request.now text.now ≢ None) }
 {
     match read_publication(alloc, request, text)? {
@@ -158,6 +163,7 @@ pub(crate) fn publish(
 #[tactic(auto, unfolding(crate::specs::Request::query_at))]
 fn query(alloc: Global, bits: u8, text: &[u8]) -> Result<Option<Query>, NoRoom>
     ensures read { IfOk result (λ query. query ≡ query_at bits text.now) }
+    ensures some { OnErr result (text.now ≢ []) }
     ensures fits { OnErr result (query_at bits text.now ≢ None) }
 {
     let Some(kinds) = Kinds::of(bits) else {
@@ -171,6 +177,7 @@ fn query(alloc: Global, bits: u8, text: &[u8]) -> Result<Option<Query>, NoRoom>
 fn scope(alloc: Global, request: &Request, text: &[u8]) -> Result<Option<Scope>, NoRoom>
     ensures read { IfOk result (λ scope. scope ≡ scope_of request.now text.now) }
     ensures room { OnErr result (IsTrue (not (request.now.under == 0))) }
+    ensures some { OnErr result (text.now ≢ []) }
     ensures fits { OnErr result (scope_of request.now text.now ≢ None) }
 {
     if request.under == 0 {
@@ -189,6 +196,7 @@ pub(crate) fn subscribe(
     text: &[u8],
 ) -> Result<Option<Command>, NoRoom>
     ensures read { IfOk result (λ command. command ≡ subscribe_of request.now text.now) }
+    ensures some { OnErr result (text.now ≢ []) }
     ensures fits { OnErr result (subscribe_of request.now text.now ≢ None) }
 {
     let Some(query) = query(alloc, request.kinds, text)? else {
@@ -210,6 +218,7 @@ pub(crate) fn since(
 ) -> Result<Option<Command>, NoRoom>
     ensures read { IfOk result (λ command. command ≡ since_of_request request.now text.now) }
     ensures room { OnErr result (IsTrue (not (request.now.under == 0))) }
+    ensures some { OnErr result (text.now ≢ []) }
     ensures fits { OnErr result (since_of_request request.now text.now ≢ None) }
 {
     let Some(scope) = scope(alloc, request, text)? else {
@@ -232,6 +241,7 @@ pub(crate) fn snapshot(
 ) -> Result<Option<Command>, NoRoom>
     ensures read { IfOk result (λ command. command ≡ option_map Snapshot (scope_of request.now text.now)) }
     ensures room { OnErr result (IsTrue (not (request.now.under == 0))) }
+    ensures some { OnErr result (text.now ≢ []) }
     ensures fits { OnErr result (option_map Snapshot (scope_of request.now text.now) ≢ None) }
 {
     let Some(scope) = scope(alloc, request, text)? else {
@@ -244,6 +254,7 @@ pub(crate) fn snapshot(
 pub(crate) fn page(alloc: Global, request: &Request, text: &[u8]) -> Result<Option<Command>, NoRoom>
     ensures read { IfOk result (λ command. command ≡ page_of_request request.now text.now) }
     ensures room { OnErr result (IsTrue (not (request.now.under == 0))) }
+    ensures some { OnErr result (text.now ≢ []) }
     ensures fits { OnErr result (page_of_request request.now text.now ≢ None) }
 {
     let Some(after) = after_key(request) else {

@@ -27,4 +27,7 @@ returns-in-Ok-None c = inr
 
 pub returns-in-Err : goal.returns-in-Err
 returns-in-Err c = inr
-    (inr (publish_takes_memory c.args.request.now c.args.text.now c.requires c.in-Err.ensures.room c.in-Err.ensures.fits, c.refuse.ensures))
+    (inr (
+      publish_takes_memory c.args.request.now c.args.text.now c.requires c.in-Err.ensures.room c.in-Err.ensures.some c.in-Err.ensures.fits,
+      c.refuse.ensures,
+    ))
