@@ -1,28 +1,23 @@
 -- Each call is moves of a node and its processes.
-use Rattle.std.proofs.Common.{◌≡◌, ◌⊎◌, inl, inr, ℕ, Bool, true, false, true≢false, List, [], ◌∷◌, ◌++◌, Option, Some, None, Result, Ok}
+use Rattle.std.proofs.Common.{◌≡◌, inl, inr, ℕ, Bool, true, false, true≢false, List, [], ◌∷◌, ◌++◌, Option, Some, None, Result, Ok}
 use Rattle.std.proofs.Common.{Err, MatchOption, OnOk, OnErr, IfOk, refl, sym, ap, ◌∙◌, subst}
 use Rattle.std.specs.Option.{option_map}
 use Rattle.history.specs.History.{Path}
 use Rattle.ds_names.specs.Endpoint.{EndpointRecord}
-use Rattle.ds_content.specs.Content.{ContentRecord}
 use Rattle.rs_core.specs.declared.event.Event.{Event}
 use Rattle.rs_core.specs.Late.{endpoint_in_force, in_force}
 use Rattle.rs_core.specs.State.{RsRecord, state_at}
 use Rattle.rs_core.specs.declared.state.State.{State}
 use Rattle.rs_settings.specs.Settings.{SettingsRecord}
-use Rattle.rs_store.specs.Pair.{PairRecord}
 use Rattle.rs_store.specs.declared.call.RsReply.{RsReply}
 use Rattle.rs_store.specs.declared.call.RsReply.TheVariants.{Replied}
 use Rattle.process_keeper.specs.Order.{TakesAt}
 use Rattle.process_keeper.specs.declared.input.Input.{Input}
-use Rattle.process_keeper.specs.declared.keeper.Keeper.{Keeper}
-use Rattle.supervisor.specs.Laws.{Agree}
-use Rattle.supervisor.specs.Moves.{IsNewSupervisor, Move}
+use Rattle.supervisor.specs.Moves.{Move}
 use Rattle.supervisor.specs.Moves.Move.{Note, Renew, Report, Tell, Vouch, Write}
 use Rattle.supervisor.specs.declared.fault.RenewalFault.{RenewalFault}
 use Rattle.supervisor.specs.declared.fault.SupervisorFault.{SupervisorFault}
-use Rattle.node_supervisor.specs.Laws.{IsReachableNode}
-use Rattle.node_supervisor.specs.Moves.{IsNodeMove, NodeMove, NodeState, Supervises, supervisor_of}
+use Rattle.node_supervisor.specs.Moves.{IsNodeMove, NodeMove, NodeState, Supervises}
 use Rattle.node_supervisor.specs.Moves.NodeMove.{Client, Supervise}
 use Rattle.node_supervisor.specs.Renewal.{TakesRenewal}
 use Rattle.node_supervisor.specs.Telling.{VouchesNode}
@@ -31,18 +26,15 @@ use Rattle.node_supervisor.proofs.MoveLemmas.{nodes_agree, nodes_are_supervisors
 use Rattle.c_values.specs.declared.answer.Answer.{Answer}
 use Rattle.c_values.specs.declared.request.Request.{Request}
 use Rattle.c_store.specs.Called.{RestsForNone}
-use Rattle.c_rs.specs.declared.event.RsEvent.{RsEvent}
 use Rattle.c_rs.specs.declared.fault.SettingsRefusal.{SettingsRefusal}
 use Rattle.c_rs.specs.declared.session.RsSession.{RsSession}
 use Rattle.c_rs.specs.Event.{event_of}
-use Rattle.c_rs.specs.Renewing.{RenewsRs}
 use Rattle.c_rs.specs.Requests.{CallsRs, is_for_rs_alone}
 use Rattle.c_rs.specs.Serving.{SessionDoes}
 use Rattle.c_rs.proofs.NodeLemmas.{one_turn}
 use Rattle.c_keeper.specs.declared.session.KeeperSession.{KeeperSession}
 use Rattle.c_keeper.specs.Keeping.{IsVouched, KeepsIfOpen, PassesEvent, PassesReport, PassesStruct}
 use Rattle.c_keeper.specs.Noting.{NotesFile, NotesInput, input_of}
-use Rattle.c_keeper.specs.Opening.{AreNewKeepers, CountsNone}
 use Rattle.c_keeper.specs.Renewing.{RenewsKeptBy, RestsAfterRenewal}
 use Rattle.c_keeper.specs.Laws.{IsKeptCall, KeptCall, KeptCallsAreMoves, KeptSessionsAgree, LeadsKept, node_of}
 use Rattle.c_keeper.specs.Laws.KeptCall.{Noted, Occurred, Renewed, Reported, Requested, Vouched, Written}

@@ -1,5 +1,5 @@
 -- Calls with events of RS, which keepers bar.
-use Rattle.std.specs.Prelude.{◌≡◌, ◌⊎◌, ℕ, Bool, true, false, List, MatchOption}
+use Rattle.std.specs.Prelude.{◌⊎◌, ℕ, Bool, true, false, List, MatchOption}
 use Rattle.ds_machine.specs.declared.refusal.Refusal.TheVariants.{NoRoom, NotAllowed}
 use Rattle.script_commands.specs.Command.{CommandTakesMemory}
 use Rattle.script_commands.specs.ServiceEvent.{service_event_of}

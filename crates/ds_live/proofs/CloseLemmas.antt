@@ -1,5 +1,5 @@
 -- Desks whose passes are all back.
-use Rattle.std.proofs.Common.{All, ◌≡◌, ◌≢◌, ℕ, ◌≤◌, List, [], ◌∷◌, length, arith, refl, sym, ◌∙◌}
+use Rattle.std.proofs.Common.{All, ◌≡◌, ℕ, ◌≤◌, List, [], ◌∷◌, length, arith, refl, sym, ◌∙◌}
 use Rattle.std.proofs.lemmas.List.Elements.{All-head, All-tail}
 use Rattle.desk_rule.specs.History.{total_of}
 use Rattle.desk_rule.specs.declared.view.View.{View}

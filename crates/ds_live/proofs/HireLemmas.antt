@@ -1,5 +1,5 @@
 -- Workers that are hired.
-use Rattle.std.proofs.Common.{All, ◌≡◌, ℕ, zero, suc, Option, Some, ◌+◌, ◌-◌, List, [], ◌∷◌, ◌++◌, length, map, ap, sym, subst, ◌∙◌, arith}
+use Rattle.std.proofs.Common.{All, ◌≡◌, ℕ, zero, suc, Option, Some, ◌+◌, ◌-◌, List, [], ◌∷◌, ◌++◌, length, map, ap, sym, ◌∙◌, arith}
 use Rattle.std.proofs.Common.{add-one, append-nil, append_assoc}
 use Rattle.std.proofs.lemmas.List.{map-append}
 use Rattle.std.specs.Option.{option_map}

@@ -12,8 +12,8 @@ use Rattle.ds_machine.specs.declared.command.Command.{Command}
 use Rattle.ds_machine.specs.declared.reply.Reply.{Reply}
 use Rattle.desk_store.specs.Record.{Boxed, PassRecord, pass_record}
 use Rattle.ds_live.specs.Back.{AreBack}
-use Rattle.ds_live.specs.Dismissed.{AreLeft, HasLeft, IsLeft, IsReported, KeepsOwn, Leaves}
-use Rattle.ds_live.specs.Fails.{FailsRunning, HasStopped, StopsAt}
+use Rattle.ds_live.specs.Dismissed.{AreLeft, IsLeft, IsReported, KeepsOwn, Leaves}
+use Rattle.ds_live.specs.Fails.{FailsRunning, HasStopped}
 use Rattle.ds_live.specs.Faults.{HasWorkersFault, IsFaultOr, fault_or, first_fault, lowest_fault, own_fault}
 use Rattle.ds_live.specs.Run.{ClosesAfter, IsReady, downward, upward, worker_count}
 use Rattle.ds_live.specs.Tasks.{passes_in}

@@ -1,5 +1,5 @@
 -- A run of threads: what its workers did, and the stores that they left.
-use Rattle.std.specs.Prelude.{All, ◌≡◌, ℕ, zero, suc, ◌+◌, ◌-◌, ◌<◌, ◌≤◌, Bool, List, [], ◌∷◌, ◌++◌, length, map, None, Some}
+use Rattle.std.specs.Prelude.{All, ◌≡◌, ℕ, zero, suc, ◌+◌, ◌<◌, ◌≤◌, Bool, List, [], ◌∷◌, ◌++◌, length, map, None, Some}
 use Rattle.std.specs.List.{AllByRecursion, flat_map}
 use mathlib.Core.List.{IsPrefix}
 use Rattle.history.specs.declared.entry.Entry.{Entry}

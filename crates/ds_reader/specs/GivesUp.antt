@@ -84,15 +84,15 @@ pub record IsCheckedMore (s t : State) (reading : Reading) (turns : List CheckTu
   pub few : length turns < reading.questions
 
 -- Whether a reader by checks stopped with this fault, with the store in state `t`. The store refused its Subscribe or its
--- next Check, the allowed Checks weren't enough, another program took the subscription over, or memory ran out before the
--- first command or for the items of a Check.
+-- next Check, the allowed Checks weren't enough, another program took the subscription over, or memory ran out for the
+-- query's text, before the first command, or for the items of a Check.
 abbrev pub StopsChecks : State → State → ℕ → Reading → ReadFault → Type 0
 StopsChecks s t sub reading (Refused refusal) =
     IsCommandRefused t (subscribe_anew sub reading.query) refusal ⊎
     ((turns : List CheckTurn) × AreAllFull s t sub reading turns × IsCommandRefused t (Check sub reading.max) refusal)
 StopsChecks s t sub reading Unfinished = (turns : List CheckTurn) × AreAllFull s t sub reading turns × (length turns ≡ reading.questions)
 StopsChecks s t sub reading Overtaken = (turns : List CheckTurn) × IsOvertaken s t sub reading turns
-StopsChecks s t sub reading NoRoom = (t ≡ s) ⊎ ((turns : List CheckTurn) × IsCheckedMore s t reading turns)
+StopsChecks s t sub reading NoRoom = ((t ≡ s) × (reading.query.text ≢ [])) ⊎ ((turns : List CheckTurn) × IsCheckedMore s t reading turns)
 StopsChecks s t sub reading Worn = Unit {0}
 
 -- ---- a reader by the journal
@@ -116,7 +116,8 @@ pub record IsJournaledMore (t : State) (reading : Reading) (from : Cursor) (turn
   pub some : turn.since.items ≢ []
 
 -- Whether reading the journal stopped with this fault: the next Since was refused, the allowed number of them wasn't
--- enough, or memory ran out for the next one or for its items. It has no subscription that another program could take over.
+-- enough, or memory ran out for the query's text in the next one or for its items. It has no subscription that another program
+-- could take over.
 abbrev pub StopsSinces : State → Reading → Cursor → ReadFault → Type 0
 StopsSinces t reading from (Refused refusal) =
     (turns : List SinceTurn) × AreFullSinces t reading from turns ×
@@ -124,7 +125,7 @@ StopsSinces t reading from (Refused refusal) =
 StopsSinces t reading from Unfinished = (turns : List SinceTurn) × AreFullSinces t reading from turns × (length turns ≡ reading.questions)
 StopsSinces t reading from NoRoom =
     (turns : List SinceTurn) × (length turns < reading.questions) ×
-    (AreFullSinces t reading from turns ⊎ IsJournaledMore t reading from turns)
+    ((AreFullSinces t reading from turns × (reading.query.text ≢ [])) ⊎ IsJournaledMore t reading from turns)
 StopsSinces t reading from Overtaken = ⊥
 StopsSinces t reading from Worn = Unit {0}
 
@@ -155,14 +156,16 @@ pub record IsPagedMore (s t : State) (reading : Reading) (pages : List PageTurn)
   pub some : turn.page.items ≢ []
 
 -- Whether reading pages stopped with this fault: the next Page was refused, the allowed number of them wasn't enough, or
--- memory ran out for the next one or for its items. It has no subscription that another program could take over.
+-- memory ran out for the query's text in the next one or for its items. It has no subscription that another program
+-- could take over.
 abbrev pub StopsOpen : State → State → Reading → ReadFault → Type 0
 StopsOpen s t reading (Refused refusal) =
     (pages : List PageTurn) × AreAllOpen s t reading pages ×
     IsCommandRefused t (Page (Under reading.query) (key_after None pages) reading.max) refusal
 StopsOpen s t reading Unfinished = (pages : List PageTurn) × AreAllOpen s t reading pages × (length pages ≡ reading.questions)
 StopsOpen s t reading NoRoom =
-    (pages : List PageTurn) × (length pages < reading.questions) × (AreAllOpen s t reading pages ⊎ IsPagedMore s t reading pages)
+    (pages : List PageTurn) × (length pages < reading.questions) ×
+    ((AreAllOpen s t reading pages × (reading.query.text ≢ [])) ⊎ IsPagedMore s t reading pages)
 StopsOpen s t reading Overtaken = ⊥
 StopsOpen s t reading Worn = Unit {0}
 

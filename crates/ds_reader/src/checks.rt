@@ -22,8 +22,8 @@ use std::alloc::Global;
 ///
 /// Fails as `Refused` if the store refused the Subscribe or a Check, and as `Unfinished` if the allowed number of Checks
 /// wasn't enough. Fails as `Overtaken` if a Check returned another stamp than the reader's last one. Fails as `NoRoom` if
-/// memory ran out before the first command or for the items, and as `Worn` if no further command can be sent. The commands
-/// sent until then keep their effect.
+/// memory ran out for the query's text, before the first command, or for the items, and as `Worn` if no further command
+/// can be sent. The commands sent until then keep their effect.
 pub fn read_by_checks<A: Asks>(
     alloc: Global,
     asked: &mut A,

@@ -1,6 +1,6 @@
 //! Collecting items reply by reply.
 
-ghost use Rattle.std.specs.Prelude.{◌≡◌, ◌∷◌, [], IfOk};
+ghost use Rattle.std.specs.Prelude.{◌≡◌, ◌≢◌, ◌∷◌, [], IfOk, OnErr};
 ghost use Rattle.ds_machine.specs.declared.command.Scope.TheVariants.{Under};
 ghost use Rattle.ds_replica.specs.Paged.{last_key};
 
@@ -31,9 +31,10 @@ pub fn go_past(key: &mut Option<Key>, items: &Items)
     }
 }
 
-/// Returns the scope of a query.
+/// Returns the scope of a query. Fails only if memory runs out; the scope of an empty text takes none.
 pub(crate) fn scope_of(alloc: Global, query: &Query) -> Result<Scope, NoRoom>
-    ensures { IfOk result (λ scope. scope ≡ Under query.now) }
+    ensures same { IfOk result (λ scope. scope ≡ Under query.now) }
+    ensures room { OnErr result (query.now.text ≢ []) }
 {
     Ok(Scope::Under(query.copy(alloc)?))
 }

@@ -53,8 +53,8 @@ fn catch_up<A: Asks>(
 /// nothing else.
 ///
 /// Fails as `Refused` if the store refused a Page or a Since. Fails as `Unfinished` if the allowed number of Pages didn't
-/// reach the last page, or as many Sinces were all full. Fails as `NoRoom` if memory ran out for the next command or for
-/// the items, and as `Worn` if no further command can be sent.
+/// reach the last page, or as many Sinces were all full. Fails as `NoRoom` if memory ran out for the query's text in
+/// the next command or for the items, and as `Worn` if no further command can be sent.
 pub fn read_by_pages<A: Asks>(
     alloc: Global,
     asked: &mut A,

@@ -4,7 +4,7 @@ use Rattle.ds_script.specs.declared.fault.ReplayFault.{ReplayFault}
 use Rattle.ds_script.specs.declared.fault.ReplayFault.TheVariants.{BadLine, ReadFault, WriteFault, NoRoom}
 use Rattle.line_io.specs.declared.streams.Source.{Ghosts as Reader}
 use Rattle.line_io.specs.declared.streams.Sink.{Ghosts as Writer}
-use Rattle.line_io.specs.Streams.{CallsLead, OnlyCalls, HasFailedRead, HasFailedWrite}
+use Rattle.line_io.specs.Streams.{CallsLead, OnlyCalls, HasFailedWrite}
 use Rattle.line_io.proofs.CallLemmas.{only_calls_on, failed_on}
 use Rattle.ds_script.specs.Causes.{HasCause, HasWriteCause, HasTurnCause, SettlesFor}
 

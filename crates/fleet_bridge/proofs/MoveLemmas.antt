@@ -1,6 +1,6 @@
 -- The moves of a bridge's decisions are events of the rule.
 use Rattle.std.proofs.Common.{◌≡◌, ◌+◌, ◌-◌, ◌≤◌, ◌==◌, ◌||◌, ◌&&◌, not, cond, min, max, if◌then◌else◌, ℕ, Bool, true, false, List, [], ◌∷◌}
-use Rattle.std.proofs.Common.{◌++◌, length, take, drop, Option, Some, refl, sym, ap, ◌∙◌, subst, arith}
+use Rattle.std.proofs.Common.{◌++◌, length, take, refl, sym, ap, ◌∙◌, subst, arith}
 use Rattle.std.proofs.lemmas.Bool.{eqb-true}
 use Rattle.std.proofs.lemmas.List.{length-append, length-drop}
 use Rattle.fleet_rule.specs.Covered.{uncovered}
@@ -11,9 +11,8 @@ use Rattle.fleet_rule.specs.Fleet.Consumer.{Paused, Reading}
 use Rattle.fleet_rule.specs.Happens.{Event, after, bridge_at, cut_off}
 use Rattle.fleet_bridge.specs.State.{met_another, changed, refilled, folded, rereading, doubting, parted, acknowledged, fetched}
 use Rattle.fleet_bridge.specs.Asking.{next_question, having_asked, NothingIsLeft}
-use Rattle.fleet_bridge.specs.Moving.{AreIds, Represents, Leads, event_of, AskingHappens, MovesHappen}
+use Rattle.fleet_bridge.specs.Moving.{Represents, Leads, event_of, AskingHappens, MovesHappen}
 use Rattle.fleet_bridge.specs.declared.bridge.Bridge.{Bridge}
-use Rattle.fleet_bridge.specs.declared.question.Due.{Due}
 use Rattle.fleet_bridge.specs.declared.question.Question.{Question}
 use Rattle.fleet_bridge.specs.declared.question.Question.TheVariants.{Nothing, Meet, Fetch, Refill, Add, Compact}
 

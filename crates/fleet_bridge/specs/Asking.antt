@@ -1,5 +1,5 @@
 -- Which question is next, and the bridge that asked it.
-use Rattle.std.specs.Prelude.{◌≡◌, ℕ, ◌==◌, Bool, true, false, not, ◌||◌, ◌&&◌, min, max, if◌then◌else◌, Option, Some, None}
+use Rattle.std.specs.Prelude.{◌≡◌, ℕ, ◌==◌, true, false, not, ◌||◌, ◌&&◌, min, max, if◌then◌else◌, Option, Some, None}
 use Rattle.fleet_bridge.specs.declared.bridge.Bridge.{Bridge}
 use Rattle.fleet_bridge.specs.declared.question.Due.{Due}
 use Rattle.fleet_bridge.specs.declared.question.Question.{Question}

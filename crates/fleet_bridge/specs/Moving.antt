@@ -1,5 +1,5 @@
 -- The moves of a bridge's decisions are events of the rule.
-use Rattle.std.specs.Prelude.{◌≡◌, ℕ, ◌+◌, ◌≤◌, Bool, true, false, List, [], ◌∷◌, ◌++◌, length, Option, Some, None}
+use Rattle.std.specs.Prelude.{◌≡◌, ℕ, ◌+◌, ◌≤◌, Bool, true, false, List, [], ◌∷◌, ◌++◌, length, Some}
 use Rattle.fleet_rule.specs.Covered.{Joins, JoinsPart, uncovered}
 use Rattle.fleet_rule.specs.Bridge as rule
 use Rattle.fleet_rule.specs.Fleet.{Fleet}

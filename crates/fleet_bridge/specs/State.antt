@@ -1,5 +1,5 @@
 -- The state of a bridge's decisions after each of its moves.
-use Rattle.std.specs.Prelude.{◌≡◌, ◌⊎◌, ℕ, ◌+◌, ◌-◌, ◌<◌, ◌≤◌, Bool, true, false, ◌||◌, Option, Some, None}
+use Rattle.std.specs.Prelude.{◌≡◌, ◌⊎◌, ℕ, ◌+◌, ◌-◌, ◌<◌, ◌≤◌, Bool, true, false, ◌||◌, Some, None}
 use Rattle.fleet_bridge.specs.declared.bridge.Bridge.{Bridge}
 use Rattle.fleet_bridge.specs.declared.question.Reading.{Reading}
 

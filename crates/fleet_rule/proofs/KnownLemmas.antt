@@ -19,7 +19,7 @@ use Rattle.fleet_rule.specs.Happens.Event.{IgnoresReading}
 use Rattle.fleet_rule.specs.Happens.Event.{Rereads, Refills, Folds, Doubts, Disconnects, Crashes, Replicates, FailsOver, Loses}
 use Rattle.fleet_rule.specs.Laws.{breaks, begins_anew, is_loss, change_at, changes_of}
 use Rattle.fleet_rule.specs.Known.{KnownIsKept}
-use Rattle.fleet_rule.proofs.CoverLemmas.{part_left, part_take, part_takes}
+use Rattle.fleet_rule.proofs.CoverLemmas.{part_take, part_takes}
 use Rattle.fleet_rule.proofs.CoverLemmas as cover
 use Rattle.fleet_rule.proofs.Kept.{IsUpTo, ProducerIs, IsKept, Grows}
 use Rattle.fleet_rule.proofs.HostLemmas.{true_is_false}

@@ -3,10 +3,9 @@ use Rattle.std.proofs.Common.{◌≡◌, Option, Some, None, Result, Ok, Err, re
 use Rattle.std.specs.Result.{IfErr, IfOk, OnOk}
 use Rattle.std.proofs.lemmas.Option.{none-some}
 use Rattle.process_keeper.specs.declared.keeper.Keeper.{Keeper}
-use Rattle.process_keeper.specs.declared.lifecycle.Lifecycle.{Lifecycle}
 use Rattle.rs_core.specs.declared.fault.RenewFault.{RenewFault}
 use Rattle.rs_core.specs.declared.fault.RenewFault.TheVariants.{FewerSlots, OutOfRange, StillUp, NoRoom}
-use Rattle.rs_core.specs.Renewal.{renewal_fault, renewed}
+use Rattle.rs_core.specs.Renewal.{renewal_fault}
 use Rattle.rs_core.specs.State.{RsRecord}
 use Rattle.rs_settings.specs.Settings.{IsSettings, SettingsRecord}
 use Rattle.rs_store.specs.Renewing.{RefusesSettings, Renews}

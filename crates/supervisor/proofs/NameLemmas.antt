@@ -1,10 +1,9 @@
 -- Leaders stay by their services' names.
-use Rattle.std.proofs.Common.{◌≡◌, ◌⊎◌, ◌+◌, ◌<◌, ◌||◌, ℕ, zero, suc, Bool, true, false, cond, List, [], ◌∷◌, map, length, get_or, Option}
-use Rattle.std.proofs.Common.{Some, None, refl, sym, ap, ◌∙◌, subst, inl, inr, eq-eqb, ◌==◌, arith}
+use Rattle.std.proofs.Common.{◌≡◌, ◌+◌, ◌||◌, ℕ, suc, Bool, true, false, List, [], ◌∷◌, Option}
+use Rattle.std.proofs.Common.{Some, None, refl, sym, ap, ◌∙◌, subst, ◌==◌, arith}
 use Rattle.std.specs.List.{list_any, slice_get}
 use Rattle.std.proofs.lemmas.Bool.{eqb-true, false≢true}
-use Rattle.std.proofs.lemmas.Option.{same_Some, none-some, get_or_from_slice_get}
-use Rattle.history.specs.History.{Path}
+use Rattle.std.proofs.lemmas.Option.{get_or_from_slice_get}
 use Rattle.process_keeper.specs.Renewal.{is_forgotten, is_source, lifecycle_from, new_lifecycle}
 use Rattle.process_keeper.specs.declared.input.Input.{Input}
 use Rattle.process_keeper.specs.declared.input.Input.TheVariants.{Started, Cancelled, Stopped, Shortened, Begun, Failed, Exited, Changed}
@@ -16,7 +15,7 @@ use Rattle.rs_core.specs.declared.action.Action.{Action}
 use Rattle.rs_core.specs.declared.event.Event.{Event}
 use Rattle.rs_core.specs.declared.event.Event.TheVariants.{Beat, Death}
 use Rattle.rs_core.specs.Renewal.{renewed}
-use Rattle.rs_core.specs.Says.{StepSays, label_at, place_of_label}
+use Rattle.rs_core.specs.Says.{place_of_label}
 use Rattle.rs_core.specs.State.{RsRecord, no_service}
 use Rattle.rs_core.specs.Step.{RsStep}
 use Rattle.rs_core.proofs.RenewalLemmas.{renewed_name, same_names}
@@ -26,7 +25,7 @@ use Rattle.rs_settings.specs.declared.service.Service.{Service}
 use Rattle.supervisor.specs.Laws.{HasLeader, NamedLeadersStay, SparesLeader}
 use Rattle.supervisor.specs.Moves.{Move, IsMove, lifecycles, reaps}
 use Rattle.supervisor.specs.Moves.Move.{Tell, Report, Vouch, Renew, Note, Write}
-use Rattle.supervisor.specs.Renewal.{IsRenewed, renewed_labels, sources_of}
+use Rattle.supervisor.specs.Renewal.{IsRenewed, sources_of}
 use Rattle.supervisor.specs.declared.supervisor.Supervisor.{Supervisor}
 use Rattle.supervisor.proofs.AgreeLemmas.{Keeps, move_keeps}
 use Rattle.supervisor.proofs.FollowLemmas.{is_within}

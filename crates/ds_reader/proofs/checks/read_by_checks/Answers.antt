@@ -257,7 +257,7 @@ returns-in_err-append_copies-clause-whole g c =
 pub returns-in_err-query-clause-stopped : goal.returns-in_err-query-clause-stopped
 returns-in_err-query-clause-stopped g c =
     let exit = err_from_is_err_and c.from_residual.result c.from_residual.ensures.1 in
-    rw (exit.1, exit.2) (λ s stands. (s, c.laws.ensures.same s, stands, inl refl))
+    rw (exit.1, exit.2) (λ s stands. (s, c.laws.ensures.same s, stands, inl (refl, c.in_err-query.ensures.room)))
 
 -- ---- each item comes once
 

@@ -24,7 +24,7 @@ pub loop-question-preserved : goal.loop-question-preserved
 loop-question-preserved g c = (
   c.since.ensures.same ∙ c.loop-question.invariant.0,
   sinces_more g.A.Asks.asks_once c.args.reading.now c.loop-question._question c.args.asked.now c.loop-question.asked c.since.new.asked _
-      c.loop-question.at c.in_ok-scope.ensures c.loop-question.invariant.1 c.since.ensures.only,
+      c.loop-question.at c.in_ok-scope.ensures.same c.loop-question.invariant.1 c.since.ensures.only,
   λ s stands.
       (let reading = c.args.reading.now in
       let q = c.loop-question in
@@ -34,7 +34,7 @@ loop-question-preserved g c = (
       let k = q.invariant.2 s stands in
       let a = c.in_ok-given.ensures.given k.now k.stands in
       let there = journaled_there c.laws.ensures k.now a.0 _ q.at reading.max given a.1 in
-      let is = subst (λ (x : Scope). IsGiven a.0.feed (is_kept x) q.at reading.max given) c.in_ok-scope.ensures there.0 in
+      let is = subst (λ (x : Scope). IsGiven a.0.feed (is_kept x) q.at reading.max given) c.in_ok-scope.ensures.same there.0 in
       let full : reading.max ≤ length given.items = omega (arith, c.len.ensures, c.if-len-reading.false) in
       subst (λ (l : List Item). Catching next s reading c.args.from given.cursor c.args.items.now l (q._question + 1))
       (sym c.in_ok-append_copies.ensures.added)
@@ -46,7 +46,8 @@ pub returns-in_err-scope-clause-stopped : goal.returns-in_err-scope-clause-stopp
 returns-in_err-scope-clause-stopped g c =
     let exit = err_from_is_err_and c.from_residual.result c.from_residual.ensures.1 in
     rw (exit.1, exit.2) (λ s stands. (let k = c.loop-question.invariant.2 s stands in
-    let test = c.loop-question-test.true in (k.now, k.goes, k.stands, (k.turns, omega (arith, test, k.count_is), inl k.all))))
+    let test = c.loop-question-test.true in (k.now, k.goes, k.stands, (k.turns, omega (arith, test, k.count_is),
+    inl (k.all, c.in_err-scope.ensures.room)))))
 
 pub returns-in_err-given-clause-stopped : goal.returns-in_err-given-clause-stopped
 returns-in_err-given-clause-stopped g c =
@@ -54,7 +55,7 @@ returns-in_err-given-clause-stopped g c =
     let q = c.loop-question in
     rw (exit.1, exit.2) (λ s stands.
     stops_since c.laws.ensures g.A.Asks.stands g.A.Asks.is_worn q.asked c.since.new.asked s c.args.reading.now _ c.args.from q.at
-    c.args.items.now q.items q._question c.in_err-given.field-0.0 c.in_ok-scope.ensures c.in_err-given.ensures.refused
+    c.args.items.now q.items q._question c.in_err-given.field-0.0 c.in_ok-scope.ensures.same c.in_err-given.ensures.refused
     (q.invariant.2 s stands))
 
 pub returns-in_err-append_copies-clause-stopped : goal.returns-in_err-append_copies-clause-stopped
@@ -67,7 +68,7 @@ returns-in_err-append_copies-clause-stopped g c =
     let a = c.in_ok-given.ensures.given k.now k.stands in
     let given = c.in_ok-given.given in
     let there = journaled_there c.laws.ensures k.now a.0 _ q.at reading.max given a.1 in
-    let is = subst (λ (x : Scope). IsGiven a.0.feed (is_kept x) q.at reading.max given) c.in_ok-scope.ensures there.0 in
+    let is = subst (λ (x : Scope). IsGiven a.0.feed (is_kept x) q.at reading.max given) c.in_ok-scope.ensures.same there.0 in
     let test = c.loop-question-test.true in (
       a.0,
       gone c.laws.ensures (g.A.Asks.stands q.asked) s reading c.args.from q.at c.args.items.now q.items q._question k a.0 there.1,
@@ -90,7 +91,7 @@ returns-then-len-reading-clause-caught g c = λ s stands.
     let k = q.invariant.2 s stands in
     let a = c.in_ok-given.ensures.given k.now k.stands in
     let there = journaled_there c.laws.ensures k.now a.0 _ q.at reading.max given a.1 in
-    let is = subst (λ (x : Scope). IsGiven a.0.feed (is_kept x) q.at reading.max given) c.in_ok-scope.ensures there.0 in
+    let is = subst (λ (x : Scope). IsGiven a.0.feed (is_kept x) q.at reading.max given) c.in_ok-scope.ensures.same there.0 in
     let few : length given.items < reading.max = omega (arith, c.len.ensures, c.if-len-reading.true) in
     let all = caught_up c.laws.ensures stood s reading c.args.from q.at c.args.items.now q.items q._question k a.0 there.1 given is few in (
       a.0,
@@ -120,7 +121,7 @@ returns-in_err-given-clause-only g c =
     let reading = c.args.reading.now in
     fewer g.A.Asks.asks_once (IsSinceOf reading) (q._question + 1) reading.questions c.args.asked.now c.since.new.asked
     (omega (arith, c.loop-question-test.true))
-    (sinces_more g.A.Asks.asks_once reading q._question c.args.asked.now q.asked c.since.new.asked _ q.at c.in_ok-scope.ensures
+    (sinces_more g.A.Asks.asks_once reading q._question c.args.asked.now q.asked c.since.new.asked _ q.at c.in_ok-scope.ensures.same
     q.invariant.1 c.since.ensures.only)
 
 pub returns-in_err-append_copies-clause-only : goal.returns-in_err-append_copies-clause-only
@@ -129,7 +130,7 @@ returns-in_err-append_copies-clause-only g c =
     let reading = c.args.reading.now in
     fewer g.A.Asks.asks_once (IsSinceOf reading) (q._question + 1) reading.questions c.args.asked.now c.since.new.asked
     (omega (arith, c.loop-question-test.true))
-    (sinces_more g.A.Asks.asks_once reading q._question c.args.asked.now q.asked c.since.new.asked _ q.at c.in_ok-scope.ensures
+    (sinces_more g.A.Asks.asks_once reading q._question c.args.asked.now q.asked c.since.new.asked _ q.at c.in_ok-scope.ensures.same
     q.invariant.1 c.since.ensures.only)
 
 pub returns-then-len-reading-clause-only : goal.returns-then-len-reading-clause-only
@@ -138,7 +139,7 @@ returns-then-len-reading-clause-only g c =
     let reading = c.args.reading.now in
     fewer g.A.Asks.asks_once (IsSinceOf reading) (q._question + 1) reading.questions c.args.asked.now c.since.new.asked
     (omega (arith, c.loop-question-test.true))
-    (sinces_more g.A.Asks.asks_once reading q._question c.args.asked.now q.asked c.since.new.asked _ q.at c.in_ok-scope.ensures
+    (sinces_more g.A.Asks.asks_once reading q._question c.args.asked.now q.asked c.since.new.asked _ q.at c.in_ok-scope.ensures.same
     q.invariant.1 c.since.ensures.only)
 
 pub returns-clause-only : goal.returns-clause-only

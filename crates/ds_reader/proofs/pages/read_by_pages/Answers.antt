@@ -32,7 +32,7 @@ pub loop-question-preserved : goal.loop-question-preserved
 loop-question-preserved g c = (
   c.page.ensures.same ∙ c.loop-question.invariant.0,
   pages_more g.A.Asks.asks_once c.args.reading.now c.loop-question._question c.args.asked.now c.loop-question.asked c.page.new.asked _
-      c.loop-question.after c.in_ok-scope.ensures c.loop-question.invariant.1 c.page.ensures.only,
+      c.loop-question.after c.in_ok-scope.ensures.same c.loop-question.invariant.1 c.page.ensures.only,
   λ s stands.
       (let reading = c.args.reading.now in
       let q = c.loop-question in
@@ -41,7 +41,7 @@ loop-question-preserved g c = (
       let given = c.in_ok-given.given in
       let a = c.in_ok-given.ensures.given k.now k.stands in
       let there = paged_there c.laws.ensures k.now a.0 _ q.after reading.max given a.1 in
-      let is = subst (λ (x : Scope). given ≡ page_of (is_kept x) q.after reading.max (held a.0) (cursor a.0)) c.in_ok-scope.ensures there.0
+      let is = subst (λ (x : Scope). given ≡ page_of (is_kept x) q.after reading.max (held a.0) (cursor a.0)) c.in_ok-scope.ensures.same there.0
       in
       let on = paged_on c.laws.ensures (g.A.Asks.stands q.asked) s reading q.items q.after q.from q._question k a.0 there.1 given is next
       a.2 c.if-given.false in
@@ -64,7 +64,8 @@ pub returns-in_err-scope-clause-stopped : goal.returns-in_err-scope-clause-stopp
 returns-in_err-scope-clause-stopped g c =
     let exit = err_from_is_err_and c.from_residual.result c.from_residual.ensures.1 in
     rw (exit.1, exit.2) (λ s stands. (let k = c.loop-question.invariant.2 s stands in
-    let test = c.loop-question-test.true in (k.now, k.goes, k.stands, inl (k.turns, omega (arith, test, k.count_is), inl k.all))))
+    let test = c.loop-question-test.true in (k.now, k.goes, k.stands, inl
+    (k.turns, omega (arith, test, k.count_is), inl (k.all, c.in_err-scope.ensures.room)))))
 
 pub returns-in_err-given-clause-stopped : goal.returns-in_err-given-clause-stopped
 returns-in_err-given-clause-stopped g c =
@@ -72,7 +73,7 @@ returns-in_err-given-clause-stopped g c =
     let q = c.loop-question in
     rw (exit.1, exit.2) (λ s stands.
     stops_page c.laws.ensures g.A.Asks.stands g.A.Asks.is_worn q.asked c.page.new.asked s c.args.reading.now _ q.items q.after q.from
-    q._question c.in_err-given.field-0.0 c.in_ok-scope.ensures c.in_err-given.ensures.refused (q.invariant.2 s stands))
+    q._question c.in_err-given.field-0.0 c.in_ok-scope.ensures.same c.in_err-given.ensures.refused (q.invariant.2 s stands))
 
 pub returns-in_err-append_copies-clause-stopped : goal.returns-in_err-append_copies-clause-stopped
 returns-in_err-append_copies-clause-stopped g c =
@@ -84,7 +85,7 @@ returns-in_err-append_copies-clause-stopped g c =
     let given = c.in_ok-given.given in
     let reading = c.args.reading.now in
     let there = paged_there c.laws.ensures k.now a.0 _ q.after reading.max given a.1 in
-    let is = subst (λ (x : Scope). given ≡ page_of (is_kept x) q.after reading.max (held a.0) (cursor a.0)) c.in_ok-scope.ensures there.0 in
+    let is = subst (λ (x : Scope). given ≡ page_of (is_kept x) q.after reading.max (held a.0) (cursor a.0)) c.in_ok-scope.ensures.same there.0 in
     let test = c.loop-question-test.true in (
       a.0,
       gone c.laws.ensures (g.A.Asks.stands q.asked) s reading q.items q.after q.from q._question k a.0 there.1,
@@ -109,7 +110,7 @@ returns-in_err-catch_up-clause-stopped g c =
     let k = q.invariant.2 s stands in
     let a = c.in_ok-given.ensures.given k.now k.stands in
     let there = paged_there c.laws.ensures k.now a.0 _ q.after reading.max given a.1 in
-    let is = subst (λ (x : Scope). given ≡ page_of (is_kept x) q.after reading.max (held a.0) (cursor a.0)) c.in_ok-scope.ensures there.0 in
+    let is = subst (λ (x : Scope). given ≡ page_of (is_kept x) q.after reading.max (held a.0) (cursor a.0)) c.in_ok-scope.ensures.same there.0 in
     let b = c.in_err-catch_up.ensures.stopped a.0 a.2 in
     let all =
     all_paged c.laws.ensures stood s reading q.items q.after q.from q._question k a.0 there.1 given is c.if-given.true b.0 b.1 in (
@@ -133,7 +134,7 @@ returns-then-given-clause-whole g c = λ s stands.
     let k = q.invariant.2 s stands in
     let a = c.in_ok-given.ensures.given k.now k.stands in
     let there = paged_there c.laws.ensures k.now a.0 _ q.after reading.max given a.1 in
-    let is = subst (λ (x : Scope). given ≡ page_of (is_kept x) q.after reading.max (held a.0) (cursor a.0)) c.in_ok-scope.ensures there.0 in
+    let is = subst (λ (x : Scope). given ≡ page_of (is_kept x) q.after reading.max (held a.0) (cursor a.0)) c.in_ok-scope.ensures.same there.0 in
     let b = c.in_ok-catch_up.ensures.caught a.0 a.2 in
     let first = subst (λ (x : Cursor). IsCaughtUp b.0 reading.query x c.append_copies.new.self c.catch_up.new.items)
     c.unwrap_or-first.ensures b.3
@@ -158,7 +159,7 @@ returns-then-given-clause-items g c = λ s stands.
     let k = q.invariant.2 s stands in
     let a = c.in_ok-given.ensures.given k.now k.stands in
     let there = paged_there c.laws.ensures k.now a.0 _ q.after reading.max given a.1 in
-    let is = subst (λ (x : Scope). given ≡ page_of (is_kept x) q.after reading.max (held a.0) (cursor a.0)) c.in_ok-scope.ensures there.0 in
+    let is = subst (λ (x : Scope). given ≡ page_of (is_kept x) q.after reading.max (held a.0) (cursor a.0)) c.in_ok-scope.ensures.same there.0 in
     let b = c.in_ok-catch_up.ensures.caught a.0 a.2 in
     let first = subst (λ (x : Cursor). IsCaughtUp b.0 reading.query x c.append_copies.new.self c.catch_up.new.items)
     c.unwrap_or-first.ensures b.3
@@ -200,7 +201,7 @@ returns-in_err-given-clause-only g c =
     let q = c.loop-question in
     let reading = c.args.reading.now in
     by_pages g.A.Asks.asks_once reading (q._question + 1) c.args.asked.now c.page.new.asked (omega (arith, c.loop-question-test.true))
-    (pages_more g.A.Asks.asks_once reading q._question c.args.asked.now q.asked c.page.new.asked _ q.after c.in_ok-scope.ensures
+    (pages_more g.A.Asks.asks_once reading q._question c.args.asked.now q.asked c.page.new.asked _ q.after c.in_ok-scope.ensures.same
     q.invariant.1 c.page.ensures.only)
 
 pub returns-in_err-append_copies-clause-only : goal.returns-in_err-append_copies-clause-only
@@ -208,7 +209,7 @@ returns-in_err-append_copies-clause-only g c =
     let q = c.loop-question in
     let reading = c.args.reading.now in
     by_pages g.A.Asks.asks_once reading (q._question + 1) c.args.asked.now c.page.new.asked (omega (arith, c.loop-question-test.true))
-    (pages_more g.A.Asks.asks_once reading q._question c.args.asked.now q.asked c.page.new.asked _ q.after c.in_ok-scope.ensures
+    (pages_more g.A.Asks.asks_once reading q._question c.args.asked.now q.asked c.page.new.asked _ q.after c.in_ok-scope.ensures.same
     q.invariant.1 c.page.ensures.only)
 
 pub returns-in_err-catch_up-clause-only : goal.returns-in_err-catch_up-clause-only
@@ -217,7 +218,7 @@ returns-in_err-catch_up-clause-only g c =
     let reading = c.args.reading.now in
     by_both g.A.Asks.asks_once reading (q._question + 1) c.args.asked.now c.page.new.asked c.catch_up.new.asked
     (omega (arith, c.loop-question-test.true))
-    (pages_more g.A.Asks.asks_once reading q._question c.args.asked.now q.asked c.page.new.asked _ q.after c.in_ok-scope.ensures
+    (pages_more g.A.Asks.asks_once reading q._question c.args.asked.now q.asked c.page.new.asked _ q.after c.in_ok-scope.ensures.same
     q.invariant.1 c.page.ensures.only) c.catch_up.ensures.only
 
 pub returns-then-given-clause-only : goal.returns-then-given-clause-only
@@ -226,7 +227,7 @@ returns-then-given-clause-only g c =
     let reading = c.args.reading.now in
     by_both g.A.Asks.asks_once reading (q._question + 1) c.args.asked.now c.page.new.asked c.catch_up.new.asked
     (omega (arith, c.loop-question-test.true))
-    (pages_more g.A.Asks.asks_once reading q._question c.args.asked.now q.asked c.page.new.asked _ q.after c.in_ok-scope.ensures
+    (pages_more g.A.Asks.asks_once reading q._question c.args.asked.now q.asked c.page.new.asked _ q.after c.in_ok-scope.ensures.same
     q.invariant.1 c.page.ensures.only) c.catch_up.ensures.only
 
 pub returns-clause-only : goal.returns-clause-only

@@ -1,4 +1,4 @@
-use Rattle.std.proofs.Common.{◌≡◌, sym, ap, subst}
+use Rattle.std.proofs.Common.{sym, ap, subst}
 use Rattle.ds_content.specs.Content.{ContentRecord}
 use Rattle.ds_store.specs.Turns.{Turn}
 use Rattle.rs_store.specs.Pair.{PairRecord}
