@@ -64,8 +64,13 @@ pub returns-in_err-scope-clause-stopped : goal.returns-in_err-scope-clause-stopp
 returns-in_err-scope-clause-stopped g c =
     let exit = err_from_is_err_and c.from_residual.result c.from_residual.ensures.1 in
     rw (exit.1, exit.2) (λ s stands. (let k = c.loop-question.invariant.2 s stands in
-    let test = c.loop-question-test.true in (k.now, k.goes, k.stands, inl
-    (k.turns, omega (arith, test, k.count_is), inl (k.all, c.in_err-scope.ensures.room)))))
+    let test = c.loop-question-test.true in (
+      k.now,
+      k.goes,
+      k.stands,
+      inl
+          (k.turns, omega (arith, test, k.count_is), inl (k.all, c.in_err-scope.ensures.room)),
+    )))
 
 pub returns-in_err-given-clause-stopped : goal.returns-in_err-given-clause-stopped
 returns-in_err-given-clause-stopped g c =
