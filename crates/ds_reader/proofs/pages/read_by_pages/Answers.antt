@@ -41,7 +41,8 @@ loop-question-preserved g c = (
       let given = c.in_ok-given.given in
       let a = c.in_ok-given.ensures.given k.now k.stands in
       let there = paged_there c.laws.ensures k.now a.0 _ q.after reading.max given a.1 in
-      let is = subst (λ (x : Scope). given ≡ page_of (is_kept x) q.after reading.max (held a.0) (cursor a.0)) c.in_ok-scope.ensures.same there.0
+      let is = subst (λ (x : Scope). given ≡ page_of (is_kept x) q.after reading.max (held a.0) (cursor a.0)) c.in_ok-scope.ensures.same
+      there.0
       in
       let on = paged_on c.laws.ensures (g.A.Asks.stands q.asked) s reading q.items q.after q.from q._question k a.0 there.1 given is next
       a.2 c.if-given.false in
@@ -90,7 +91,8 @@ returns-in_err-append_copies-clause-stopped g c =
     let given = c.in_ok-given.given in
     let reading = c.args.reading.now in
     let there = paged_there c.laws.ensures k.now a.0 _ q.after reading.max given a.1 in
-    let is = subst (λ (x : Scope). given ≡ page_of (is_kept x) q.after reading.max (held a.0) (cursor a.0)) c.in_ok-scope.ensures.same there.0 in
+    let is = subst (λ (x : Scope). given ≡ page_of (is_kept x) q.after reading.max (held a.0) (cursor a.0)) c.in_ok-scope.ensures.same
+    there.0 in
     let test = c.loop-question-test.true in (
       a.0,
       gone c.laws.ensures (g.A.Asks.stands q.asked) s reading q.items q.after q.from q._question k a.0 there.1,
@@ -115,7 +117,8 @@ returns-in_err-catch_up-clause-stopped g c =
     let k = q.invariant.2 s stands in
     let a = c.in_ok-given.ensures.given k.now k.stands in
     let there = paged_there c.laws.ensures k.now a.0 _ q.after reading.max given a.1 in
-    let is = subst (λ (x : Scope). given ≡ page_of (is_kept x) q.after reading.max (held a.0) (cursor a.0)) c.in_ok-scope.ensures.same there.0 in
+    let is = subst (λ (x : Scope). given ≡ page_of (is_kept x) q.after reading.max (held a.0) (cursor a.0)) c.in_ok-scope.ensures.same
+    there.0 in
     let b = c.in_err-catch_up.ensures.stopped a.0 a.2 in
     let all =
     all_paged c.laws.ensures stood s reading q.items q.after q.from q._question k a.0 there.1 given is c.if-given.true b.0 b.1 in (
@@ -139,7 +142,8 @@ returns-then-given-clause-whole g c = λ s stands.
     let k = q.invariant.2 s stands in
     let a = c.in_ok-given.ensures.given k.now k.stands in
     let there = paged_there c.laws.ensures k.now a.0 _ q.after reading.max given a.1 in
-    let is = subst (λ (x : Scope). given ≡ page_of (is_kept x) q.after reading.max (held a.0) (cursor a.0)) c.in_ok-scope.ensures.same there.0 in
+    let is = subst (λ (x : Scope). given ≡ page_of (is_kept x) q.after reading.max (held a.0) (cursor a.0)) c.in_ok-scope.ensures.same
+    there.0 in
     let b = c.in_ok-catch_up.ensures.caught a.0 a.2 in
     let first = subst (λ (x : Cursor). IsCaughtUp b.0 reading.query x c.append_copies.new.self c.catch_up.new.items)
     c.unwrap_or-first.ensures b.3
@@ -164,7 +168,8 @@ returns-then-given-clause-items g c = λ s stands.
     let k = q.invariant.2 s stands in
     let a = c.in_ok-given.ensures.given k.now k.stands in
     let there = paged_there c.laws.ensures k.now a.0 _ q.after reading.max given a.1 in
-    let is = subst (λ (x : Scope). given ≡ page_of (is_kept x) q.after reading.max (held a.0) (cursor a.0)) c.in_ok-scope.ensures.same there.0 in
+    let is = subst (λ (x : Scope). given ≡ page_of (is_kept x) q.after reading.max (held a.0) (cursor a.0)) c.in_ok-scope.ensures.same
+    there.0 in
     let b = c.in_ok-catch_up.ensures.caught a.0 a.2 in
     let first = subst (λ (x : Cursor). IsCaughtUp b.0 reading.query x c.append_copies.new.self c.catch_up.new.items)
     c.unwrap_or-first.ensures b.3
