@@ -43,7 +43,7 @@ use Rattle.rs_store.specs.Pair.{PairRecord}
 use Rattle.rs_store.specs.Serving.{ClientTurn, BeginTurn, BeginsFirst, EventTurn, RsServes, TurnFor, TurnsFor, before_beginning}
 use Rattle.rs_store.specs.Turns.{RsTurn}
 use Rattle.rs_store.specs.Laws.{entry_if, entries_for, entries_by, store_entries, StoreTurnsRun, actions_in, actions_by, RsTurnsRun}
-use Rattle.rs_store.specs.Laws.{HistoriesKeepLabels, RsAloneIsRs, StandAlike, PairsSettle}
+use Rattle.rs_store.specs.Laws.{events_in, events_by, RsAnswers, HistoriesKeepLabels, RsAloneIsRs, StandAlike, PairsSettle}
 
 -- ---- the store's part
 
@@ -119,18 +119,21 @@ store_turns_run (e ∷ es) old new run =
 
 -- ---- RS's part
 
-abbrev Goes : RsRecord → RsReply → Option RsRecord → Type 0
-Goes rs reply after = (t : RsRecord) × (after ≡ Some t) × RsRun rs (actions_in reply) t
+abbrev Goes : ℕ → RsCommand → RsRecord → RsReply → Option RsRecord → Type 0
+Goes n command rs reply after = (t : RsRecord) × (after ≡ Some t) × Run RsAnswers rs (events_in n command reply) t
+    × RsRun rs (actions_in reply) t
 
-served : (event : Event) (tick : ℕ) (rs : RsRecord) (reply : RsReply) (old : ContentRecord) (after : Option RsRecord) (new : ContentRecord)
-    → RsServes event tick rs old reply after new → Goes rs reply after
-served event tick rs (Acted acts replies given) old after new h = (h.0.0, h.0.2, (h.0.0, (event, tick, h.0.1), refl))
-served event tick rs (Refused fault) old after new h = (rs, h.1, refl)
-served event tick rs (Replied r) old after new h = absurd h
-served event tick rs NotAllowed old after new h = absurd h
-served event tick rs (Begun k l) old after new h = absurd h
-served event tick rs Exists old after new h = absurd h
-served event tick rs (NotBegun f) old after new h = absurd h
+served : (n : ℕ) (event : Event) (tick : ℕ) (rs : RsRecord) (reply : RsReply) (old : ContentRecord) (after : Option RsRecord)
+    (new : ContentRecord)
+    → RsServes event tick rs old reply after new → Goes n (Tell event tick) rs reply after
+served n event tick rs (Acted acts replies given) old after new h =
+    (h.0.0, h.0.2, (h.0.0, (h.0.1, h.2), refl), (h.0.0, (event, tick, h.0.1), refl))
+served n event tick rs (Refused fault) old after new h = (rs, h.1, (rs, (h.0, refl), refl), refl)
+served n event tick rs (Replied r) old after new h = absurd h
+served n event tick rs NotAllowed old after new h = absurd h
+served n event tick rs (Begun k l) old after new h = absurd h
+served n event tick rs Exists old after new h = absurd h
+served n event tick rs (NotBegun f) old after new h = absurd h
 
 -- a client's command has no actions
 asks_act_not : (o : Option RsRecord) (c : Command) (reply : RsReply) (old new : ContentRecord) → ClientTurn o old c reply new →
@@ -143,23 +146,31 @@ asks_act_not o c (NotBegun f) old new h = absurd h
 asks_act_not o c (Acted acts replies given) old new h = absurd h
 asks_act_not o c (Refused fault) old new h = absurd h
 
-one_goes : (command : RsCommand) (reply : RsReply) (old new : PairRecord) (rs : RsRecord) → old.services ≡ Some rs →
-    RsTurn old command reply new → Goes rs reply new.services
-one_goes (Ask c) reply old new rs e h =
-    (rs, h.1 ∙ e, subst (λ (l : List (List Action)). RsRun rs l rs) (sym (asks_act_not old.services c reply old.store new.store h.0)) refl)
-one_goes (Begin settings next first) reply old new rs e h =
+one_goes : (n : ℕ) (command : RsCommand) (reply : RsReply) (old new : PairRecord) (rs : RsRecord) → old.services ≡ Some rs →
+    RsTurn old command reply new → Goes n command rs reply new.services
+one_goes n (Ask c) reply old new rs e h =
+    (rs, h.1 ∙ e, refl, subst (λ (l : List (List Action)). RsRun rs l rs) (sym (asks_act_not old.services c reply old.store new.store h.0)) refl)
+one_goes n (Begin settings next first) reply old new rs e h =
     let begins = subst (λ (o : Option RsRecord). BeginTurn o settings next first reply new.services) e h.0 in
-    subst (λ (r : RsReply). Goes rs r new.services) (sym begins.0) (rs, begins.1, refl)
-one_goes (Tell event tick) reply old new rs e h =
-    served event tick rs reply old.store new.services new.store
+    subst (λ (r : RsReply). Goes n (Begin settings next first) rs r new.services) (sym begins.0) (rs, begins.1, refl, refl)
+one_goes n (Tell event tick) reply old new rs e h =
+    served n event tick rs reply old.store new.services new.store
     (subst (λ (o : Option RsRecord). EventTurn event tick o old.store reply new.services new.store) e h)
 
 pub rs_turns_run : RsTurnsRun
-rs_turns_run [] old new rs e run = (rs, ap (λ (p : PairRecord). p.services) (sym run) ∙ e, refl)
+rs_turns_run [] old new rs e run =
+    (rs, ap (λ (p : PairRecord). p.services) (sym run) ∙ e, record { events = refl; actions = refl })
 rs_turns_run (x ∷ es) old new rs e run =
-    let one = one_goes x.command x.reply old run.0 rs e run.1 in
-    let more = rs_turns_run es run.0 new one.0 one.1 run.2 in
-    (more.0, more.1, path_join RsActs rs one.0 more.0 (actions_in x.reply) (actions_by es) one.2 more.2)
+    let one = one_goes x.pass x.command x.reply old run.0 rs e run.1 in
+    let more = rs_turns_run es run.0 new one.0 one.1 run.2 in (
+      more.0,
+      more.1,
+      record {
+        events =
+            run_join RsAnswers rs one.0 more.0 (events_in x.pass x.command x.reply) (events_by es) one.2 more.2.events;
+        actions = path_join RsActs rs one.0 more.0 (actions_in x.reply) (actions_by es) one.3 more.2.actions;
+      },
+    )
 
 -- ---- labels
 
@@ -213,7 +224,7 @@ histories_keep_labels (x ∷ es) old new e run =
     by : (o : Option RsRecord) → run.0.services ≡ o → (run.0.services ≡ None → IsSingleNumbered (flat_map offers (actions_by es))) →
         IsSingleNumbered (flat_map offers (actions_by es))
     by None q rest = rest q
-    by (Some rs) q rest = let go = rs_turns_run es run.0 new rs q run.2 in labels_single_numbered rs go.0 (actions_by es) go.2
+    by (Some rs) q rest = let go = rs_turns_run es run.0 new rs q run.2 in labels_single_numbered rs go.0 (actions_by es) go.2.actions
 
 -- ---- commands in RS's name
 
@@ -304,7 +315,7 @@ asked_join (x ∷ xs) ys = append_assoc (commands x) (flat_map commands xs) (fla
 pub rs_alone : RsAloneIsRs
 rs_alone [] old new rs e run = refl
 rs_alone (x ∷ es) old new rs e run =
-    let go = one_goes x.command x.reply old run.0 rs e run.1 in
+    let go = one_goes x.pass x.command x.reply old run.0 rs e run.1 in
     let first = entries_by x.pass x.command x.reply in
     by_rs_join first (store_entries es)
     ∙ ap (λ (l : List Command). l ++ by_rs_in (store_entries es)) (one_alone x.pass x.command x.reply old run.0 rs e run.1)

@@ -12,14 +12,17 @@ use Rattle.rs_to_store.specs.Asked.{command_of, commands}
 use Rattle.ds_store.specs.Turns.{Turn, commands_of}
 use Rattle.ds_entry.specs.SingleNumbered.{IsSingleNumbered}
 use Rattle.rs_core.specs.declared.action.Action.{Action}
+use Rattle.rs_core.specs.Reading.{given_up}
 use Rattle.rs_core.specs.Run.{RsRun, offers}
 use Rattle.rs_core.specs.State.{RsRecord}
+use Rattle.rs_core.specs.Step.{RsStep}
 use Rattle.rs_store.specs.ByRs.{is_by_rs}
 use Rattle.rs_store.specs.declared.call.RsCommand.{RsCommand}
 use Rattle.rs_store.specs.declared.call.RsCommand.TheVariants.{Ask, Tell}
 use Rattle.rs_store.specs.declared.call.RsReply.{RsReply}
-use Rattle.rs_store.specs.declared.call.RsReply.TheVariants.{Replied, Acted}
+use Rattle.rs_store.specs.declared.call.RsReply.TheVariants.{Replied, Acted, Refused}
 use Rattle.rs_store.specs.Pair.{PairRecord}
+use Rattle.rs_store.specs.Serving.{RsRefuses}
 use Rattle.rs_store.specs.Turns.{RsTurn}
 
 -- ---- the store's part
@@ -60,10 +63,31 @@ actions_in _ = []
 abbrev pub actions_by : List (Entry RsCommand RsReply) → List (List Action)
 actions_by es = flat_map (λ (e : Entry RsCommand RsReply). actions_in e.reply) es
 
--- A law: once RS has begun, they are a run of RS.
+-- RS's turn in one turn of both: an event at its tick, with the reply.
+abbrev pub events_in : ℕ → RsCommand → RsReply → List (Entry RsCommand RsReply)
+events_in n (Tell event tick) reply = entry n (Tell event tick) reply ∷ []
+events_in n _ reply = []
+
+-- RS's turns in a history: every event, in order.
+abbrev pub events_by : List (Entry RsCommand RsReply) → List (Entry RsCommand RsReply)
+events_by es = flat_map (λ (e : Entry RsCommand RsReply). events_in e.pass e.command e.reply) es
+
+-- The effect of an event on RS alone. The actions are those of RS's step at this event and tick, and the reply has the service that RS
+-- gave up; or RS refuses the event for this fault, and is unchanged.
+abbrev pub RsAnswers : RsRecord → RsCommand → RsReply → RsRecord → Type 0
+RsAnswers rs (Tell event tick) (Acted actions replies given) new = RsStep rs event tick actions new × (given ≡ given_up rs event tick)
+RsAnswers rs (Tell event tick) (Refused fault) new = RsRefuses rs event tick fault × (new ≡ rs)
+RsAnswers rs _ _ new = ⊥
+
+-- Whether RS's part of a history leads from one state of RS to another: its events, and its actions.
+pub record RsRunsBy (es : List (Entry RsCommand RsReply)) (rs new : RsRecord) : Type 0 where
+  pub events : Run RsAnswers rs (events_by es) new
+  pub actions : RsRun rs (actions_by es) new
+
+-- A law: once RS has begun, its part of a history is a run of RS over exactly the events of the history.
 abbrev pub RsTurnsRun : Type 0
 RsTurnsRun = (es : List (Entry RsCommand RsReply)) (old new : PairRecord) (rs : RsRecord) → old.services ≡ Some rs → Run RsTurn old es new →
-    (t : RsRecord) × (new.services ≡ Some t) × RsRun rs (actions_by es) t
+    (t : RsRecord) × (new.services ≡ Some t) × RsRunsBy es rs t
 
 -- A law: from before RS began, no two label changes that it offers contradict each other.
 abbrev pub HistoriesKeepLabels : Type 0

@@ -36,9 +36,9 @@ impl Machine for RsStore {
 /// The laws of histories of RS and its store.
 ///
 /// The store's part of a history, which is the clients' commands and those of RS's actions in one order, is a history
-/// of the store. RS's part is a run of RS. No two label changes that RS offers contradict each other. Once RS has
-/// begun, the commands with RS as their caller are exactly those of its actions. The replies settle the state after a
-/// history.
+/// of the store. RS's part is a run of RS over exactly the events of the history, in order, each at its tick and with
+/// its actions or its fault. No two label changes that RS offers contradict each other. Once RS has begun, the commands
+/// with RS as their caller are exactly those of its actions. The replies settle the state after a history.
 pub fn pairs_take_turns()
     ensures store { StoreTurnsRun }
     ensures services { RsTurnsRun }
