@@ -41,7 +41,7 @@ use Rattle.rs_to_store.specs.Following.{labels_of, news_of, taking, Follows}
 use Rattle.rs_to_store.specs.Submitting.{all_in, CallsNext, FollowsAndTakes}
 use Rattle.rs_to_store.proofs.FollowLemmas.{follows_keep_units, follows_end_for_room}
 use Rattle.c_store.specs.NoOlder.{IsSince, IsNoOlder, GoesToNoneOlder}
-use Rattle.c_store.specs.TableRuns.{IsOfMap}
+use Rattle.c_store.specs.TableRuns.{IsOfMap, HasRequest}
 use Rattle.c_store.proofs.NewsLemmas.{in_some, Knows, KnowsChange, Passes, Notes, passes_or_notes, past_knows, knows_past}
 
 -- ---- moves that go to no older instance
@@ -363,20 +363,20 @@ module _ (held : List Item) (t : DriverTable) (reached : IsTableReached t) (know
           })
 
 -- ---- a follow, and the request after it
-pub record SubmitRun (held : List Item) (id unit : ℕ) (t : DriverTable) (rounds : List (List Move)) (own : Result (List Move) TableFault)
-    (u : DriverTable) : Type 0 where
+pub record SubmitRun (held : List Item) (id unit : ℕ) (t : DriverTable) (rounds : List (List Move)) (stop : Option TableFault)
+    (own : Result (List Move) TableFault) (u : DriverTable) : Type 0 where
   pub states : List Entry
   pub own_part : List Entry
   pub run : TableRun t (states ++ own_part) u
   pub moves : all_in rounds ++ moves_in own ≡ all_moves_in (states ++ own_part)
   pub of_map : AllByRecursion (IsOfMap held) states
-  pub request : (own_part ≡ record { call = calls.Submit id unit; answer = own } ∷ []) ⊎ ((own_part ≡ []) × (own ≡ Err NoRoom))
+  pub request : HasRequest stop id unit own own_part
   pub goes : AllByRecursion (Goes held u) (all_in rounds ++ moves_in own)
 
 module _ (held : List Item) (id unit : ℕ) (t : DriverTable) (rounds : List (List Move)) (own : Result (List Move) TableFault)
     (u : DriverTable) (reached : IsTableReached t) where
   submit_by : (mid : DriverTable) (stop : Option TableFault) → Follows held (labels_of t) t rounds stop mid →
-      CallsNext stop (calls.Submit id unit) mid own u → SubmitRun held id unit t rounds own u
+      CallsNext stop (calls.Submit id unit) mid own u → SubmitRun held id unit t rounds stop own u
   submit_by mid (Some stop) follows (told, same) =
       let k = follow_run held (labels_of t) t rounds (Some stop) mid reached (labels_have t.units) follows in
       let none : moves_in own ≡ [] = ap moves_in told in
@@ -388,7 +388,7 @@ module _ (held : List Item) (id unit : ℕ) (t : DriverTable) (rounds : List (Li
         moves = ap (λ (l : List Move). all_in rounds ++ l) none ∙
             (append-nil (all_in rounds) ∙ (k.moves ∙ ap all_moves_in (sym (append-nil k.entries))));
         of_map = k.of_map;
-        request = inr (refl, told ∙ ap Err (follows_end_for_room held (labels_of t) t mid rounds stop follows).0);
+        request = (refl, told ∙ ap Err (follows_end_for_room held (labels_of t) t mid rounds stop follows).0);
         goes = subst (λ (l : List Move). AllByRecursion (Goes held u) (all_in rounds ++ l)) (sym none)
             (subst (AllByRecursion (Goes held u)) (sym (append-nil (all_in rounds)))
             (subst (λ (z : DriverTable). AllByRecursion (Goes held z) (all_in rounds)) (sym same) k.goes));
@@ -405,7 +405,7 @@ module _ (held : List Item) (id unit : ℕ) (t : DriverTable) (rounds : List (Li
             ∙ (ap (λ (l : List Move). all_moves_in k.entries ++ l) (sym (append-nil (moves_in own))) ∙
             sym (flat_map-append (λ (e : Entry). moves_in e.answer) k.entries last));
         of_map = k.of_map;
-        request = inl refl;
+        request = refl;
         goes = all_append (Goes held u) (all_in rounds) (moves_in own)
             (goes_more held mid u o.more o.units o.requests (all_in rounds) k.goes) o.goes;
       }
@@ -421,5 +421,5 @@ module _ (held : List Item) (id unit : ℕ) (t : DriverTable) (rounds : List (Li
       knows label c i q = follow_knows held label c q (labels_of t) t rounds mid (subst (In label) same_labels i) (labels_have t.units)
           follows
 
-  pub submit_run : FollowsAndTakes held id unit t rounds own u → SubmitRun held id unit t rounds own u
+  pub submit_run : (f : FollowsAndTakes held id unit t rounds own u) → SubmitRun held id unit t rounds f.stop own u
   submit_run f = submit_by f.mid f.stop f.follows f.takes

@@ -7,3 +7,4 @@ pub mod TextLemmas
 pub mod NewsLemmas
 pub mod FollowRunLemmas
 pub mod TurnLemmas
+pub mod CrossingLemmas

@@ -1,5 +1,5 @@
 -- Calls on a table from C, as a run of the table.
-use Rattle.std.proofs.Common.{◌≡◌, ◌==◌, ◌≤◌, ℕ, Bool, cond, List, [], ◌∷◌, ◌++◌, Option, Some, None, Result, Ok, Err, refl, ap, sym, ◌∙◌}
+use Rattle.std.proofs.Common.{◌≡◌, ◌==◌, ◌≤◌, ℕ, Bool, true, false, cond, List, [], ◌∷◌, ◌++◌, Option, Some, None, Result, Ok, Err, refl, ap, sym, ◌∙◌}
 use Rattle.std.proofs.Common.{subst, inl, inr, ◌⊎◌, append-nil}
 use Rattle.std.specs.Prelude.{MatchOption, length}
 use Rattle.std.specs.List.{flat_map, cons_option, AllByRecursion}
@@ -33,14 +33,17 @@ use Rattle.rs_to_store.specs.Submitting.{all_in}
 use Rattle.c_values.specs.declared.answer.Answer.{Answer}
 use Rattle.c_values.specs.Request.{endpoint_at}
 use Rattle.c_store.specs.declared.server_table.ServerTable.{ServerTable}
-use Rattle.c_store.specs.Answers.{stop_number}
+use Rattle.c_store.specs.Answers.{stop_number, told_moves}
+use Rattle.c_values.specs.Request.{is_name}
 use Rattle.c_store.specs.Calls.{class_for, Declines, AssignsTo, RepliesTo, TableFollows, TableSubmits}
-use Rattle.c_store.specs.Drivers.{kept, driver_with}
+use Rattle.c_store.specs.Drivers.{kept, driver_with, server_number, class_at}
+use Rattle.c_store.specs.declared.drivers.Tables.{Tables}
+use Rattle.c_store.specs.declared.drivers.Tables.TheVariants.{File, Net}
 use Rattle.c_store.specs.Following.{fault_in}
 use Rattle.c_store.specs.NoOlder.{HasNoOlder, GoesToNoneOlder, unit_label}
 use Rattle.c_store.specs.TableTurns.{TableCall, Assign, Follow, Submit, Reply, CallAnswers, AnsweredCall, LeadsByCall, AnsweredCalls}
 use Rattle.c_store.specs.TableTurns.{moves_of_turns, accepted_by, accepted}
-use Rattle.c_store.specs.TableRuns.{IsNoCall, IsOneCall, IsOfMap, HasRequest, IsOfCall, IsPartOfCall, ArePartsOfCalls}
+use Rattle.c_store.specs.TableRuns.{IsNoCall, IsOneCall, IsOneReply, IsOfMap, HasRequest, IsOfCall, IsPartOfCall, ArePartsOfCalls}
 use Rattle.c_store.specs.TableRuns.{TurnsAreRuns, endings_of, AnsweredOnce, IsKeptBy, IsKeptIn, RequestsAreKept, map_of_call}
 use Rattle.c_store.specs.TableRuns.{GoesToNoOlderInstance, NoneGoesToOlderInstance}
 use Rattle.c_store.proofs.NewsLemmas.{in_some}
@@ -48,29 +51,45 @@ use Rattle.c_store.proofs.FollowRunLemmas.{label_in, Goes, labels_have, follow_r
 
 -- ---- one turn
 -- it is a part of a run, accepts the requests of that part, and its moves go to no older instance than the map has
-pub record TurnRun (turn : AnsweredCall) (t : DriverTable) (new : ServerTable) : Type 0 where
+pub record TurnRun (first : ServerTable) (turn : AnsweredCall) (t : DriverTable) (new : ServerTable) : Type 0 where
   pub part : List Entry
-  pub is_part : IsPartOfCall turn part
   pub table : DriverTable
-  pub run : TableRun t part table
+  pub is_part : IsPartOfCall first t turn part table
   pub stands : TableStands (kept new.drivers) table
+  pub server : server_number new.drivers ≡ server_number first.drivers
   pub requests : requests_in part ≡ option_to_list (accepted_by turn.call turn.answer)
   pub goes : (held : List Item) → map_of_call turn.call ≡ Some held → AllByRecursion (Goes held table) turn.moves
 
 -- the same, of a call with its answer and moves
-abbrev pub CallRun : TableCall → Answer → List Move → DriverTable → ServerTable → Type 0
-CallRun call answer moves t new = TurnRun (record { call = call; answer = answer; moves = moves }) t new
+abbrev pub CallRun : ServerTable → TableCall → Answer → List Move → DriverTable → ServerTable → Type 0
+CallRun first call answer moves t new = TurnRun first (record { call = call; answer = answer; moves = moves }) t new
 
-declined_part : (call : TableCall) (old new : ServerTable) (answer : Answer) (moves : List Move) (t : DriverTable) →
-    TableStands (kept old.drivers) t → moves ≡ new.moves → Declines old answer new
-    → (IsNoCall answer [] → IsOfCall call answer []) → [] ≡ option_to_list (accepted_by call answer) →
-    ((held : List Item) → map_of_call call ≡ Some held → ⊥) → CallRun call answer moves t new
-declined_part call old new answer moves t st m d of none other = record {
+-- tables of one server are of that of the first
+abbrev pub IsOfServer : ServerTable → ServerTable → Type 0
+IsOfServer first table = server_number table.drivers ≡ server_number first.drivers
+
+-- the classes are the server's
+same_classes : (a b : Tables) → server_number b ≡ server_number a → (n : ℕ) → class_at a n ≡ class_at b n
+same_classes (File x) (File y) e n = refl
+same_classes (Net x) (Net y) e n = refl
+same_classes (File x) (Net y) e n = absurd (let q : false ≡ true = ap (λ (k : ℕ). k == 0) e in cc)
+same_classes (Net x) (File y) e n = absurd (let q : true ≡ false = ap (λ (k : ℕ). k == 0) e in cc)
+
+same_class : (first old : ServerTable) (class : ℕ) (label : List ℕ) → IsOfServer first old →
+    class_for first class label ≡ class_for old class label
+same_class first old class label e =
+    ap (λ (o : Option Class). cond (is_name label) o None) (same_classes first.drivers old.drivers e class)
+
+declined_part : (first : ServerTable) (call : TableCall) (old new : ServerTable) (answer : Answer) (moves : List Move) (t : DriverTable) →
+    IsOfServer first old → TableStands (kept old.drivers) t → moves ≡ new.moves → Declines old answer new
+    → (IsNoCall answer [] → IsOfCall first t call answer moves [] t) → [] ≡ option_to_list (accepted_by call answer) →
+    ((held : List Item) → map_of_call call ≡ Some held → ⊥) → CallRun first call answer moves t new
+declined_part first call old new answer moves t same st m d of none other = record {
   part = [];
-  is_part = record { of_call = of (record { none = refl; told = d.told }); moves = m ∙ d.none };
+  is_part = record { run = refl; of_call = of (record { none = refl; told = d.told }); moves = m ∙ d.none };
   table = t;
-  run = refl;
   stands = subst (λ z. TableStands (kept z) t) (sym d.drivers) st;
+  server = ap server_number d.drivers ∙ same;
   requests = none;
   goes = λ held e. absurd (other held e);
 }
@@ -85,47 +104,56 @@ assigned_none t u unit driver (Ok moves) s = by (assigning t unit driver).0 s.an
     by (Ok done) e = cc
     by (Err fault) e = absurd (cc)
 
-assign_part : (unit class : ℕ) (label : List ℕ) (old new : ServerTable) (answer : Answer) (moves : List Move) (t : DriverTable) →
-    TableStands (kept old.drivers) t → moves ≡ new.moves → (o : Option Class)
-    → MatchOption o (Declines old answer new) (AssignsTo unit label old answer new) → CallRun (Assign unit class label) answer moves t new
-assign_part unit class label old new answer moves t st m None d =
-    declined_part (Assign unit class label) old new answer moves t st m d inl refl (λ held e. (let n : None ≡ Some held = e in cc))
-assign_part unit class label old new answer moves t st m (Some of) a =
+assign_part : (first : ServerTable) (unit class : ℕ) (label : List ℕ) (old new : ServerTable) (answer : Answer) (moves : List Move)
+    (t : DriverTable) → IsOfServer first old → TableStands (kept old.drivers) t → moves ≡ new.moves → (o : Option Class)
+    → class_for first class label ≡ o → MatchOption o (Declines old answer new) (AssignsTo unit label old answer new)
+    → CallRun first (Assign unit class label) answer moves t new
+assign_part first unit class label old new answer moves t same st m None q d =
+    declined_part first (Assign unit class label) old new answer moves t same st m d
+    (λ (n : IsNoCall answer []). subst (λ (o : Option Class).
+    MatchOption o (IsNoCall answer []) (λ (of : Class). IsOneCall (calls.Assign unit (driver_with label of)) answer [])) (sym q) n)
+    refl (λ held e. (let n : None ≡ Some held = e in cc))
+assign_part first unit class label old new answer moves t same st m (Some of) q a =
     let s = a.steps.steps t st in record {
-      part = record { call = calls.Assign unit (driver_with label of); answer = a.said } ∷ [];
-      is_part =
-          record {
-            of_call = inr (of, record { said = a.said; one = refl; told = a.told });
-            moves =
-                m ∙ (a.none ∙ (sym (assigned_none t s.0 unit (driver_with label of) a.said s.1) ∙ sym (append-nil (moves_in a.said))));
-          };
+      part = part;
+      is_part = record {
+        run = (s.0, s.1, refl);
+        of_call = subst (λ (o : Option Class). MatchOption o (IsNoCall answer part)
+            (λ (of : Class). IsOneCall (calls.Assign unit (driver_with label of)) answer part)) (sym q)
+            (record { said = a.said; one = refl; told = a.told });
+        moves = m ∙ (a.none ∙ (sym (assigned_none t s.0 unit (driver_with label of) a.said s.1) ∙ sym (append-nil (moves_in a.said))));
+      };
       table = s.0;
-      run = (s.0, s.1, refl);
       stands = s.2;
+      server = a.steps.server ∙ same;
       requests = refl;
       goes = λ held e. absurd (let n : None ≡ Some held = e in cc);
     }
+  where
+    part : List Entry
+    part = record { call = calls.Assign unit (driver_with label of); answer = a.said } ∷ []
 
-reply_part : (generation slot id : ℕ) (old new : ServerTable) (answer : Answer) (moves : List Move) (t : DriverTable) →
-    TableStands (kept old.drivers) t → moves ≡ new.moves → (o : Option EndpointRecord) → endpoint_at generation slot ≡ o
-    → MatchOption o (Declines old answer new) (RepliesTo id old answer new) → CallRun (Reply generation slot id) answer moves t new
-reply_part generation slot id old new answer moves t st m None q d =
-    declined_part (Reply generation slot id) old new answer moves t st m d
+reply_part : (first : ServerTable) (generation slot id : ℕ) (old new : ServerTable) (answer : Answer) (moves : List Move)
+    (t : DriverTable) → IsOfServer first old → TableStands (kept old.drivers) t → moves ≡ new.moves → (o : Option EndpointRecord)
+    → endpoint_at generation slot ≡ o → MatchOption o (Declines old answer new) (RepliesTo id old answer new)
+    → CallRun first (Reply generation slot id) answer moves t new
+reply_part first generation slot id old new answer moves t same st m None q d =
+    declined_part first (Reply generation slot id) old new answer moves t same st m d
     (λ (n : IsNoCall answer []). subst (λ (o : Option EndpointRecord).
-    MatchOption o (IsNoCall answer []) (λ (e : EndpointRecord). IsOneCall (calls.Reply e id) answer [])) (sym q) n)
+    MatchOption o (IsNoCall answer []) (IsOneReply t id answer [])) (sym q) n)
     refl (λ held e. (let n : None ≡ Some held = e in cc))
-reply_part generation slot id old new answer moves t st m (Some endpoint) q r =
+reply_part first generation slot id old new answer moves t same st m (Some endpoint) q r =
     let s = r.replies.steps.steps t st in record {
       part = part;
       is_part = record {
-        of_call = subst (λ (o : Option EndpointRecord).
-            MatchOption o (IsNoCall answer part) (λ (e : EndpointRecord). IsOneCall (calls.Reply e id) answer part)) (sym q)
-            (record { said = r.said; one = refl; told = r.told });
+        run = (s.0, s.1, refl);
+        of_call = subst (λ (o : Option EndpointRecord). MatchOption o (IsNoCall answer part) (IsOneReply t id answer part)) (sym q)
+            (record { call = record { said = r.said; one = refl; told = r.told }; exact = r.replies.exact t st });
         moves = m ∙ (r.moves ∙ sym (append-nil (moves_in r.said)));
       };
       table = s.0;
-      run = (s.0, s.1, refl);
       stands = s.2;
+      server = r.replies.steps.server ∙ same;
       requests = refl;
       goes = λ held e. absurd (let n : None ≡ Some held = e in cc);
     }
@@ -139,18 +167,29 @@ no_requests held [] all = refl
 no_requests held (entry ∷ entries) ((label, c, there, is), all) =
     ap (λ (call : Call). cons_option (request_in call entry.answer) (requests_in entries)) is ∙ no_requests held entries all
 
-follow_part : (held : List Item) (old new : ServerTable) (answer : Answer) (moves : List Move) (t : DriverTable) →
-    TableStands (kept old.drivers) t → moves ≡ new.moves → TableFollows held old answer new
-    → CallRun (Follow held) answer moves t new
-follow_part held old new answer moves t st m f =
+follow_part : (first : ServerTable) (held : List Item) (old new : ServerTable) (answer : Answer) (moves : List Move) (t : DriverTable) →
+    IsOfServer first old → TableStands (kept old.drivers) t → moves ≡ new.moves → TableFollows held old answer new
+    → CallRun first (Follow held) answer moves t new
+follow_part first held old new answer moves t server st m f =
     let went = f.follows.1 t st in
     let k = follow_run held (labels_of t) t went.1 f.stop went.0 st.reached (labels_have t.units) went.3 in
     let same : moves ≡ all_in went.1 = m ∙ (f.follows.2 ∙ ap all_in went.2) in record {
       part = k.entries;
-      is_part = record { of_call = k.of_map; moves = same ∙ k.moves };
+      is_part = record {
+        run = k.run;
+        of_call = record {
+          rounds = went.1;
+          stop = f.stop;
+          follows = went.3;
+          of_map = k.of_map;
+          moves_are = same;
+          told = f.told ∙ ap (λ (l : List Move). told_moves l f.stop) (sym m);
+        };
+        moves = same ∙ k.moves;
+      };
       table = went.0;
-      run = k.run;
       stands = went.4;
+      server = f.server ∙ server;
       requests = no_requests held k.entries k.of_map;
       goes = λ other e. subst (λ (h : List Item). AllByRecursion (Goes h went.0) moves) (in_some e)
           (subst (AllByRecursion (Goes held went.0)) (sym same) k.goes);
@@ -178,10 +217,10 @@ accepted_so held id unit answer own is = by own (ap (λ (n : ℕ). n == 0) is)
 abbrev pub in_entry : Entry → Option Request
 in_entry e = request_in e.call e.answer
 
-submit_part : (held : List Item) (id unit : ℕ) (old new : ServerTable) (answer : Answer) (moves : List Move) (t : DriverTable) →
-    TableStands (kept old.drivers) t → moves ≡ new.moves → TableSubmits held id unit old answer new
-    → CallRun (Submit held id unit) answer moves t new
-submit_part held id unit old new answer moves t st m f =
+submit_part : (first : ServerTable) (held : List Item) (id unit : ℕ) (old new : ServerTable) (answer : Answer) (moves : List Move)
+    (t : DriverTable) → IsOfServer first old → TableStands (kept old.drivers) t → moves ≡ new.moves
+    → TableSubmits held id unit old answer new → CallRun first (Submit held id unit) answer moves t new
+submit_part first held id unit old new answer moves t server st m f =
     let own = f.submits.1 in
     let went = f.submits.2 t st in
     let k = submit_run held id unit t went.1 own went.0 st.reached went.3 in
@@ -190,56 +229,61 @@ submit_part held id unit old new answer moves t st m f =
     record {
       part = k.states ++ k.own_part;
       is_part = record {
-        of_call =
-            record
-            { states = k.states; own = k.own_part; part_is = refl; of_map = k.of_map; request = asked own k.own_part refusal k.request };
+        run = k.run;
+        of_call = record {
+          rounds = went.1;
+          said = own;
+          takes = went.3;
+          states = k.states;
+          own = k.own_part;
+          part_is = refl;
+          of_map = k.of_map;
+          request = k.request;
+          moves_are = same;
+          told = f.told ∙ (ap (λ (l : List Move). told_moves l f.stop) (sym m) ∙ ap (told_moves moves) f.submits.4);
+        };
         moves = same ∙ k.moves;
       };
       table = went.0;
-      run = k.run;
       stands = went.4;
+      server = f.server ∙ server;
       requests = filter_map-append in_entry k.states k.own_part ∙
           (ap (λ (l : List Request). l ++ requests_in k.own_part) (no_requests held k.states k.of_map) ∙
-          one own k.own_part refusal k.request);
+          one own k.own_part went.3.stop refusal k.request);
       goes = λ other e. subst (λ (h : List Item). AllByRecursion (Goes h went.0) moves) (in_some e)
           (subst (AllByRecursion (Goes held went.0)) (sym same) k.goes);
     }
   where
-    asked : (own : Result (List Move) TableFault) (part : List Entry) → answer.refusal ≡ stop_number (fault_in own) →
-        (part ≡ record { call = calls.Submit id unit; answer = own } ∷ []) ⊎ ((part ≡ []) × (own ≡ Err faults.NoRoom))
-        → HasRequest id unit answer part
-    asked own part q (inl e) = inl (own, e, q)
-    asked own part q (inr e) = inr (e.0, q ∙ ap (λ (o : Result (List Move) TableFault). stop_number (fault_in o)) e.1)
-
-    one : (own : Result (List Move) TableFault) (part : List Entry) → answer.refusal ≡ stop_number (fault_in own) →
-        (part ≡ record { call = calls.Submit id unit; answer = own } ∷ []) ⊎ ((part ≡ []) × (own ≡ Err faults.NoRoom))
+    one : (own : Result (List Move) TableFault) (part : List Entry) (stop : Option TableFault) →
+        answer.refusal ≡ stop_number (fault_in own) → HasRequest stop id unit own part
         → requests_in part ≡ option_to_list (accepted_by (Submit held id unit) answer)
-    one own part q (inl e) = ap requests_in e ∙ accepted_so held id unit answer own q
-    one own part q (inr e) = ap requests_in e.0 ∙
+    one own part None q e = ap requests_in e ∙ accepted_so held id unit answer own q
+    one own part (Some stop) q e = ap requests_in e.0 ∙
         accepted_so held id unit answer (Err faults.NoRoom) (q ∙ ap (λ (o : Result (List Move) TableFault). stop_number (fault_in o)) e.1)
 
-pub turn_run : (old new : ServerTable) (turn : AnsweredCall) (t : DriverTable) → TableStands (kept old.drivers) t →
-    LeadsByCall old turn new → TurnRun turn t new
-turn_run old new turn t st takes = by turn.call takes.takes
+pub turn_run : (first old new : ServerTable) (turn : AnsweredCall) (t : DriverTable) → IsOfServer first old →
+    TableStands (kept old.drivers) t → LeadsByCall old turn new → TurnRun first turn t new
+turn_run first old new turn t same st takes = by turn.call takes.takes
   where
-    by : (call : TableCall) → CallAnswers call old turn.answer new → CallRun call turn.answer turn.moves t new
-    by (Assign unit class label) h = assign_part unit class label old new turn.answer turn.moves t st takes.moves
-        (class_for old class label) h
-    by (Follow held) h = follow_part held old new turn.answer turn.moves t st takes.moves h
-    by (Submit held id unit) h = submit_part held id unit old new turn.answer turn.moves t st takes.moves h
-    by (Reply generation slot id) h = reply_part generation slot id old new turn.answer turn.moves t st takes.moves
+    by : (call : TableCall) → CallAnswers call old turn.answer new → CallRun first call turn.answer turn.moves t new
+    by (Assign unit class label) h = assign_part first unit class label old new turn.answer turn.moves t same st takes.moves
+        (class_for old class label) (same_class first old class label same) h
+    by (Follow held) h = follow_part first held old new turn.answer turn.moves t same st takes.moves h
+    by (Submit held id unit) h = submit_part first held id unit old new turn.answer turn.moves t same st takes.moves h
+    by (Reply generation slot id) h = reply_part first generation slot id old new turn.answer turn.moves t same st takes.moves
         (endpoint_at generation slot) refl h
 
 -- ---- turns in order
 abbrev pub joined : List (List Entry) → List Entry
 joined parts = flat_map (λ (part : List Entry). part) parts
 
-pub record TurnsRun (t : DriverTable) (turns : List AnsweredCall) (last : ServerTable) : Type 0 where
+pub record TurnsRun (first : ServerTable) (t : DriverTable) (turns : List AnsweredCall) (last : ServerTable) : Type 0 where
   pub parts : List (List Entry)
-  pub each : ArePartsOfCalls turns parts
   pub table : DriverTable
+  pub each : ArePartsOfCalls first t turns parts table
   pub run : TableRun t (joined parts) table
   pub stands : TableStands (kept last.drivers) table
+  pub server : IsOfServer first last
   pub moves : moves_of_turns turns ≡ all_moves_in (joined parts)
   pub requests : requests_in (joined parts) ≡ accepted turns
 
@@ -250,26 +294,28 @@ listed : {X : Type 0} (o : Option X) (l : List X) → option_to_list o ++ l ≡ 
 listed None l = refl
 listed (Some x) l = refl
 
-pub turns_run : (turns : List AnsweredCall) (first last : ServerTable) (t : DriverTable) → TableStands (kept first.drivers) t →
-    AnsweredCalls first turns last → TurnsRun t turns last
-turns_run [] first last t st path = record {
+pub turns_run : (first : ServerTable) (turns : List AnsweredCall) (old last : ServerTable) (t : DriverTable) → IsOfServer first old →
+    TableStands (kept old.drivers) t → AnsweredCalls old turns last → TurnsRun first t turns last
+turns_run first [] old last t same st path = record {
   parts = [];
-  each = tt;
+  each = refl;
   table = t;
   run = refl;
   stands = subst (λ (s : ServerTable). TableStands (kept s.drivers) t) path st;
+  server = subst (IsOfServer first) path same;
   moves =
       refl;
   requests = refl;
 }
-turns_run (turn ∷ turns) first last t st path =
-    let k = turn_run first path.0 turn t st path.1 in
-    let rest = turns_run turns path.0 last k.table k.stands path.2 in record {
+turns_run first (turn ∷ turns) old last t same st path =
+    let k = turn_run first old path.0 turn t same st path.1 in
+    let rest = turns_run first turns path.0 last k.table k.server k.stands path.2 in record {
       parts = k.part ∷ rest.parts;
-      each = (k.is_part, rest.each);
+      each = (k.table, k.is_part, rest.each);
       table = rest.table;
-      run = path_join steps_on t k.table rest.table k.part (joined rest.parts) k.run rest.run;
+      run = path_join steps_on t k.table rest.table k.part (joined rest.parts) k.is_part.run rest.run;
       stands = rest.stands;
+      server = rest.server;
       moves = ap (λ (l : List Move). l ++ moves_of_turns turns) k.is_part.moves
           ∙ (ap (λ (l : List Move). all_moves_in k.part ++ l) rest.moves ∙
           sym (flat_map-append (λ (e : Entry). moves_in e.answer) k.part (joined rest.parts)));
@@ -282,11 +328,11 @@ turns_run (turn ∷ turns) first last t st path =
 -- ---- the laws
 pub turns_are_runs : TurnsAreRuns
 turns_are_runs first last turns t st path =
-    let k = turns_run turns first last t st path in
-    record { parts = k.parts; each = k.each; table = k.table; run = k.run; stands = k.stands }
+    let k = turns_run first turns first last t refl st path in
+    record { parts = k.parts; table = k.table; each = k.each; run = k.run; stands = k.stands; server = k.server }
 
 -- the sends and the answers of the table are those of the moves
-module _ (turns : List AnsweredCall) (last : ServerTable) (k : TurnsRun empty_table turns last) where
+module _ (first : ServerTable) (turns : List AnsweredCall) (last : ServerTable) (k : TurnsRun first empty_table turns last) where
   sends_are : k.table.sends ≡ flat_map sends_of (moves_of_turns turns)
   sends_are = (lists_tell (joined k.parts) k.table k.run).1 ∙ ap (flat_map sends_of) (sym k.moves)
 
@@ -325,13 +371,14 @@ module _ (turns : List AnsweredCall) (last : ServerTable) (k : TurnsRun empty_ta
   each_kept (r ∷ requests) s h = (one_kept r s.0 h.0, each_kept requests s.1 h.1)
 
 pub answered_once : AnsweredOnce
-answered_once server first last turns id new path = once turns last (turns_run turns first last empty_table new.empty path) id
+answered_once server first last turns id new path =
+    once first turns last (turns_run first turns first last empty_table refl new.empty path) id
 
 pub requests_are_kept : RequestsAreKept
 requests_are_kept server first last turns new path =
-    let k = turns_run turns first last empty_table new.empty path in
-    subst (AllByRecursion (IsKeptIn (kept last.drivers).devices (moves_of_turns turns))) (requests_are turns last k)
-    (each_kept turns last k k.table.requests k.stands.reached.served (block_requests_are_kept (joined k.parts) k.table k.run))
+    let k = turns_run first turns first last empty_table refl new.empty path in
+    subst (AllByRecursion (IsKeptIn (kept last.drivers).devices (moves_of_turns turns))) (requests_are first turns last k)
+    (each_kept first turns last k k.table.requests k.stands.reached.served (block_requests_are_kept (joined k.parts) k.table k.run))
 
 -- the moves, by what C's table has of its units
 module _ (held : List Item) (t : DriverTable) (v : TableRecord) (stands : TableStands v t) where
@@ -355,19 +402,19 @@ module _ (held : List Item) (t : DriverTable) (v : TableRecord) (stands : TableS
 
 pub goes_to_no_older_instance : GoesToNoOlderInstance
 goes_to_no_older_instance old new turn held t st takes follows =
-    let own = turn_run old new turn t st takes in
+    let own = turn_run old old new turn t refl st takes in
     let request = accepted_by turn.call turn.answer in
     let one : option_to_list request ≡ accepted (turn ∷ []) = sym (append-nil (option_to_list request)) ∙ listed request [] in
     let requests : own.table.requests ≡ t.requests ++ accepted (turn ∷ []) =
-    (tells_run t own.table own.part own.run).0 ∙ ap (λ (l : List Request). t.requests ++ l) (own.requests ∙ one) in
+    (tells_run t own.table own.part own.is_part.run).0 ∙ ap (λ (l : List Request). t.requests ++ l) (own.requests ∙ one) in
     subst (λ (l : List Request). AllByRecursion (GoesToNoneOlder held (unit_label (kept new.drivers)) l) turn.moves) requests
     (goes_by held own.table (kept new.drivers) own.stands turn.moves (own.goes held follows))
 
 pub none_goes_to_older_instance : NoneGoesToOlderInstance
 none_goes_to_older_instance server first mid last turns turn held new path takes follows =
-    let k = turns_run turns first mid empty_table new.empty path in
+    let k = turns_run first turns first mid empty_table refl new.empty path in
     let requests : k.table.requests ++ accepted (turn ∷ []) ≡ accepted (turns ++ turn ∷ []) =
-    ap (λ (l : List Request). l ++ accepted (turn ∷ [])) (requests_are turns mid k) ∙
+    ap (λ (l : List Request). l ++ accepted (turn ∷ [])) (requests_are first turns mid k) ∙
     sym (filter_map-append (λ (x : AnsweredCall). accepted_by x.call x.answer) turns (turn ∷ [])) in
     subst (λ (l : List Request). AllByRecursion (GoesToNoneOlder held (unit_label (kept last.drivers)) l) turn.moves) requests
     (goes_to_no_older_instance mid last turn held k.table k.stands takes follows)

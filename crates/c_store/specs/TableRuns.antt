@@ -1,5 +1,5 @@
 -- The calls on a driver table from C are a run of the table, so the laws of driver tables hold of them.
-use Rattle.std.specs.Prelude.{◌≡◌, ◌⊎◌, ◌≤◌, ◌==◌, ℕ, List, [], ◌∷◌, ◌++◌, length, Option, Some, None, Result, MatchOption}
+use Rattle.std.specs.Prelude.{◌≡◌, ◌⊎◌, ◌≤◌, ◌==◌, ℕ, List, [], ◌∷◌, ◌++◌, length, Option, Some, None, Result, Err, MatchOption}
 use Rattle.std.specs.List.{flat_map, AllByRecursion}
 use Rattle.std.specs.Map.{lookup}
 use Rattle.ds_names.specs.Endpoint.{EndpointRecord}
@@ -18,16 +18,19 @@ use Rattle.driver_tables.specs.declared.moves.Ending.TheVariants.{Done}
 use Rattle.driver_tables.specs.declared.moves.Move.{Move}
 use Rattle.driver_tables.specs.Doing.{sends_of, answered_by}
 use Rattle.driver_tables.specs.DriverTable.{DriverTable, Request, values_of, last_sent}
-use Rattle.driver_tables.specs.Run.{Call, Entry, TableRun, all_moves_in}
+use Rattle.driver_tables.specs.Reply.{replying}
+use Rattle.driver_tables.specs.Run.{Call, Entry, TableRun, all_moves_in, moves_in, one_move}
 use Rattle.driver_tables.specs.Run as calls
 use Rattle.driver_tables.specs.Stands.{TableStands}
+use Rattle.rs_to_store.specs.Following.{Follows, labels_of}
+use Rattle.rs_to_store.specs.Submitting.{FollowsAndTakes, all_in}
 use Rattle.c_values.specs.declared.answer.Answer.{Answer}
 use Rattle.c_values.specs.Answer.{no_request}
 use Rattle.c_values.specs.Request.{endpoint_at}
 use Rattle.c_store.specs.declared.server_table.ServerTable.{ServerTable}
-use Rattle.c_store.specs.Answers.{stop_number, told_call}
-use Rattle.c_store.specs.Calls.{IsEmptyTable}
-use Rattle.c_store.specs.Drivers.{kept, driver_with}
+use Rattle.c_store.specs.Answers.{told_call, told_moves}
+use Rattle.c_store.specs.Calls.{IsEmptyTable, class_for}
+use Rattle.c_store.specs.Drivers.{kept, driver_with, server_number}
 use Rattle.c_store.specs.Following.{fault_in}
 use Rattle.c_store.specs.NoOlder.{GoesToNoneOlder, unit_label}
 use Rattle.c_store.specs.TableTurns.{TableCall, Assign, Follow, Submit, Reply}
@@ -46,60 +49,85 @@ pub record IsOneCall (call : Call) (answer : Answer) (part : List Entry) : Type 
   pub one : part ≡ record { call = call; answer = said } ∷ []
   pub told : answer ≡ told_call said
 
+-- The table has one reply, whose answer C gets, and which takes no memory.
+pub record IsOneReply (t : DriverTable) (id : ℕ) (answer : Answer) (part : List Entry) (endpoint : EndpointRecord) : Type 0 where
+  pub call : IsOneCall (calls.Reply endpoint id) answer part
+  pub exact : call.said ≡ one_move (replying t endpoint id).0
+
 -- The table gets the state that the map has of a label.
 abbrev pub IsOfMap : List Item → Entry → Type 0
 IsOfMap held entry = (label : List ℕ) × (c : ChangeRecord) × (held_at held (label_key label) ≡ Some c) ×
     (entry.call ≡ calls.Changed label (endpoint_in c.body))
 
--- The table gets the request, whose refusal C gets, too. Or memory ran out for the map, and the table doesn't get the request.
-abbrev pub HasRequest : ℕ → ℕ → Answer → List Entry → Type 0
-HasRequest id unit answer part =
-    ((said : Result (List Move) TableFault) × (part ≡ record { call = calls.Submit id unit; answer = said } ∷ []) ×
-    (answer.refusal ≡ stop_number (fault_in said)))
-    ⊎ ((part ≡ []) × (answer.refusal ≡ stop_number (Some NoRoom)))
+-- The table follows the map from its first label to its last, unless memory runs out, and gets what the map has. C gets these moves, and
+-- why the follow ended early, if it did.
+pub record IsFollow (held : List Item) (t : DriverTable) (answer : Answer) (moves : List Move) (part : List Entry) (u : DriverTable)
+    : Type 0 where
+  pub rounds : List (List Move)
+  pub stop : Option TableFault
+  pub follows : Follows held (labels_of t) t rounds stop u
+  pub of_map : AllByRecursion (IsOfMap held) part
+  pub moves_are : moves ≡ all_in rounds
+  pub told : answer ≡ told_moves moves stop
 
--- The table gets what the map has, and then the request.
-pub record IsSubmission (held : List Item) (id unit : ℕ) (answer : Answer) (part : List Entry) : Type 0 where
+-- The table gets the request, with this answer. Or memory ran out for the map, and the table doesn't get the request.
+abbrev pub HasRequest : Option TableFault → ℕ → ℕ → Result (List Move) TableFault → List Entry → Type 0
+HasRequest None id unit said part = part ≡ record { call = calls.Submit id unit; answer = said } ∷ []
+HasRequest (Some stop) id unit said part = (part ≡ []) × (said ≡ Err NoRoom)
+
+-- The table follows the map, gets what the map has, and then the request. C gets the moves of both, and why the request isn't accepted, if
+-- it isn't.
+pub record IsSubmission (held : List Item) (id unit : ℕ) (t : DriverTable) (answer : Answer) (moves : List Move) (part : List Entry)
+    (u : DriverTable) : Type 0 where
+  pub rounds : List (List Move)
+  pub said : Result (List Move) TableFault
+  pub takes : FollowsAndTakes held id unit t rounds said u
   pub states : List Entry
   pub own : List Entry
   pub part_is : part ≡ states ++ own
   pub of_map : AllByRecursion (IsOfMap held) states
-  pub request : HasRequest id unit answer own
+  pub request : HasRequest takes.stop id unit said own
+  pub moves_are : moves ≡ all_in rounds ++ moves_in said
+  pub told : answer ≡ told_moves moves (fault_in said)
 
--- What each call from C is to the table.
-abbrev pub IsOfCall : TableCall → Answer → List Entry → Type 0
-IsOfCall (Assign unit class label) answer part =
-    IsNoCall answer part ⊎ ((of : Class) × IsOneCall (calls.Assign unit (driver_with label of)) answer part)
-IsOfCall (Follow held) answer part = AllByRecursion (IsOfMap held) part
-IsOfCall (Submit held id unit) answer part = IsSubmission held id unit answer part
-IsOfCall (Reply generation slot id) answer part =
-    MatchOption (endpoint_at generation slot) (IsNoCall answer part) (λ (e : EndpointRecord). IsOneCall (calls.Reply e id) answer part)
+-- What each call from C is to the table, which its part leads from `t` to `u`. The server's classes are those of `first`.
+abbrev pub IsOfCall : ServerTable → DriverTable → TableCall → Answer → List Move → List Entry → DriverTable → Type 0
+IsOfCall first t (Assign unit class label) answer moves part u =
+    MatchOption (class_for first class label) (IsNoCall answer part)
+    (λ (of : Class). IsOneCall (calls.Assign unit (driver_with label of)) answer part)
+IsOfCall first t (Follow held) answer moves part u = IsFollow held t answer moves part u
+IsOfCall first t (Submit held id unit) answer moves part u = IsSubmission held id unit t answer moves part u
+IsOfCall first t (Reply generation slot id) answer moves part u =
+    MatchOption (endpoint_at generation slot) (IsNoCall answer part) (IsOneReply t id answer part)
 
 -- ---- turns and runs
 
 -- A turn's part of a run: what its call is to the table, with the moves that C has of it.
-pub record IsPartOfCall (turn : AnsweredCall) (part : List Entry) : Type 0 where
-  pub of_call : IsOfCall turn.call turn.answer part
+pub record IsPartOfCall (first : ServerTable) (t : DriverTable) (turn : AnsweredCall) (part : List Entry) (u : DriverTable) : Type 0 where
+  pub run : TableRun t part u
+  pub of_call : IsOfCall first t turn.call turn.answer turn.moves part u
   pub moves : turn.moves ≡ all_moves_in part
 
--- Each turn has a part.
-abbrev pub ArePartsOfCalls : List AnsweredCall → List (List Entry) → Type 0
-ArePartsOfCalls [] [] = Unit {0}
-ArePartsOfCalls (turn ∷ turns) (part ∷ parts) = IsPartOfCall turn part × ArePartsOfCalls turns parts
-ArePartsOfCalls _ _ = ⊥
+-- Each turn has a part, which leads to the table of the next.
+abbrev pub ArePartsOfCalls : ServerTable → DriverTable → List AnsweredCall → List (List Entry) → DriverTable → Type 0
+ArePartsOfCalls first t [] [] u = t ≡ u
+ArePartsOfCalls first t (turn ∷ turns) (part ∷ parts) u =
+    (mid : DriverTable) × IsPartOfCall first t turn part mid × ArePartsOfCalls first mid turns parts u
+ArePartsOfCalls first t _ _ u = ⊥
 
--- The parts, one after another, are a run of the table, and C's table stands for the one that it leads to.
-pub record IsRunOfTurns (t : DriverTable) (turns : List AnsweredCall) (last : ServerTable) : Type 0 where
+-- The parts, one after another, are a run of the table, and C's table stands for the one that it leads to. The server is that of `first`.
+pub record IsRunOfTurns (first : ServerTable) (t : DriverTable) (turns : List AnsweredCall) (last : ServerTable) : Type 0 where
   pub parts : List (List Entry)
-  pub each : ArePartsOfCalls turns parts
   pub table : DriverTable
+  pub each : ArePartsOfCalls first t turns parts table
   pub run : TableRun t (flat_map (λ (part : List Entry). part) parts) table
   pub stands : TableStands (kept last.drivers) table
+  pub server : server_number last.drivers ≡ server_number first.drivers
 
 -- A law: the calls on a table from C are such a run, from each table that C's table stands for; from the empty one, if it is new.
 abbrev pub TurnsAreRuns : Type 0
 TurnsAreRuns = (first last : ServerTable) (turns : List AnsweredCall) (t : DriverTable) →
-    TableStands (kept first.drivers) t → AnsweredCalls first turns last → IsRunOfTurns t turns last
+    TableStands (kept first.drivers) t → AnsweredCalls first turns last → IsRunOfTurns first t turns last
 
 -- ---- what C sees of its requests
 
