@@ -128,7 +128,7 @@ entries_refused command number session m is at there =
 pub ring_answers : (command : ScriptCommand) (ring : ℕ) (old : SessionContent) (out : List ℕ) (new : SessionContent) →
     command ≡ Ring ring → AnswersRing ring old out new ⊎ IsLineRefused old out new → AnswersOrRefuses command old out new
 ring_answers command ring old out new is (inl a) = subst (λ (k : ScriptCommand). AnswersOrRefuses k old out new) (sym is) (inr a)
-ring_answers command ring old out new is (inr r) = subst (λ (k : ScriptCommand). AnswersOrRefuses k old out new) (sym is) (inl (tt, r))
+ring_answers command ring old out new is (inr r) = subst (λ (k : ScriptCommand). AnswersOrRefuses k old out new) (sym is) (inl r)
 
 pub side_answers : (command : ScriptCommand) (side : OneSide) (old new : SessionContent) → command ≡ Side side → new ≡ turned old side →
     AnswersOrRefuses command old (side_line side) new
@@ -144,6 +144,7 @@ answers_as command same old out new is a = subst (λ (k : ScriptCommand). Answer
 
 pub settings_answers : (command : ScriptCommand) (text : List ℕ) (old : SessionContent) (out : List ℕ) (new : SessionContent) →
     command ≡ Settings text
-    → AnswersByServers (AnswersSettings text) old out new ⊎ IsLineRefused old out new → AnswersOrRefuses command old out new
+    → AnswersByServers (AnswersSettings text) old out new ⊎ (AnswerTakesMemory (Settings text) old × IsLineRefused old out new)
+    → AnswersOrRefuses command old out new
 settings_answers command text old out new is (inl a) = answers_as command (Settings text) old out new is a
-settings_answers command text old out new is (inr r) = subst (λ (k : ScriptCommand). AnswersOrRefuses k old out new) (sym is) (inl (tt, r))
+settings_answers command text old out new is (inr r) = subst (λ (k : ScriptCommand). AnswersOrRefuses k old out new) (sym is) (inl r)

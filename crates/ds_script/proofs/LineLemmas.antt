@@ -31,7 +31,7 @@ memory_room Show session takes = absurd takes
 memory_room All session takes = absurd takes
 memory_room (Entries map) session takes = absurd takes
 memory_room (Ring ring) session takes = absurd takes
-memory_room (Settings text) session takes = tt
+memory_room (Settings text) session takes = inl takes
 memory_room command session takes = takes
 
 -- a line without the word of an offer isn't an offer

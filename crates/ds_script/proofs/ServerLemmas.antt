@@ -24,8 +24,11 @@ module _ (world : WorldRecord) (side : Side) (old new : ServersRecord) (before a
     a.1,
     elim a.2 [
       | inl done ↦ inl (done, refl, refl)
-      | inr refused ↦ inr
-          (ap (λ (v : ServersRecord). session_of world side v) refused.kept, refused.told)
+      | inr refused ↦ inr (
+          inr (refused.none, refused.takes),
+          ap (λ (v : ServersRecord). session_of world side v) refused.kept,
+          refused.told,
+        )
     ],
   )
 

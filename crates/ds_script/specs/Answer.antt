@@ -28,6 +28,7 @@ use Rattle.rs_core.specs.declared.event.Event as services
 use Rattle.rs_core.specs.declared.event.Event.TheVariants.{Death, Beat, Tick}
 use Rattle.script_services.specs.Servers.{Servers, ServersLead}
 use Rattle.script_services.specs.Services.{AnswersSettings, AnswersService}
+use Rattle.script_services.specs.Waiting.{AcceptingTakesMemory}
 use Rattle.script_services.specs.Tables.{map_items, AnswersAssign, AnswersFollow, AnswersSubmit, AnswersReply}
 use Rattle.ds_script.specs.Session.{SessionContent, IsOpened, IsHappening, turned, held_of}
 use Rattle.ds_entry.specs.Under.{entries_of}
@@ -119,14 +120,15 @@ abbrev pub IsLineRefused : SessionContent → List ℕ → SessionContent → Ty
 IsLineRefused old out new = (new ≡ old) × (out ≡ refused_noroom)
 
 -- Whether the script itself allocates for the command: to show items (of a map, only if it exists), for the stores'
--- rings, for settings, or for a text, a blob or a pattern of the line. Other commands are refused NoRoom by the world,
--- RS or a table.
+-- rings, for settings unless they are empty or RS has some, or for a text, a blob or a pattern of the line that isn't
+-- empty. Other commands are refused NoRoom by the world, RS or a table.
 abbrev pub AnswerTakesMemory : ScriptCommand → SessionContent → Type 0
 AnswerTakesMemory lines.Show old = Unit {0}
 AnswerTakesMemory lines.All old = Unit {0}
 AnswerTakesMemory (lines.Entries map) old = slice_get old.world.maps map ≢ None
 AnswerTakesMemory (lines.Ring ring) old = Unit {0}
-AnswerTakesMemory (lines.Settings text) old = Unit {0}
+AnswerTakesMemory (lines.Settings text) old =
+    (text ≢ []) ⊎ AcceptingTakesMemory old.servers.services text
 AnswerTakesMemory command old = CommandTakesMemory command
 
 -- The answer to a command, whether or not memory lasts.
@@ -173,7 +175,8 @@ AppendsByServers R before after old new = (out : List ℕ) × (after ≡ before 
 -- Like `AppendsCommand`, for settings, or their refusal.
 abbrev pub AppendsSettings : List ℕ → (before after : List ℕ) → (old new : SessionContent) → Type 0
 AppendsSettings text before after old new =
-    (out : List ℕ) × (after ≡ before ++ out) × (AnswersByServers (AnswersSettings text) old out new ⊎ IsLineRefused old out new)
+    (out : List ℕ) × (after ≡ before ++ out)
+    × (AnswersByServers (AnswersSettings text) old out new ⊎ (AnswerTakesMemory (lines.Settings text) old × IsLineRefused old out new))
 
 -- Like `AppendsCommand`, for an event of RS.
 abbrev pub AppendsByServices : services.Event → ℕ → (before after : List ℕ) → (old new : SessionContent) → Type 0

@@ -1,5 +1,5 @@
 -- The effects of both servers' tables.
-use Rattle.std.proofs.Common.{◌≡◌, ℕ, List, [], ◌∷◌, ◌++◌, Option, Some, None, Result, Ok, Err, IsOk, OnErr, refl, ap, sym, ◌∙◌, subst, inl}
+use Rattle.std.proofs.Common.{◌≡◌, ℕ, List, [], ◌∷◌, ◌++◌, Option, Some, None, Result, Ok, Err, OnErr, refl, ap, sym, ◌∙◌, subst, inl}
 use Rattle.std.proofs.Common.{append-nil}
 use Rattle.std.specs.List.{slice_get}
 use Rattle.std.proofs.lemmas.Option.{slice_get-map}
@@ -11,6 +11,7 @@ use Rattle.driver_tables.specs.declared.fault.TableFault.TheVariants as stops
 use Rattle.driver_tables.specs.Answer.{IsAnswer}
 use Rattle.driver_tables.specs.Outcome.{AnswersAs, LeavesAs}
 use Rattle.driver_tables.specs.DriverTable.{DriverTable}
+use Rattle.driver_tables.specs.Room.{LacksOnlyWhere, RequestTakesMemory}
 use Rattle.driver_tables.specs.Submit.{submitting}
 use Rattle.driver_tables.specs.Reply.{replying}
 use Rattle.driver_tables.specs.Stands.{TableRecord, TableStands}
@@ -67,21 +68,22 @@ submit_ended held id unit old new before rounds fault none h t st =
     )
 
 refused_turn : (mid : DriverTable) (id unit : ℕ) (fault : TableFault) → IsAnswer (submitting mid id unit).0 (Err fault) →
-    Submits mid id unit None None (Some fault) mid
-refused_turn mid id unit stops.NoRoom h = (subst IsOk (sym h.1) refl, refl)
-refused_turn mid id unit stops.Assigned h = (sym h, refl)
-refused_turn mid id unit stops.OldEndpoint h = (sym h, refl)
-refused_turn mid id unit stops.TwoIds h = (sym h, refl)
-refused_turn mid id unit stops.NoDevice h = (sym h, refl)
-refused_turn mid id unit stops.NotPending h = (sym h, refl)
+    LacksOnlyWhere {Move} (RequestTakesMemory mid id unit) (Err fault) → Submits mid id unit None None (Some fault) mid
+refused_turn mid id unit stops.NoRoom h room = (room, refl)
+refused_turn mid id unit stops.Assigned h room = (sym h, refl)
+refused_turn mid id unit stops.OldEndpoint h room = (sym h, refl)
+refused_turn mid id unit stops.TwoIds h room = (sym h, refl)
+refused_turn mid id unit stops.NoDevice h room = (sym h, refl)
+refused_turn mid id unit stops.NotPending h room = (sym h, refl)
 
 -- after a complete follow the request is answered
 pub submit_answered : (held : List Item) (id unit : ℕ) (old mid new : TableRecord) (before rounds : List (List Move))
     (answer : Result Move TableFault) → before ≡ [] → HasFollowed held old mid before rounds None
     → AnswersAs mid (λ (t : DriverTable). submitting t id unit) answer →
+    ((t : DriverTable) → TableStands mid t → LacksOnlyWhere (RequestTakesMemory t id unit) answer) →
     LeavesAs mid (λ (t : DriverTable). submitting t id unit) answer new → OnErr answer (new ≡ mid) →
     HasSubmitted held id unit old new rounds answer
-submit_answered held id unit old mid new before rounds (Ok own) none h answers leaves same t st =
+submit_answered held id unit old mid new before rounds (Ok own) none h answers room leaves same t st =
     let g = h t st in
     let u = (submitting g.0 id unit).1 in (
       record { before = t; rounds = g.1; stop = None; followed = g.0; own = Some own; after = u },
@@ -94,14 +96,14 @@ submit_answered held id unit old mid new before rounds (Ok own) none h answers l
       },
       leaves g.0 g.4,
     )
-submit_answered held id unit old mid new before rounds (Err fault) none h answers leaves same t st =
+submit_answered held id unit old mid new before rounds (Err fault) none h answers room leaves same t st =
     let g = h t st in (
       record { before = t; rounds = g.1; stop = None; followed = g.0; own = None; after = g.0 },
       record {
         before = refl;
         follows = g.3;
         own = refl;
-        submits = refused_turn g.0 id unit fault (answers g.0 g.4);
+        submits = refused_turn g.0 id unit fault (answers g.0 g.4) (room g.0 g.4);
         rounds_are = g.2 ∙ ap (λ (l : List (List Move)). l ++ g.1) none;
       },
       subst (λ (v : TableRecord). TableStands v g.0) (sym same) g.4,

@@ -1,5 +1,5 @@
 -- What an accepted event does to a system.
-use Rattle.std.specs.Prelude.{◌≡◌, ℕ, false, List, [], ◌∷◌, ◌++◌, length, Option, Some, None, Ok, Err, IsOk, slice_set}
+use Rattle.std.specs.Prelude.{◌≡◌, ℕ, false, List, [], ◌∷◌, ◌++◌, length, Option, Some, None, Ok, Err, slice_set}
 use Rattle.std.specs.List.{slice_get}
 use Rattle.ds_names.specs.declared.key.Key.{Key}
 use Rattle.ds_names.specs.declared.version.Version.{Version}
@@ -18,6 +18,7 @@ use Rattle.driver_tables.specs.declared.moves.Move.{Move}
 use Rattle.driver_tables.specs.declared.fault.TableFault.{TableFault}
 use Rattle.driver_tables.specs.declared.fault.TableFault.TheVariants.{NoRoom}
 use Rattle.driver_tables.specs.DriverTable.{DriverTable}
+use Rattle.driver_tables.specs.Room.{RequestTakesMemory}
 use Rattle.driver_tables.specs.Submit.{submitting}
 use Rattle.driver_tables.specs.Reply.{replying}
 use Rattle.ds_replica.specs.declared.event.Side.{Side}
@@ -114,10 +115,10 @@ pub record FollowsBoth (s : System) (rounds : List (List Move)) (own : Option Mo
   pub steps_are : steps ≡ record no_steps { file = Some file; net = net }
   pub system_is : t ≡ record s { file = file.after; net = t.net }
 
--- Whether the request, unless the follow ended early, has a move, or is refused, or runs out of memory.
+-- Whether the request, unless the follow ended early, has a move, or is refused; or memory runs out for it, if it stays pending.
 abbrev pub Submits : DriverTable → ℕ → ℕ → Option TableFault → Option Move → Option TableFault → DriverTable → Type 0
 Submits followed id unit (Some stop) own fault after = (own ≡ None) × (fault ≡ Some stop) × (after ≡ followed)
-Submits followed id unit None None (Some NoRoom) after = IsOk (submitting followed id unit).0 × (after ≡ followed)
+Submits followed id unit None None (Some NoRoom) after = RequestTakesMemory followed id unit × (after ≡ followed)
 Submits followed id unit None None (Some fault) after = ((submitting followed id unit).0 ≡ Err fault) × (after ≡ followed)
 Submits followed id unit None (Some own) None after = submitting followed id unit ≡ (Ok own, after)
 Submits followed id unit None _ _ after = ⊥

@@ -1,5 +1,5 @@
 -- Patterns in quotes, read byte by byte.
-use Rattle.std.specs.Prelude.{◌==◌}
+use Rattle.std.specs.Prelude.{◌==◌, Result, Err, OnErr}
 use Rattle.std.proofs.Common.{Ok, ◌≡◌, ◌≢◌, ℕ, ◌+◌, ◌<◌, inl, inr, List, [], ◌∷◌, ◌++◌, length, drop, refl, sym, ap, subst, ◌∙◌}
 use Rattle.std.proofs.Common.{append_assoc, append-nil, length-append, arith}
 use Rattle.std.proofs.lemmas.Bool.{cond-false, ne_eqb}
@@ -109,6 +109,11 @@ pub left_last : (written text rest : List ℕ) → IsLeft written text rest → 
     written ≡ escaped text
 left_last written text rest left none = left_ends left.0 written text rest left.1 left.2 left.3 none
 
+-- something is left where a byte comes
+some_left : (left text rest past : List ℕ) (b : ℕ) → rest ≡ escaped left → rest ≡ escaped_byte b ++ past → text ++ left ≢ []
+some_left [] text rest past b e h none = omega (arith, byte_shorter b rest past h, ap length e)
+some_left (c ∷ more) text rest past b e h none = omega (arith, ap length none, length-append text (c ∷ more))
+
 plain_first : (b : ℕ) (written : List ℕ) → b ≢ 92 → unescaped (b ∷ written) ≡ b ∷ unescaped written
 unfolding unescaped
 plain_first b [] other = refl
@@ -130,6 +135,10 @@ unescaped_all (b ∷ text) = first_unescaped b (escaped text) ∙ ap (λ (t : Li
 -- a text is that of its bytes between quotes
 pub unescaped_is : (written text : List ℕ) → written ≡ escaped text → unescaped written ≡ text
 unescaped_is written text is = ap unescaped is ∙ unescaped_all text
+
+pub left_some : (written text rest past : List ℕ) (b : ℕ) → IsLeft written text rest → rest ≡ escaped_byte b ++ past → unescaped written ≢ []
+left_some written text rest past b left h none =
+    some_left left.0 text rest past b left.2 h (sym (unescaped_is written (text ++ left.0) left.3) ∙ none)
 
 -- ---- patterns
 
@@ -160,3 +169,8 @@ pattern_fixed text = refl
 pub pattern_one : One a_pattern
 pattern_one = one_by a_pattern (λ a b is_a is_b. (refl, λ _. (refl, λ _. tt))) (λ a is. (refl, ((a, refl), tt)))
     (λ a b is_a is_b same. (quoted_one a b [] [] (ap (λ (t : List ℕ). t ++ []) (ap (text_at 1) same))).0)
+
+-- What holds anyway holds at an error.
+pub on_any_err : {T E : Type 0} (r : Result T E) (P : Type 0) → P → OnErr r P
+on_any_err (Ok x) P p = tt
+on_any_err (Err e) P p = p

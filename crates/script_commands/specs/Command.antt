@@ -77,7 +77,7 @@ abbrev pub IsCommand : ScriptCommand → Type 0
 IsCommand (Store (Merge items)) = ⊥
 IsCommand command = (line_of (command_word command)).Can (fields_of command)
 
--- The command has a text, a blob, a pattern or bytes of settings.
+-- The command has a text, a blob, a pattern or bytes of settings, which isn't empty.
 abbrev pub CommandTakesMemory : ScriptCommand → Type 0
 CommandTakesMemory command = RowTakesMemory U32 (slots_of (command_word command)) (fields_of command)
 

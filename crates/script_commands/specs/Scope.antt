@@ -1,5 +1,5 @@
 -- Scopes in a line: all keys, or those under a query.
-use Rattle.std.specs.Prelude.{ℕ, List, [], ◌∷◌, Option, None, Some}
+use Rattle.std.specs.Prelude.{◌≢◌, ℕ, List, [], ◌∷◌, Option, None, Some}
 use Rattle.ds_line.specs.Part.{Part, byte}
 use Rattle.ds_line.specs.Spelling.{space}
 use Rattle.ds_line.specs.Piece.{Piece}
@@ -17,10 +17,10 @@ abbrev pub IsScope : Scope → Type 0
 IsScope All = Unit {0}
 IsScope (Under query) = IsQuery query
 
--- Whether the scope has a pattern.
+-- Whether the scope has a pattern that isn't empty.
 abbrev pub ScopeTakesMemory : Scope → Type 0
 ScopeTakesMemory All = ⊥
-ScopeTakesMemory (Under query) = Unit {0}
+ScopeTakesMemory (Under query) = query.text ≢ []
 
 abbrev pub a_scope : Piece
 a_scope = record { Of = Scope; Can = IsScope; parts = λ (scope : Scope). space ∷ scope_parts scope }

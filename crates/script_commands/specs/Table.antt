@@ -116,13 +116,13 @@ abbrev pub line_of : Word → Piece
 line_of w = row_of U32 (slots_of w)
 
 -- Whether the contents of a row take memory. At most one of its slots can: an item, a value or the text of settings,
--- which end the line, or a pattern or a scope.
+-- which end the line, or a pattern or a scope. What is empty takes none.
 abbrev pub RowTakesMemory : (k : Kind) (ss : List Slot) → (row_of k ss).Of → Type 0
 RowTakesMemory k [] x = ⊥
 RowTakesMemory k (slots.Item ∷ []) i = ItemCopyTakesMemory i
 RowTakesMemory k (slots.Value ∷ []) value = ValueCopyTakesMemory value
 RowTakesMemory k (slots.Text ∷ []) text = text ≢ []
 RowTakesMemory k (s ∷ []) x = ⊥
-RowTakesMemory k (slots.Pattern ∷ t ∷ ss) x = Unit {0}
+RowTakesMemory k (slots.Pattern ∷ t ∷ ss) x = x.0 ≢ []
 RowTakesMemory k (slots.Scope ∷ t ∷ ss) x = ScopeTakesMemory x.0
 RowTakesMemory k (s ∷ t ∷ ss) x = RowTakesMemory (kind_after k s x.0) (t ∷ ss) x.1

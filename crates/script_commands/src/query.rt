@@ -2,7 +2,7 @@
 
 #![tactic(auto, unfolding(crate::specs::Reads::ReadsOr))]
 
-ghost use Rattle.std.specs.Prelude.{◌≡◌, ◌≢◌, ◌++◌, ℕ, List, Err, IfOk, IfErr, IfSome, IfNone};
+ghost use Rattle.std.specs.Prelude.{◌≡◌, ◌≢◌, ◌++◌, ℕ, List, [], Err, IfOk, IfErr, OnErr, IfSome, IfNone};
 ghost use Rattle.ds_line.specs.Spelling.{escaped, escaped_byte, quoted};
 ghost use Rattle.line_io.specs.Lines.{IsUnbroken};
 ghost use Rattle.script_commands.specs.Pieces.{a_pattern};
@@ -33,10 +33,11 @@ impl<'a> Rest<'a> {
 }
 
 /// Returns the query of a pattern, given by the bytes between its quotes, and of some kinds. Reports NoRoom if
-/// memory runs out for the pattern.
+/// memory runs out for the pattern; an empty one takes none.
 pub(crate) fn query_of(alloc: Global, written: &[u8], kinds: Kinds) -> Result<Query, NoRoom>
     requires { IsWrittenText written.now }
-    ensures { IfOk result (λ query. written_query written.now kinds ≡ query) }
+    ensures query { IfOk result (λ query. written_query written.now kinds ≡ query) }
+    ensures room { OnErr result (unescaped written.now ≢ []) }
 {
     let text = unescape(alloc, written)?;
     Ok(Query { text, kinds })
@@ -82,10 +83,11 @@ pub(crate) fn quoted_at(bytes: &[u8]) -> Option<(&[u8], &[u8])>
     Some((&written[..written.len() - rest.len()], after))
 }
 
-// Returns the text of these bytes, with its escapes resolved.
+// Returns the text of these bytes, with its escapes resolved. An empty one takes no memory.
 fn unescape(alloc: Global, written: &[u8]) -> Result<PatternText, NoRoom>
     requires { IsWrittenText written.now }
-    ensures { IfOk result (λ text. unescaped written.now ≡ text) }
+    ensures text { IfOk result (λ text. unescaped written.now ≡ text) }
+    ensures room { OnErr result (unescaped written.now ≢ []) }
 {
     let mut text = Vec::new(alloc);
     let mut rest = written;

@@ -36,7 +36,7 @@ impl<'a> Rest<'a> {
 }
 
 /// Returns the scope of these bytes and kinds; without kinds it is that of all keys. Reports NoRoom if memory runs
-/// out for the pattern.
+/// out for the pattern; an empty one takes none.
 pub(crate) fn scope_of(alloc: Global, text: &[u8], kinds: Option<Kinds>) -> Result<Scope, NoRoom>
     requires { IsWrittenScope text.now kinds }
     ensures scope { IfOk result (λ scope. written_scope text.now kinds ≡ scope) }

@@ -5,12 +5,12 @@ use Rattle.rs_core.specs.State.{RsRecord}
 use Rattle.driver_tables.specs.declared.fault.TableFault.{TableFault}
 use Rattle.driver_tables.specs.declared.moves.Move.{Move}
 use Rattle.driver_tables.specs.DriverTable.{DriverTable}
-use Rattle.driver_tables.specs.Run.{Call, TableStep}
+use Rattle.driver_tables.specs.Run.{Call, TableStep, table_outcome}
 use Rattle.driver_tables.specs.Stands.{TableRecord, TableStands}
 use Rattle.script_commands.specs.declared.service.Server.TheVariants.{File, Net}
 use Rattle.script_services.specs.Servers.{ServersLead, servers_of}
 use Rattle.rs_to_store.specs.Submitting.{FollowsAndTakes, FollowedAndTaken, all_in}
-use Rattle.script_services.specs.Tables.{AnswersCall, AnswersFollow, AnswersSubmit, FollowsNext, ended_by, moves_text}
+use Rattle.script_services.specs.Tables.{AnswersCall, AnswersExactly, AnswersFollow, AnswersSubmit, FollowsNext, ended_by, moves_text}
 use Rattle.script_services.specs.Kept.{FollowedNext, BothFollowed}
 
 -- ---- calls
@@ -34,6 +34,35 @@ module _ (services : Option RsRecord) (file net new : TableRecord) (call : Call)
       let done = step s.net stands.net in (
         record s { net = done.0 },
         record { answer = answer; table = done.0; step = done.1; after = refl; told = refl },
+        record
+            { services = stands.services; file = stands.file; net = done.2 },
+      )
+
+  -- The answer is exact if the call's is.
+  pub file_exactly : ((t : DriverTable) → TableStands file t → (u : DriverTable) × TableStep t call answer u × TableStands new u)
+      → ((t : DriverTable) → TableStands file t → answer ≡ (table_outcome t call).0)
+      → ServersLead (λ s t. AnswersExactly File call text s (text answer) t) (servers_of services file net) (servers_of services new net)
+  file_exactly step exact s stands =
+      let done = step s.file stands.file in (
+        record s { file = done.0 },
+        record {
+          answers = record { answer = answer; table = done.0; step = done.1; after = refl; told = refl };
+          exact = exact s.file stands.file;
+        },
+        record
+            { services = stands.services; file = done.2; net = stands.net },
+      )
+
+  pub net_exactly : ((t : DriverTable) → TableStands net t → (u : DriverTable) × TableStep t call answer u × TableStands new u)
+      → ((t : DriverTable) → TableStands net t → answer ≡ (table_outcome t call).0)
+      → ServersLead (λ s t. AnswersExactly Net call text s (text answer) t) (servers_of services file net) (servers_of services file new)
+  net_exactly step exact s stands =
+      let done = step s.net stands.net in (
+        record s { net = done.0 },
+        record {
+          answers = record { answer = answer; table = done.0; step = done.1; after = refl; told = refl };
+          exact = exact s.net stands.net;
+        },
         record
             { services = stands.services; file = stands.file; net = done.2 },
       )

@@ -9,7 +9,7 @@ use Rattle.driver_tables.specs.declared.moves.Move.{Move}
 use Rattle.driver_tables.specs.Driver.{net_driver}
 use Rattle.driver_tables.specs.DriverTable.{DriverTable}
 use Rattle.driver_tables.specs.FileDriver.{file_driver}
-use Rattle.driver_tables.specs.Run.{Call, TableStep}
+use Rattle.driver_tables.specs.Run.{Call, TableStep, table_outcome}
 use Rattle.driver_tables.specs.Run as calls
 use Rattle.ds_held.specs.Held.{held_items}
 use Rattle.ds_submap.specs.Map.{SubMapRecord}
@@ -63,8 +63,14 @@ abbrev pub answer_text : Result (List Move) TableFault → List ℕ
 answer_text (Ok moves) = move_lines moves
 answer_text (Err fault) = table_fault_line fault
 
+-- Like `AnswersCall`, for a call that takes no memory: the answer is never that memory ran out.
+pub record AnswersExactly (server : Server) (call : Call) (text : Result (List Move) TableFault → List ℕ)
+    (s : Servers) (out : List ℕ) (t : Servers) : Type 0 where
+  pub answers : AnswersCall server call text s out t
+  pub exact : answers.answer ≡ (table_outcome (server_table s server) call).0
+
 abbrev pub AnswersReply : Server → EndpointRecord → ℕ → Servers → List ℕ → Servers → Type 0
-AnswersReply server endpoint id s out t = AnswersCall server (calls.Reply endpoint id) answer_text s out t
+AnswersReply server endpoint id s out t = AnswersExactly server (calls.Reply endpoint id) answer_text s out t
 
 -- The answer of a call as a list of moves: its single move, or none of its own.
 abbrev pub own_moves : Result (Option Move) TableFault → Result (List Move) TableFault

@@ -1,6 +1,7 @@
 -- What a line appends to the answers in the buffer.
 use Rattle.std.specs.Prelude.{◌≡◌, ℕ, ◌⊎◌, List, ◌++◌, Option, None, Result, Ok, Err, IsOk}
 use Rattle.rs_settings.specs.Settings.{MayTakeMemory, settings_of}
+use Rattle.rs_core.specs.State.{RsRecord}
 use Rattle.rs_core.specs.declared.action.Action.{Action}
 use Rattle.rs_core.specs.declared.event.Event as services
 use Rattle.rs_core.specs.declared.fault.RsFault.{RsFault}
@@ -22,11 +23,18 @@ AppendsLed R before after old new = (out : List ℕ) × (after ≡ before ++ out
 abbrev pub LeadsUnanswered : (Servers → List ℕ → Servers → Type 0) → (old new : ServersRecord) → Type 0
 LeadsUnanswered R old new = (out : List ℕ) × ServersLead (λ s t. R s out t) old new
 
--- Whether memory ran out for a first settings text, so that the line is refused and nothing changes. The text may take
--- memory before it is judged, or it has settings.
+-- Whether a settings text may take memory: before it is judged, or for the settings that it has.
+abbrev pub TextMayTakeMemory : List ℕ → Type 0
+TextMayTakeMemory text = MayTakeMemory text ⊎ IsOk (settings_of text)
+
+-- Whether accepting a settings text may take memory: RS has no settings yet, and the text may.
+abbrev pub AcceptingTakesMemory : Option RsRecord → List ℕ → Type 0
+AcceptingTakesMemory services text = (services ≡ None) × TextMayTakeMemory text
+
+-- Whether memory ran out for a first settings text, so that the line is refused and nothing changes.
 pub record AreServersRefused (text : List ℕ) (old : ServersRecord) (out : List ℕ) (new : ServersRecord) : Type 0 where
   pub none : old.services ≡ None
-  pub takes : MayTakeMemory text ⊎ IsOk (settings_of text)
+  pub takes : TextMayTakeMemory text
   pub kept : new ≡ old
   pub told : out ≡ refused_noroom
 

@@ -24,4 +24,4 @@ returns-in-None g c =
     c.follows.new.rounds.items c.submit.result c.requires
     (subst (λ (o : Option TableFault). HasFollowed held old mid c.args.rounds.now.items c.follows.new.rounds.items o) c.in-None.is
     c.follows.ensures)
-    c.submit.ensures.answer c.submit.ensures.after c.submit.ensures.unchanged
+    c.submit.ensures.answer c.submit.ensures.room c.submit.ensures.after c.submit.ensures.unchanged
