@@ -16,7 +16,7 @@ DEFINED = re.compile(r"(?:unfoldable |abbrev |def )?(?:pub )?(record |data )?([A
 MEMBER = re.compile(r"^ +(?:pub )?([A-Za-z_][\w'-]*) :(?!:)", re.MULTILINE)
 BOUND = re.compile(r"[({λ,] *((?:[\w']+ )*[\w']+) *[:.]|\blet ([\w']+) =|\b([a-z_]\w*): ")
 EQUATION = re.compile(r"^ *[a-zA-Z_][\w'-]* (.*) =(?: |$)", re.MULTILINE)
-TYPE = r"^(?:pub(?:\(\w+\))? )?(?:unsafe )?(?:struct|enum|trait|type) {}\b"
+TYPE = r"^(?:pub(?:\(\w+\))? )?(?:unsafe )?(?:struct|enum|trait|type|const) {}\b"
 IMPL = re.compile(r"^impl\b[^\n{]*\{", re.MULTILINE)
 OF_TRAIT = re.compile(r"^impl(?:<.*?>)? (\w+)(?:<[^{]*>)? for (\w+)\b[^\n{]*\{", re.MULTILINE)
 GHOST = re.compile(r"^    ghost (?!use )[^\n]*?= \{.*?\};$", re.DOTALL | re.MULTILINE)
@@ -24,7 +24,7 @@ VALUE = re.compile(r"^ *ghost Value = \{.*?\};", re.DOTALL | re.MULTILINE)
 VARIANT = re.compile(r"^ +(?:ghost |type |const )?([A-Z]\w*)", re.MULTILINE)
 FIELD = re.compile(r"^( +)(?:pub )?[A-Za-z_][\w'-]* (?=:(?!:)|= )|(?<=[{;] )[A-Za-z_][\w'-]* (?== )", re.MULTILINE)
 GENERIC = re.compile(r"<([^<>]*)>")
-BUILT_IN = set("Type Unit Self Some None Ok Err Copy Clone Drop Fn FnMut FnOnce Prim Send Sync C".split())
+BUILT_IN = set("Type Unit Self Some None Ok Err Copy Clone Drop Fn FnMut FnOnce Prim Send Sync AllocGlobal Print C".split())
 PRELUDE = {"Option", "Result", "Vec", "Box", "String"}
 KEYWORDS = ("use", "module", "mod", "pub", "syntax", "open")
 
@@ -109,6 +109,12 @@ def whole(text, start):
         elif text[at] == ";" and depth == 0:
             return text[start : at + 1]
     raise Unfollowed(f"an item without an end: {text[start : start + 40]}")
+
+
+def apart(text):
+    """Returns an item without the imports inside it, and these."""
+    inside = re.findall(r"^    (?:ghost )?use .*$", text, re.MULTILINE)
+    return "\n".join(line for line in text.split("\n") if line not in inside), "\n".join(inside)
 
 
 class Sources:
@@ -274,14 +280,14 @@ class Sources:
         if not found:
             raise Unfollowed(f"crates/{file} has no public function `{name}`")
         around = self.impl_around(file, found.start())
-        return found[0], around.split("{")[0] + "\n".join(re.findall(r"^    (?:ghost )?use .*$", around, re.MULTILINE))
+        return found[0], f"{around.split('{')[0]}\n{apart(around)[1]}"
 
     def model(self, file, name):
         """Returns the value in the model of a type and the imports of that model, or None."""
         found = re.search(rf"^impl(?:<[^>]*>)? Model for {name}\b[^\n]*\{{", self.source(file), re.MULTILINE)
         text = whole(self.source(file), found.start()) if found else ""
         value = VALUE.search(text)
-        return (value[0], "\n".join(re.findall(r"^    (?:ghost )?use .*$", text, re.MULTILINE))) if value else None
+        return (value[0], apart(text)[1]) if value else None
 
     @functools.cached_property
     def impls(self):
@@ -300,7 +306,7 @@ class Sources:
         _, trait, _, kind = place.name.split()
         at = next(it for it in OF_TRAIT.finditer(self.source(place.file)) if it.groups() == (trait, kind))
         text = whole(self.source(place.file), at.start())
-        return "\n".join(GHOST.findall(text)), "\n".join([text.split("{")[0], *re.findall(r"^    (?:ghost )?use .*$", text, re.MULTILINE)])
+        return "\n".join(GHOST.findall(text)), f"{text.split('{')[0]}\n{apart(text)[1]}"
 
     def _item(self, place):
         """Returns the lines that define a place, and further lines that they depend on: imports of a model, the head of a module."""
@@ -313,7 +319,7 @@ class Sources:
         model = None if inside else self.model(place.file, name)
         if model:
             return model
-        return whole(self.source(place.file), self.item_at(place.file, name).start()).strip("\n"), ""
+        return apart(whole(self.source(place.file), self.item_at(place.file, name).start()).strip("\n"))
 
     def lines(self, place):
         return len(self.item(place)[0].strip("\n").split("\n"))
