@@ -345,14 +345,8 @@ class Sources:
         """Returns what the first name of a path is, or None if it is bound in the text, or of the language."""
         head, *rest = re.split(r"\.|::", path)
         it = scope.get(head)
-        if it and (it.name is not None or rest):
-            module = it.name is None
-            try:
-                return self.named(it.module, rest[0] if module else it.name, file)
-            except Unfollowed:
-                if head in bound:
-                    return None
-                raise
+        if it and (it.name or rest):
+            return self.imported(file, it, it.name or rest[0], head in bound)
         here = self.defined(file, head) if file.endswith(".antt") else self.item_at(file, head) and Place(file, head)
         if here and (here.name == head or head[0].isupper()):  # a variable may have the name of a field
             return here
@@ -363,6 +357,18 @@ class Sources:
         if head[0].isupper() and head not in bound and head not in BUILT_IN and len(head) > 1:
             raise Unfollowed(f"{file} names `{head}`, which is neither imported nor defined there")
         return None
+
+    def imported(self, file, it, name, bound):
+        """Returns what an import's name is, or None for a function of src/, or a field of a variable that is named as the module."""
+        try:
+            found = self.named(it.module, name, file)
+        except Unfollowed:
+            if it.name or name[0].isupper() or not bound:
+                raise
+            return None
+        if not found and name[0].isupper():
+            raise Unfollowed(f"{file} imports `{name}` from {'.'.join(it.module).removeprefix('rust.')}, which has no such type")
+        return found
 
     def _names(self, place):
         """Returns the places and the words that a definition names."""
