@@ -1,2 +1,3 @@
 pub mod Maps
+pub mod Agree
 pub mod Handles

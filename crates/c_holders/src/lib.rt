@@ -5,4 +5,4 @@
 
 mod laws;
 
-pub use laws::{maps_of_handles, stores_of_handles};
+pub use laws::{handles_agree, maps_of_handles, stores_of_handles};
