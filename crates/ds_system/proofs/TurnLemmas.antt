@@ -68,7 +68,7 @@ submit_ended held id unit old new before rounds fault none h t st =
     )
 
 refused_turn : (mid : DriverTable) (id unit : ℕ) (fault : TableFault) → IsAnswer (submitting mid id unit).0 (Err fault) →
-    LacksOnlyWhere {Move} (RequestTakesMemory mid id unit) (Err fault) → Submits mid id unit None None (Some fault) mid
+    LacksOnlyWhere {A = Move} (RequestTakesMemory mid id unit) (Err fault) → Submits mid id unit None None (Some fault) mid
 refused_turn mid id unit stops.NoRoom h room = (room, refl)
 refused_turn mid id unit stops.Assigned h room = (sym h, refl)
 refused_turn mid id unit stops.OldEndpoint h room = (sym h, refl)
