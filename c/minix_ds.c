@@ -19,7 +19,7 @@ static int error_of(uint32_t refusal) {
 }
 
 /* Fetches the item that waits for memory, for the caller that saw it. */
-static int fetched(struct ds_caller *caller) {
+static int fetch_waiting(struct ds_caller *caller) {
     struct ds_server *server = caller->server;
     struct ds_caller *waits = server->waits;
     struct ds_given given;
@@ -36,8 +36,9 @@ static int fetched(struct ds_caller *caller) {
 
 /* Calls the store, notes which subscriptions are owed a notice, and returns the error. A call drops the last answer's text, so a
  * waiting item is fetched first. */
-static int asked(struct ds_caller *caller, const struct ds_request *request, const void *text, size_t length, struct ds_answer *answer) {
-    int error = fetched(caller);
+static int call_store(struct ds_caller *caller, const struct ds_request *request, const void *text, size_t length,
+                      struct ds_answer *answer) {
+    int error = fetch_waiting(caller);
     if (error) return error;
     caller->refusal = ds_call(&caller->server->store, request, text, length, answer);
     if (caller->refusal) return -EIO;
@@ -53,8 +54,8 @@ static int too_big(struct ds_caller *caller) {
     return -E2BIG;
 }
 
-/* Makes a request of the caller for a key. */
-static int named(struct ds_request *to, uint32_t command, struct ds_caller *caller, const char *name, uint8_t kind) {
+/* Fills in a request for a key, in the name of the caller. */
+static int request_for_key(struct ds_request *to, uint32_t command, struct ds_caller *caller, const char *name, uint8_t kind) {
     size_t length = strlen(name);
     if (length > sizeof to->name) return too_big(caller);
     memset(to, 0, sizeof *to);
@@ -65,12 +66,12 @@ static int named(struct ds_request *to, uint32_t command, struct ds_caller *call
     return 0;
 }
 
-/* Makes a change of the caller's, with the caller's generation and the next number. The number is spent if the change takes effect. */
-static int changed(struct ds_caller *caller, struct ds_request *request, const void *text, size_t length) {
+/* Sends a change with the caller's generation and next number. The number is used up if the change takes effect. */
+static int send_change(struct ds_caller *caller, struct ds_request *request, const void *text, size_t length) {
     struct ds_answer answer;
     request->epoch = request->generation, request->seq = caller->seq + 1;
     request->text_length = length;
-    int error = asked(caller, request, text, length, &answer);
+    int error = call_store(caller, request, text, length, &answer);
     if (!error && answer.word == DS_CHANGED) caller->seq++;
     return error;
 }
@@ -78,19 +79,19 @@ static int changed(struct ds_caller *caller, struct ds_request *request, const v
 int ds_publish_label(struct ds_caller *caller, const char *label, ds_endpoint_t endpoint, int flags) {
     struct ds_request request;
     struct ds_answer answer;
-    int error = named(&request, DS_PUBLISH, caller, label, DS_LABEL);
+    int error = request_for_key(&request, DS_PUBLISH, caller, label, DS_LABEL);
     if (error) return error;
     request.epoch = request.value = endpoint / 1024, request.value_slot = (uint16_t)(endpoint % 1024);
     request.overwrite = (flags & DSF_OVERWRITE) != 0;
-    return asked(caller, &request, NULL, 0, &answer);
+    return call_store(caller, &request, NULL, 0, &answer);
 }
 
 static int publish(struct ds_caller *caller, const char *name, uint8_t kind, uint32_t value, const void *text, size_t length, int flags) {
     struct ds_request request;
-    int error = named(&request, DS_PUBLISH, caller, name, kind);
+    int error = request_for_key(&request, DS_PUBLISH, caller, name, kind);
     if (error) return error;
     request.value = value, request.overwrite = (flags & DSF_OVERWRITE) != 0;
-    return changed(caller, &request, text, length);
+    return send_change(caller, &request, text, length);
 }
 
 int ds_publish_u32(struct ds_caller *caller, const char *name, uint32_t value, int flags) {
@@ -110,8 +111,8 @@ int ds_publish_mem(struct ds_caller *caller, const char *name, const void *value
 static int retrieve(struct ds_caller *caller, const char *name, uint8_t kind, struct ds_answer *answer, char *text, size_t *length) {
     struct ds_request request;
     struct ds_given given;
-    int error = named(&request, DS_RETRIEVE, caller, name, kind);
-    if (!error) error = asked(caller, &request, NULL, 0, answer);
+    int error = request_for_key(&request, DS_RETRIEVE, caller, name, kind);
+    if (!error) error = call_store(caller, &request, NULL, 0, answer);
     if (error || answer->pieces == 0) return error;
     if (ds_items(&caller->server->store, 0, text, *length, &given)) return -EIO;
     if (given.count == 0) return given.stop == DS_WANTING ? -ENOMEM : -E2BIG;
@@ -124,7 +125,7 @@ int ds_retrieve_label_name(struct ds_caller *caller, char *name, ds_endpoint_t e
     struct ds_answer answer;
     struct ds_given given;
     request.command = DS_NAMEOF, request.generation = endpoint / 1024, request.slot = (uint16_t)(endpoint % 1024);
-    int error = asked(caller, &request, NULL, 0, &answer);
+    int error = call_store(caller, &request, NULL, 0, &answer);
     if (error) return error;
     if (ds_items(&caller->server->store, 0, name, DS_MAX_KEYLEN - 1, &given) || given.count == 0) return -EIO;
     name[given.length] = '\0';
@@ -165,21 +166,21 @@ int ds_delete_label(struct ds_caller *caller, const char *label) {
     struct ds_answer answer;
     ds_endpoint_t endpoint;
     int error = ds_retrieve_label_endpt(caller, label, &endpoint);
-    if (!error) error = named(&request, DS_DELETE, caller, label, DS_LABEL);
+    if (!error) error = request_for_key(&request, DS_DELETE, caller, label, DS_LABEL);
     if (error) return error;
     request.epoch = endpoint / 1024, request.seq = 1;
-    return asked(caller, &request, NULL, 0, &answer);
+    return call_store(caller, &request, NULL, 0, &answer);
 }
 
-static int deleted(struct ds_caller *caller, const char *name, uint8_t kind) {
+static int delete_entry(struct ds_caller *caller, const char *name, uint8_t kind) {
     struct ds_request request;
-    int error = named(&request, DS_DELETE, caller, name, kind);
-    return error ? error : changed(caller, &request, NULL, 0);
+    int error = request_for_key(&request, DS_DELETE, caller, name, kind);
+    return error ? error : send_change(caller, &request, NULL, 0);
 }
 
-int ds_delete_u32(struct ds_caller *caller, const char *name) { return deleted(caller, name, DS_U32); }
-int ds_delete_str(struct ds_caller *caller, const char *name) { return deleted(caller, name, DS_STR); }
-int ds_delete_mem(struct ds_caller *caller, const char *name) { return deleted(caller, name, DS_MEM); }
+int ds_delete_u32(struct ds_caller *caller, const char *name) { return delete_entry(caller, name, DS_U32); }
+int ds_delete_str(struct ds_caller *caller, const char *name) { return delete_entry(caller, name, DS_STR); }
+int ds_delete_mem(struct ds_caller *caller, const char *name) { return delete_entry(caller, name, DS_MEM); }
 
 int ds_subscribe(struct ds_caller *caller, const char *pattern, int flags) {
     struct ds_request request = {0};
@@ -188,7 +189,7 @@ int ds_subscribe(struct ds_caller *caller, const char *pattern, int flags) {
     request.kinds = (uint8_t)(flags & DSF_MASK_TYPE ? flags & DSF_MASK_TYPE : DS_LABEL | DS_U32 | DS_STR | DS_MEM);
     request.initial = (flags & DSF_INITIAL) != 0, request.overwrite = (flags & DSF_OVERWRITE) != 0;
     request.text_length = strlen(pattern);
-    return asked(caller, &request, pattern, request.text_length, &answer);
+    return call_store(caller, &request, pattern, request.text_length, &answer);
 }
 
 /* An item: an entry, a deletion, or a floor, whose type is 0. */
@@ -276,17 +277,17 @@ static int shown(struct ds_caller *caller) {
     struct ds_request request = {0};
     struct ds_answer answer;
     request.command = DS_CHECK, request.sub = caller->sub, request.max = 1;
-    int error = asked(caller, &request, NULL, 0, &answer);
+    int error = call_store(caller, &request, NULL, 0, &answer);
     if (error) return error;
     if (answer.pieces == 0) return -ENOENT;
     caller->server->waits = caller;
-    return fetched(caller);
+    return fetch_waiting(caller);
 }
 
 /* Takes the next item that is for the caller. */
 static int next_item(struct ds_caller *caller, struct item *item) {
     do {
-        int error = fetched(caller);
+        int error = fetch_waiting(caller);
         if (!error && !caller->line[0]) error = shown(caller);
         if (!error) error = read_item(caller->line, item);
         if (error) return error;

@@ -638,7 +638,7 @@ static int connect_to(const struct ds_client *client, struct ds_endpoint endpoin
     return file;
 }
 
-/* Makes one attempt. An instance that has just died leaves a label or a socket that nobody serves. */
+/* Makes one attempt. DS_NOTFOUND: another may succeed. An instance that has just died leaves a label or a socket that nobody serves. */
 static uint32_t find(struct ds_client *client, const char *label, struct ds_endpoint *endpoint, int *file) {
     struct ds_value value;
     uint32_t fault = client->file < 0 ? ds_client_reconnect(client) : 0;
@@ -646,8 +646,9 @@ static uint32_t find(struct ds_client *client, const char *label, struct ds_endp
     if (fault) return fault;
     *endpoint = value.endpoint;
     *file = connect_to(client, value.endpoint);
-    bool may_come = *file < 0 && (errno == ENOENT || errno == ECONNREFUSED || errno == EAGAIN);
-    return *file >= 0 ? 0 : may_come ? judge(client, "refused notfound\n") : fail(client, DS_CLIENT_LOST);
+    if (*file >= 0) return 0;
+    bool may_come = errno == ENOENT || errno == ECONNREFUSED || errno == EAGAIN;
+    return may_come ? judge(client, "refused notfound\n") : fail(client, DS_CLIENT_LOST);
 }
 
 uint32_t ds_client_connect(struct ds_client *client, const char *label, struct ds_endpoint *endpoint, int *file) {

@@ -41,7 +41,7 @@ static bool put_row(const struct row *row, int width, struct text *to) {
                       row->failures, cause_of(row), row->text);
 }
 
-/* The longest label: the text before the first space of a line. */
+/* Returns the length of the longest label, which is the text before the first space of a line, or of the heading LABEL. */
 static int width_of(const char *answer, size_t length) {
     int width = (int)strlen("LABEL");
     for (const char *line = answer, *end = answer + length; line < end; line = (const char *)memchr(line, '\n', (size_t)(end - line)) + 1)

@@ -88,8 +88,8 @@ static void tell_waiting(struct program *program, enum ds_fleet_word word) {
             public_part(program->url), program->place.path);
 }
 
-/* The work of each second. */
-static void look_after(struct program *program, enum ds_fleet_word word) {
+/* Does the work that is due once a second. */
+static void run_each_second(struct program *program, enum ds_fleet_word word) {
     uint64_t now = clock_now();
     if (now < program->looked_at + SECOND) return;
     program->looked_at = now;
@@ -113,7 +113,7 @@ static int turn(struct program *program, bool *ready) {
         notify("READY=1");
     }
     tell_waiting(program, word);
-    look_after(program, word);
+    run_each_second(program, word);
     bool is_unfit = word == DS_FLEET_BADSCOPE || word == DS_FLEET_BADNAME;
     bool is_misused = is_unfit && program->place.listener < 0; /* a dsfleet that serves may find the scope again */
     if (word != DS_FLEET_CLOSED && !is_misused) return GO_ON;

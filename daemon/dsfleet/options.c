@@ -72,7 +72,7 @@ static bool read_scope(void *fleet, char *scope) {
     return true;
 }
 
-/* Reads the first line of a file. */
+/* Reads a password, the first line of a file. Returns false if the file can't be read or the line is empty. */
 static bool read_password(void *to, char *path) {
     static char password[PASSWORD];
     int file = open(path, O_RDONLY | O_CLOEXEC);

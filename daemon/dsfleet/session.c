@@ -87,6 +87,7 @@ static bool answer_listen(struct turn *turn, const struct request *it) {
     return text_print(&turn->client->held, "listening %ld\n", sub);
 }
 
+/* `check SUB ..` of another client's subscription is refused. */
 static bool answer_check(struct turn *turn, const struct request *it) {
     struct request rest = *it;
     long sub = request_sub(&rest);

@@ -172,9 +172,9 @@ uint64_t items_drop_acknowledged(struct items *items, size_t length, unsigned ma
         items->folded_by -= length;
         return 0;
     }
-    uint64_t told = items->folded;
+    uint64_t acknowledged = items->folded;
     items->folded = items->folded_by = 0;
-    return told;
+    return acknowledged;
 }
 
 /* ---- refused lines ---- */
@@ -315,9 +315,9 @@ static enum ds_fleet_word merge_lines(struct items *items, const char *entry, co
     return word;
 }
 
-/* Merges lines, each with its newline. A refused line ends a merge, and the lines after it are parsed again. So the
- * next merge has one line, and then twice as many each time: many lines in a row may be refused. */
-static enum ds_fleet_word take_ended(struct items *items, const char *entry, const char *lines, size_t length) {
+/* Merges lines, each with its newline, up to ITEMS_MOST at a time. A refused line ends a merge, and the lines after it are parsed
+ * again. So the next merge has one line, and each later one twice as many: many lines in a row may be refused. */
+static enum ds_fleet_word merge_in_parts(struct items *items, const char *entry, const char *lines, size_t length) {
     unsigned count = ITEMS_MOST;
     while (length) {
         size_t done, part = first_lines(lines, length, count);
@@ -336,9 +336,9 @@ enum ds_fleet_word items_take(struct items *items, const char *entry, const char
     struct text ended = {0};
     if (word != DS_FLEET_INSTEP || !length) return word;
     items_note(items, lines, length);
-    if (lines[length - 1] == '\n') return take_ended(items, entry, lines, length);
+    if (lines[length - 1] == '\n') return merge_in_parts(items, entry, lines, length);
     bool fits = text_put(&ended, lines, length) && text_put(&ended, "\n", 1);
-    word = fits ? take_ended(items, entry, ended.bytes, ended.length) : DS_FLEET_NOROOM;
+    word = fits ? merge_in_parts(items, entry, ended.bytes, ended.length) : DS_FLEET_NOROOM;
     text_free(&ended);
     return word;
 }

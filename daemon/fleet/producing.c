@@ -56,6 +56,8 @@ static void take_marks(struct producing *producing) {
     producing->marks = 0;
 }
 
+/* Asks to add the outbox's parts, each as an entry, and for the length of the stream. The last entry of a whole outbox may have a
+ * watermark. A round without parts counts a number up, so that replicas have a write to confirm. */
 static void ask_to_add(struct ds_fleet *fleet) {
     const char *lines;
     fleet->producing.sent = 0;
@@ -87,7 +89,7 @@ void producing_put_all(struct ds_fleet *fleet, struct question *question) {
     take_marks(&fleet->producing);
 }
 
-static void count_as_told(struct ds_fleet *fleet) {
+static void count_as_acknowledged(struct ds_fleet *fleet) {
     struct producing *producing = &fleet->producing;
     producing->acknowledged += items_drop_acknowledged(&fleet->items, producing->sent, producing->sent_marks);
     producing->sent_marks = 0;
@@ -104,7 +106,7 @@ void producing_added_all(struct ds_fleet *fleet, const struct redisReply *ids) {
     fleet->state.entries_told += ids->elements;
     begin_wait(producing);
     if (producing->replicas && (producing->sent || producing->sent_marks)) producing->state = PRODUCING_ADDED;
-    else count_as_told(fleet);
+    else count_as_acknowledged(fleet);
 }
 
 /* ---- a round of producing ---- */
@@ -129,7 +131,7 @@ void producing_mark(struct ds_fleet *fleet) {
     fleet->items.gathered++;
 }
 
-/* Milliseconds of the next wait for replicas: it ends with their time, and later takes as long again. */
+/* Returns the milliseconds of the next WAIT, at most WAITS: until `wait_end`, or, past that, as long as `within`. */
 static int next_wait(const struct producing *producing) {
     uint64_t time = clock_now(), left = producing->wait_end > time ? producing->wait_end - time : (uint64_t)producing->within;
     return left < WAITS ? (int)left : WAITS;
@@ -159,7 +161,7 @@ static enum ds_fleet_word keep_added(struct ds_fleet *fleet, unsigned added) {
     producing->sent = 0;
     for (unsigned i = 0; i < added; i++) producing->sent += part_of(outbox->bytes + producing->sent, outbox->length - producing->sent);
     if (added && producing->replicas) producing->state = PRODUCING_ADDED;
-    else if (added) count_as_told(fleet);
+    else if (added) count_as_acknowledged(fleet);
     return is_error(answer) ? server_denied(fleet, answer) : server_protocol_error(fleet, "no entry was added");
 }
 
@@ -192,7 +194,7 @@ static enum ds_fleet_word producing_answered(struct ds_fleet *fleet) {
     if (word != DS_FLEET_INSTEP) return word;
     const redisReply *have = producer->answers[producer->came - 1];
     if (producing->replicas && count_of(have) < producing->replicas) return lacks_replicas(fleet, have);
-    count_as_told(fleet);
+    count_as_acknowledged(fleet);
     fleet->server.pause = 0;
     return DS_FLEET_INSTEP;
 }

@@ -282,17 +282,24 @@ static void take_in(struct rs *rs) {
     }
 }
 
-/* Orders the next turn at a time, unless that is 0, and at every other time at which something is due. */
-static void set_timer(struct host *host, uint64_t at) {
-    struct rs *rs = &host->rs;
-    bool rests = host->admit_at || rs->peers.of_public >= PEERS_PUBLIC;
+/* Returns the earlier of two times, of which 0 is none. */
+static uint64_t earlier(uint64_t a, uint64_t b) { return !a || (b && b < a) ? b : a; }
+
+/* Returns when RS has to get its next tick, or 0 if no tick is due. */
+static uint64_t next_tick(struct rs *rs) {
     rs->ticks.due = rs_due(rs);
-    if (rs->ticks.due != TICKS_NEVER) {
-        uint64_t tick = ticks_begin(&rs->ticks, rs->ticks.due > rs->ticks.now ? rs->ticks.due : rs->ticks.now + 1);
-        if (!at || tick < at) at = tick;
-    }
-    if (host->admit_at && (!at || host->admit_at < at)) at = host->admit_at;
+    if (rs->ticks.due == TICKS_NEVER) return 0;
+    return ticks_begin(&rs->ticks, rs->ticks.due > rs->ticks.now ? rs->ticks.due : rs->ticks.now + 1);
+}
+
+/* Listens for clients, unless there are too many or the last try to accept one failed. */
+static void watch_listener(struct host *host) {
+    bool rests = host->admit_at || host->rs.peers.of_public >= PEERS_PUBLIC;
     watch_for(&host->listener, host->epoll, rests ? 0 : EPOLLIN);
+}
+
+/* Sets the timer to the next turn, or stops it with 0. */
+static void set_timer(struct host *host, uint64_t at) {
     if (at == host->timer_at) return;
     struct itimerspec when = {.it_value = {.tv_sec = (time_t)(at / 1000), .tv_nsec = (long)(at % 1000) * 1000000}};
     timerfd_settime(host->timer.file, TFD_TIMER_ABSTIME, &when, NULL);
@@ -333,7 +340,8 @@ static bool turn(struct host *host, bool *more) {
     rs->repeats = false;
     bool logs = outputs_turn_logs(rs, &due);
     outputs_watch(rs, &due);
-    set_timer(host, due);
+    watch_listener(host);
+    set_timer(host, earlier(earlier(due, next_tick(rs)), host->admit_at));
     log_count(&host->log);
     return !is_down || logs;
 }

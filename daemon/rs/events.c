@@ -5,6 +5,15 @@
 #include <stdio.h>
 #include <string.h>
 
+/* Keeps a text `WORD: TEXT` as `SECONDS WORD TEXT`, in place of the oldest event. */
+static void keep(struct events *events, const char *text) {
+    uint64_t age = clock_now() - events->begun;
+    int word = (int)strcspn(text, ":");
+    const char *rest = text + word + strspn(text + word, ":");
+    snprintf(events->event[events->count++ % EVENTS], EVENT, "%llu.%03llu %.*s%s", (unsigned long long)age / 1000,
+             (unsigned long long)age % 1000, word, text, rest);
+}
+
 void events_tell(struct events *events, const char *level, const char *format, ...) {
     char text[EVENT];
     va_list given;
@@ -12,11 +21,7 @@ void events_tell(struct events *events, const char *level, const char *format, .
     vsnprintf(text, sizeof text, format, given);
     va_end(given);
     log_say(events->log, level, "%s", text);
-    uint64_t age = clock_now() - events->begun;
-    int word = (int)strcspn(text, ":");
-    const char *rest = text + word + strspn(text + word, ":");
-    snprintf(events->event[events->count++ % EVENTS], EVENT, "%llu.%03llu %.*s%s", (unsigned long long)age / 1000,
-             (unsigned long long)age % 1000, word, text, rest);
+    keep(events, text);
 }
 
 bool events_put(const struct events *events, struct text *to) {

@@ -16,7 +16,7 @@ struct events {
     char event[EVENTS][EVENT];
 };
 
-/* Tells an event, of a text `WORD: TEXT`, at a level of log.h. */
+/* Logs an event, a text `WORD: TEXT`, at a level of log.h, and keeps it. */
 void events_tell(struct events *events, const char *level, const char *format, ...) __attribute__((format(printf, 3, 4)));
 /* Puts the events that are kept, the oldest first, as lines `SECONDS WORD TEXT`. Returns false where memory runs out. */
 bool events_put(const struct events *events, struct text *to);

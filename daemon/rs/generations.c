@@ -20,6 +20,7 @@ static bool write_number(struct generations *generations, uint32_t next) {
     return true;
 }
 
+/* Returns 1 for an empty file; 0, with errno, if the file can't be read or holds another text. */
 static uint32_t read_number(int file) {
     char line[LINE + 2] = "";
     unsigned next = 0;

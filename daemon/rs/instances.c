@@ -180,8 +180,8 @@ bool instances_note_end(struct instances *all, struct instance *it) {
     it->cause = cause_of(&how);
     watch_for(&it->pidfd, all->epoll, 0);
     instances_stir(all);
-    const char *what = how.si_code == CLD_EXITED ? "status" : "signal";
     if (!it->is_up) return true;
+    const char *what = how.si_code == CLD_EXITED ? "status" : "signal";
     events_tell(all->events, LOG_WARN, "died: %s %s cause %d %s %d", it->service->label, it->endpoint, it->cause, what, how.si_status);
     return true;
 }

@@ -25,7 +25,7 @@ bool proc_read(const char *path, struct text *text) {
     return length == 0 && text_put(text, "", 1);
 }
 
-/* The name of a process, in parentheses, may have any bytes. */
+/* The name of a process is in parentheses and may have any bytes: the fields after it begin past the last `)`. */
 bool proc_look(pid_t pid, struct proc_seen *seen) {
     char path[32], line[512];
     snprintf(path, sizeof path, "/proc/%d/stat", pid);

@@ -61,12 +61,11 @@ bool settings_say_none(const struct text *text) {
     char line[64];
     for (size_t at = 0, length; at < text->length; at += length + 1) {
         const char *end = memchr(text->bytes + at, '\n', text->length - at);
-        int one = 0, all = 0;
+        int matched = 0;
         length = end ? (size_t)(end - text->bytes) - at : text->length - at;
         snprintf(line, sizeof line, "%.*s", (int)length, text->bytes + at);
-        sscanf(line, " service = [ ]%n", &one);
-        sscanf(line, " services = [ ]%n", &all);
-        if (one || all) return true;
+        sscanf(line, " service = [ ]%n", &matched); /* a space of the format may be none in the line */
+        if (matched) return true;
     }
     return false;
 }

@@ -11,7 +11,7 @@
 
 /* Puts the text of a file. */
 bool settings_read(const char *path, struct text *text, struct events *events);
-/* Whether a text says by a line `services = []`, or `service = []`, that there are no services. */
+/* Whether a line of the text is `service = []`: there are to be no services. */
 bool settings_say_none(const struct text *text);
 /* Opens a store in a closed handle, with RS for the settings in a text, which was read from the path. Returns false with the handle
  * closed. */

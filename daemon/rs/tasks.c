@@ -38,7 +38,8 @@ static bool clear(struct rs *rs, size_t service) {
     return note(rs, service, DS_KEEPER_SCANNED, DS_KEEPER_DYING);
 }
 
-/* A fault that isn't a shortage is a death of the instance. If RS can't learn that now, the start is tried again. */
+/* Begins the process of an instance. A fault is reported as the instance's death. If RS can't learn of that now, or a resource is short,
+ * the start is tried again. */
 static bool begin(struct rs *rs, size_t service, struct instance *it) {
     enum start how = instances_begin(&rs->instances, it);
     if (how == START_BEGUN) return note(rs, service, DS_KEEPER_BEGUN, (uint64_t)it->pid);

@@ -1,10 +1,11 @@
 /* The command line of a program. See usage.h. */
 #include "usage.h"
+#include <assert.h>
 #include <getopt.h>
 #include <stdio.h>
 #include <stdlib.h>
 
-enum { ROWS = 32, FIRST_ROW = 256 /* above each letter */, DECIMAL = 10 };
+enum { ROWS = 32 /* with help, version and the end */, FIRST_ROW = 256 /* above each letter */, DECIMAL = 10 };
 
 int usage_refuse(const struct usage *it, const char *why) {
     fprintf(stderr, "%s: %s; see %s --help\n", it->name, why, it->name);
@@ -35,6 +36,7 @@ int usage_read(const struct usage *it, int count, char **words, int *first) {
     struct option known[ROWS] = {{"help", no_argument, NULL, 'h'}, {"version", no_argument, NULL, 'v'}};
     for (int i = 0; it->rows[i].name; i++) {
         const struct option_row *row = &it->rows[i];
+        assert(i + 3 < ROWS);
         known[i + 2] = (struct option){row->name, row->flag ? no_argument : required_argument, NULL, FIRST_ROW + i};
     }
     opterr = 0;

@@ -257,6 +257,7 @@ class Client:
         return self.endpoint
 
     def _change(self, front: str, back: str) -> None:
+        """Sends a change, with its version between the front and the back of its line."""
         number, self._number = self._number, self._number + 1
         self.ask(f"{front} {self._caller().generation}.{number}{back}")
 

@@ -194,7 +194,7 @@ class Answers(unittest.TestCase):
             self.assertEqual(list(inbox.notices()), [40])
 
     def test_notices(self):
-        """Returns one notice of each subscription, in the order in which they came."""
+        """Each listened subscription has one notice, in the order of arrival, however often it is owed one."""
         self.client.ask('subscribe 41 "tty" 1 later new')
         self.client.ask('subscribe 40 "eth0.*" 15 later new')
         self.assertEqual(list(self.client.notices(0)), [])

@@ -265,10 +265,11 @@ class Many(unittest.TestCase):
 
     @staticmethod
     def one_by_one(store, caller, entries, overwrite):
+        """Yields the answer, or the exception, of each entry's own publication."""
         for entry in entries:
             try:
                 yield store.publish(caller, *entry, overwrite=overwrite)
-            except ValueError as malformed:  # of which some are refusals
+            except ValueError as malformed:  # some refusals are a ValueError, too
                 yield malformed
             except refusals.Refused as refused:
                 yield refused

@@ -28,7 +28,7 @@ def tones(colours, paper, ink):
 
 
 def grounds(paper, ink, faint, rule, none, bad, plain, vain):
-    """Returns the looks of what has no generation."""
+    """Returns the CSS rules of all that isn't of one generation: the paper, texts, frames, arrows, in the colours given."""
     return (
         f".paper{{fill:{paper}}}.on{{fill:{paper}}}.cut{{stroke:{paper}}}.ink{{fill:{ink}}}.faint{{fill:{faint}}}"
         f".rule{{stroke:{rule}}}.lane{{stroke:{faint}}}.none{{fill:{none}}}.bad,.fbad{{fill:{bad}}}.bar,.hatch,.break{{stroke:{bad}}}"
