@@ -35,7 +35,7 @@ struct program {
     const char *url;
     int signals;
     uint64_t begun, looked_at, admit_at; /* milliseconds; looked_at: when the lock was looked after */
-    bool ended, told_waiting;
+    bool ended, logged_waiting;
 };
 
 /* ---- a turn ---- */
@@ -80,10 +80,10 @@ static const char *public_part(const char *url) {
 }
 
 /* Logs once why dsfleet waits, if the socket isn't made soon. */
-static void tell_waiting(struct program *program, enum ds_fleet_word word) {
+static void log_waiting(struct program *program, enum ds_fleet_word word) {
     bool is_soon = word == DS_FLEET_LATE && clock_now() < program->begun + SECOND;
-    if (program->told_waiting || program->place.listener >= 0 || is_soon) return;
-    program->told_waiting = true;
+    if (program->logged_waiting || program->place.listener >= 0 || is_soon) return;
+    program->logged_waiting = true;
     log_say(&program->log, LOG_INFO, "waits: for the redis server %s; the socket %s is made once the store has caught up",
             public_part(program->url), program->place.path);
 }
@@ -112,7 +112,7 @@ static int turn(struct program *program, bool *ready) {
         if (!place_serve(&program->place)) return FAILED;
         notify("READY=1");
     }
-    tell_waiting(program, word);
+    log_waiting(program, word);
     run_each_second(program, word);
     bool is_unfit = word == DS_FLEET_BADSCOPE || word == DS_FLEET_BADNAME;
     bool is_misused = is_unfit && program->place.listener < 0; /* a dsfleet that serves may find the scope again */

@@ -5,10 +5,10 @@
  *   state | event                                    | does
  *   ------+------------------------------------------+-----------------------------------------------------------------
  *   any   | good answers                             | keeps what the stream has
- *   any   | .. of a server that lost something       | reads everything again, and then tells what isn't there
+ *   any   | .. of a server that lost something       | reads everything again, and sends what is missing
  *   any   | .. with another scope                    | badscope, and the connections end
  *   any   | an entry of a second ago hasn't come     | away, both connections are made anew
- *   any   | others differ, and this is the first of its kind | tells everything again, less and less often
+ *   any   | others differ, and this is the first of its kind | sends everything again, less and less often
  *   any   | an error                                 | denied
  *
  * A look by itself, without digests, comes between for marks of changes that the store held already. */
@@ -98,8 +98,8 @@ static const char presence[] =
     "local there = {} for i, id in ipairs(ARGV) do there[i] = #redis.call('XRANGE', KEYS[1], id, id) end return there";
 
 void anti_entropy_probes(const struct ds_fleet *fleet, struct entry_id ids[PROBES]) {
-    const struct trail *told = &fleet->producing.trail, *read = &fleet->reading.trail;
-    const struct entry_id probes[PROBES] = {told->sure, told->first, read->sure, read->first};
+    const struct trail *added = &fleet->producing.trail, *read = &fleet->reading.trail;
+    const struct entry_id probes[PROBES] = {added->sure, added->first, read->sure, read->first};
     memcpy(ids, probes, sizeof probes);
 }
 
@@ -155,7 +155,7 @@ static enum ds_fleet_word ask_to_compare(struct ds_fleet *fleet) {
 
 /* ---- what the stream has ---- */
 
-/* Whether an entry told or read is neither in the stream nor in the snapshot. */
+/* Whether an entry that was added or read is neither in the stream nor in the snapshot. */
 static bool lacks_probe(const struct anti_entropy *anti_entropy, const redisReply *there, const struct stock *stock) {
     for (size_t i = 0; i < PROBES; i++) {
         struct entry_id id = anti_entropy->probes[i];
@@ -164,7 +164,7 @@ static bool lacks_probe(const struct anti_entropy *anti_entropy, const redisRepl
     return false;
 }
 
-/* A stream that lost something is read again, and the bridge tells what isn't there: one of another history, one that
+/* A stream that lost something is read again, and the bridge sends what is missing: one of another history, one that
  * lacks a probe, one that ends before what was read, and one that has less than before. */
 static enum ds_fleet_word look_for_loss(struct ds_fleet *fleet, const struct stock *stock, bool has_less) {
     struct anti_entropy *anti_entropy = &fleet->anti_entropy;
@@ -224,8 +224,8 @@ static enum ds_fleet_word look_answered_well(struct ds_fleet *fleet) {
 
 uint64_t looking_mark(struct looking *looking) { return looking->wanted = looking->asked + 1; }
 
-bool looking_has_seen(const struct looking *looking, uint64_t look, uint64_t told) {
-    return looking->seen >= look || (looking->good >= look && told >= looking->good_at);
+bool looking_has_seen(const struct looking *looking, uint64_t look, uint64_t acknowledged) {
+    return looking->seen >= look || (looking->good >= look && acknowledged >= looking->good_at);
 }
 
 static bool is_look_due(const struct ds_fleet *fleet) {
@@ -244,7 +244,7 @@ const struct round looking_round = {is_look_due, ask_to_look, look_answered_well
 
 /* ---- what others hold ---- */
 
-/* If others differ, the first of those that hold the same tells everything. If they still differ, as after a clash, it
+/* If others differ, the first of those that hold the same sends everything. If they still differ, as after a clash, it
  * does less and less often. */
 static void judge_peers(struct ds_fleet *fleet, const redisReply *digests) {
     struct anti_entropy *anti_entropy = &fleet->anti_entropy;

@@ -119,7 +119,7 @@ struct producing {
     int within;         /* milliseconds in which the replicas are to have an entry */
     uint64_t wait_end;  /* when the time of the replicas is over */
     uint64_t acknowledged; /* bytes */
-    struct trail trail; /* the entries told */
+    struct trail trail; /* the entries added */
 };
 
 void producing_cut(struct producing *producing);
@@ -129,7 +129,7 @@ bool producing_may_add_all(const struct ds_fleet *fleet);
 void producing_put_all(struct ds_fleet *fleet, struct question *question);
 void producing_added_all(struct ds_fleet *fleet, const struct redisReply *ids);
 bool producing_has_news(const struct ds_fleet *fleet);
-/* Notes a mark past everything gathered. What others told, or an earlier run did, may lack replicas: then the mark is acknowledged
+/* Notes a mark past everything gathered. Entries of others, or of an earlier run, may lack replicas: then the mark is acknowledged
  * once a later write has them. */
 void producing_mark(struct ds_fleet *fleet);
 
@@ -183,7 +183,7 @@ struct looking {
 /* Returns the number of a look that isn't asked yet. */
 uint64_t looking_mark(struct looking *looking);
 /* Whether this look, or a later one, found no loss, and the server acknowledged what was gathered before it. */
-bool looking_has_seen(const struct looking *looking, uint64_t look, uint64_t told);
+bool looking_has_seen(const struct looking *looking, uint64_t look, uint64_t acknowledged);
 
 /* ---- anti-entropy ---- */
 

@@ -147,8 +147,8 @@ static enum ds_fleet_word turn_both(struct ds_fleet *fleet, bool waits) {
         if (word != DS_FLEET_INSTEP) return word;
         produced = turn_producer(fleet);
         if (!server_is_connected(&fleet->server)) return produced;
-        bool has_told = fleet->producing.acknowledged > before && is_in_step(fleet);
-        if (waits && has_told && link_is_asked(&fleet->server.consumer)) return DS_FLEET_INSTEP;
+        bool has_sent_all = fleet->producing.acknowledged > before && is_in_step(fleet);
+        if (waits && has_sent_all && link_is_asked(&fleet->server.consumer)) return DS_FLEET_INSTEP;
         consumed = turn_consumer(fleet);
         if (!server_is_connected(&fleet->server)) return consumed;
     }

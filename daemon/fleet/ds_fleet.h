@@ -1,6 +1,5 @@
 /* Keeps a store in step with those of other hosts over a redis stream: it appends to the stream what takes effect in
- * the store, and merges what others appended. In these comments, to tell is to append to the stream.
- * docs/reference/fleet.md draws it.
+ * the store, and merges what others appended. docs/reference/fleet.md draws it.
  *
  * The store behind the handle is proved; this carrier is tested. If no two changes contradict each other, stores that
  * got the same items agree, in whatever order and however often the items arrived.
@@ -36,9 +35,9 @@ enum ds_fleet_word {
     DS_FLEET_BADURL, /* of ds_fleet_open alone: the URL or the password can't be used, or there are certificates without TLS */
     DS_FLEET_NOTLS,  /* of ds_fleet_open alone: the URL asks for TLS, and the library was built without it */
     DS_FLEET_BADNAME,  /* of ds_fleet_open: the stream's name. Of a step: the server is of a cluster, and the name has no {TAG} by which all
-                          keys are on one node; the step tells nothing, and a later one looks again */
-    DS_FLEET_BADSCOPE, /* of ds_fleet_open: the scope can't be read. Of a step: the stream has another scope; the step tells nothing, and a
-                          later one looks again */
+                          keys are on one node; the step appends nothing, and a later one looks again */
+    DS_FLEET_BADSCOPE, /* of ds_fleet_open: the scope can't be read. Of a step: the stream has another scope; the step appends nothing, and
+                          a later one looks again */
     DS_FLEET_SYSTEM,   /* of ds_fleet_open alone; errno says why */
     DS_FLEET_BADTLS    /* of ds_fleet_open alone: the files of certificates can't be used; `tell` got the reason */
 };
@@ -63,26 +62,26 @@ struct ds_fleet_options {
                              what a server denies, when others differ or data was lost, and for each compaction; may be NULL */
     void *context;        /* the first argument of tell */
     const char *password; /* instead of the URL's; NULL: the URL's. Less than 256 bytes */
-    int replicas;         /* how many replicas have to have a change before it counts as told; 0: none */
+    int replicas;         /* how many replicas have to have a change before it counts as acknowledged; 0: none */
     int within;           /* milliseconds that they may take before a step returns DENIED; 0: DS_FLEET_WITHIN */
     const char *ca;       /* with TLS, PEM files, which are read at each connection: of the CAs that certify servers; NULL: the system's CAs */
     const char *certificate, *key; /* those that are shown to the server; NULL: none */
 };
 
 /* Joins the store of the handle to a stream, without waiting: the first step connects to the server, and the first
- * steps tell what the store holds already. Returns DS_FLEET_INSTEP; then close *fleet by ds_fleet_close. Else *fleet is
+ * steps append what the store holds already. Returns DS_FLEET_INSTEP; then close *fleet by ds_fleet_close. Else *fleet is
  * NULL, and the word says why: CLOSED, BADURL, NOTLS, BADTLS, BADNAME, BADSCOPE, NOROOM or SYSTEM. */
 enum ds_fleet_word ds_fleet_open(struct ds_fleet **fleet, struct ds_handle *store, const struct ds_fleet_options *options);
 
-/* Tells what is new, and merges what others told. It waits until the store is in step, for at most `patience`
- * milliseconds; with 0 it doesn't wait. A step that waits, and has just told all news, leaves what arrived meanwhile to
+/* Appends what is new, and merges what others appended. It waits until the store is in step, for at most `patience`
+ * milliseconds; with 0 it doesn't wait. A step that waits, and has just appended all news, leaves what arrived meanwhile to
  * the next one, which the poller reports. The first DS_FLEET_INSTEP means that the store has caught up. Serve no client
  * before that: a publisher that doesn't see its own earlier versions would use their numbers again. DS_FLEET_BADSCOPE,
  * DS_FLEET_BADNAME and DS_FLEET_CLOSED end the step at once, so pause before the next one. Call it when the poller is readable,
  * and after each change of the store. */
 enum ds_fleet_word ds_fleet_step(struct ds_fleet *fleet, unsigned patience);
 
-/* Returns a descriptor that becomes readable when a step has something to do: others told something, the server
+/* Returns a descriptor that becomes readable when a step has something to do: others appended something, the server
  * answered, or a second passed. It is the same one until ds_fleet_close. Wait for it, but don't read it. */
 int ds_fleet_bell(const struct ds_fleet *fleet);
 
@@ -95,7 +94,7 @@ uint64_t ds_fleet_mark_held(struct ds_fleet *fleet);
  * `replicas`, that many have it. So one client may get its answer while others still change the store. */
 bool ds_fleet_is_told(const struct ds_fleet *fleet, uint64_t mark);
 
-/* Sets in owed the bit of each subscription to which what others told since the last call owes a notice. Other bits are
+/* Sets in owed the bit of each subscription that is owed a notice, since the last call, of items that others appended. Other bits are
  * unchanged. */
 void ds_fleet_owed(struct ds_fleet *fleet, uint8_t owed[16]);
 

@@ -179,15 +179,15 @@ uint64_t items_drop_acknowledged(struct items *items, size_t length, unsigned ma
 
 /* ---- refused lines ---- */
 
-/* A refusal of a key or an owner is logged once; of many keys, ITEMS_TOLD at a time. */
+/* A refusal of a key or an owner is logged once; of many keys, ITEMS_LOGGED at a time. */
 static bool is_news(struct items *items, const char *line, size_t length, uint32_t refusal) {
     const char *space = memchr(line, ' ', length);
     const char *end = space ? memchr(space + 1, ' ', length - (size_t)(space + 1 - line)) : NULL;
     uint64_t hash = hashed(hash_seed + refusal, line, end ? (size_t)(end - line) : length);
-    for (size_t i = 0; i < ITEMS_TOLD; i++) {
-        if (items->told[i] == hash) return false;
+    for (size_t i = 0; i < ITEMS_LOGGED; i++) {
+        if (items->logged[i] == hash) return false;
     }
-    items->told[items->told_next++ % ITEMS_TOLD] = hash;
+    items->logged[items->logged_next++ % ITEMS_LOGGED] = hash;
     return true;
 }
 

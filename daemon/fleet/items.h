@@ -8,8 +8,8 @@
 #include "text.h"
 
 enum {
-    ITEMS_MOST = 256, /* lines of one merge, and of one entry */
-    ITEMS_TOLD = 256  /* keys whose refusal was logged */
+    ITEMS_MOST = 256,  /* lines of one merge, and of one entry */
+    ITEMS_LOGGED = 256 /* keys whose refusal was logged */
 };
 
 struct items {
@@ -33,10 +33,10 @@ struct items {
     uint64_t tried;                 /* the store's position then */
     uint64_t unread;
     uint64_t lost;                  /* items that the second store refused, too, since all was read: the stream alone has them */
-    uint64_t lost_beside;           /* how many were refused when the first of them was lost */
+    uint64_t lost_beside;           /* how many items were refused when the first one was lost */
     uint64_t refused[DS_NOROOM + 1];
-    uint64_t told[ITEMS_TOLD];      /* hashes of keys and why they were refused */
-    size_t told_next;
+    uint64_t logged[ITEMS_LOGGED];  /* hashes of keys and why they were refused */
+    size_t logged_next;
     uint8_t owed[16];
     ds_fleet_tell *tell;
     void *context;
@@ -73,7 +73,7 @@ enum ds_fleet_word items_retry(struct items *items);
 /* Whether half of the lines that were refused when items were lost have been taken since: then there is room to read
  * the lost lines once more. */
 bool items_may_regain(const struct items *items);
-/* All is read anew, so that lost lines come again. `notes`: lines are noted. */
+/* Prepares for all entries to be read anew, so that lost lines come again. `notes`: their lines are noted. */
 void items_begin_anew(struct items *items, bool notes);
 /* Appends everything held, and everything refused, to the text. */
 enum ds_fleet_word items_all(struct items *items, struct text *to);

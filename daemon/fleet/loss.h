@@ -28,7 +28,7 @@ struct stock look_answered(struct redisReply **looked);
  * fewer were ever added. */
 bool has_lost(const struct stock *before, const struct stock *now);
 
-/* Entries of one origin, as those that a bridge told. While the stream is the same one, each of them is in it, or in
+/* Entries of one origin, as those that a bridge added. While the stream is the same one, each of them is in it, or in
  * the snapshot. A stream that was replaced since it was last looked at lacks `sure` or, where no entry was there then,
  * `first`. */
 struct trail {

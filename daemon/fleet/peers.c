@@ -99,8 +99,8 @@ static void compare_digest(struct peers *peers, const char *me, const char *id, 
     peers->differing += peer->still < DEAD && peer->differs >= DIFFERS;
 }
 
-/* Whether no other one is to tell all in place of this one: of those that hold the same at the last entry at which others
- * differ, the first by name does. A bridge that waits has a digest of an earlier entry. */
+/* Whether this bridge is the one that sends everything: the first by name of those that hold the same as this one at the last entry at
+ * which others differ. A bridge that waits has a digest of an earlier entry. */
 static bool is_first(const struct peers *peers, const char *me) {
     const struct digest *own = peers_own(peers, &peers->apart);
     for (size_t i = 0; own && i < peers->count; i++) {

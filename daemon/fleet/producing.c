@@ -11,7 +11,7 @@
  *   ADDED       | replicas enough                 | NEWS: these bytes are acknowledged
  *   ADDED       | too few replicas                | ADDED: denied, but not before they had their time
  *   ADDED       | an error instead of replicas    | ADDED: denied
- *   NEWS, ADDED | the connection ends             | NEWS: tells the next server again
+ *   NEWS, ADDED | the connection ends             | NEWS: sends to the next server again
  *
  * If the outbox is long, and no round sends it, all that is held takes its place, and the state is NEWS: limit_outbox of ds_fleet.c. If the
  * server lost what it had, the state is NEWS, too: server_call_again. A compaction adds the whole outbox, which is acknowledged
@@ -23,12 +23,12 @@
 #include <string.h>
 
 enum {
-    PARTS = 32,     /* entries told at a time, */
+    PARTS = 32,     /* entries added at a time, */
     PART = 1 << 16, /* and bytes of lines in one of them, unless one line has more */
     WAITS = 1000    /* milliseconds of one wait for replicas: then other rounds have their turn */
 };
 
-/* How many bytes of the lines one entry tells. */
+/* Returns how many bytes of the lines go into one entry. */
 static size_t part_of(const char *lines, size_t length) {
     unsigned count = ITEMS_MOST;
     size_t part = first_lines(lines, length, count);
@@ -137,7 +137,7 @@ static int next_wait(const struct producing *producing) {
     return left < WAITS ? (int)left : WAITS;
 }
 
-static enum ds_fleet_word ask_to_tell(struct ds_fleet *fleet) {
+static enum ds_fleet_word ask_round(struct ds_fleet *fleet) {
     struct producing *producing = &fleet->producing;
     producing->parts = 0;
     if (producing->state == PRODUCING_NEWS) {
@@ -199,7 +199,7 @@ static enum ds_fleet_word producing_answered(struct ds_fleet *fleet) {
     return DS_FLEET_INSTEP;
 }
 
-const struct round producing_round = {is_producing_due, ask_to_tell, producing_answered};
+const struct round producing_round = {is_producing_due, ask_round, producing_answered};
 
 void producing_cut(struct producing *producing) {
     producing->state = PRODUCING_NEWS;

@@ -5,7 +5,7 @@
  *   AWAY        | the pause is over, master found    | CALLED: opens both connections
  *   AWAY        | no master is found                 | AWAY: a longer pause
  *   CALLED      | a meeting answered, as it should   | MET
- *   CALLED      | .. by another server or history    | MET: everything is read, and then told what isn't there
+ *   CALLED      | .. by another server or history    | MET: everything is read, and the missing is sent
  *   CALLED      | .. with another scope              | AWAY: badscope
  *   CALLED      | .. by a cluster, keys on many nodes| AWAY: badname
  *   CALLED      | .. by a replica, others are listed | AWAY: denied
@@ -184,7 +184,7 @@ bool server_changed_history(struct server *server, const redisReply *replication
 }
 
 /* Notes which server this is. A server that wasn't met before, or has another history, may lack the last entries: the
- * bridge reads everything again, and then tells the missing lines. Returns whether this is such a server. */
+ * bridge reads everything again, and then sends the missing lines. Returns whether this is such a server. */
 static bool note_server(struct ds_fleet *fleet, const redisReply *info) {
     struct server *server = &fleet->server;
     char run[DS_FLEET_ID];
@@ -201,7 +201,7 @@ bool server_has_other_scope(const struct ds_fleet *fleet, const redisReply *scop
     return is_text(scope) && strcmp(scope->str, fleet->scope);
 }
 
-/* A snapshot from here would lack the lines outside this bridge's scope, so the bridge tells and compacts nothing. */
+/* A snapshot from here would lack the lines outside this bridge's scope, so the bridge sends and compacts nothing. */
 enum ds_fleet_word server_refuse_scope(struct ds_fleet *fleet, const redisReply *scope) {
     char why[DS_FLEET_SAID];
     snprintf(why, sizeof why, "the stream's scope is `%.100s`, and not `%.100s`", scope->str, fleet->scope);

@@ -34,7 +34,7 @@ static bool may_publish(struct rs *rs, const struct instance *instance, struct r
         {"label", DS_LABEL}, {"u32", DS_U32}, {"str", DS_STR}, {"mem", DS_MEM},
     };
     const char *name, *kind;
-    request_take(rest, &name);
+    request_take(rest, &name); /* passes over `new` or `over` */
     size_t length = request_take(rest, &name), kind_length = request_take(rest, &kind);
     for (size_t i = 0; i < sizeof kinds / sizeof *kinds; i++) {
         if (strlen(kinds[i].word) != kind_length || memcmp(kinds[i].word, kind, kind_length)) continue;

@@ -220,8 +220,8 @@ static bool ran_out(struct rs *rs, const struct ds_answer *answer) {
     return is_short;
 }
 
-/* Owes the notices of RS's actions, and notes which servers get one. */
-static void note_told(struct rs *rs, const uint8_t owed[16]) {
+/* Owes the notices of RS's actions, and logs which servers get one. */
+static void owe_notices(struct rs *rs, const uint8_t owed[16]) {
     for (size_t i = 0; i < rs->peers.count; i++) {
         struct peer *peer = rs->peers.peer[i];
         const struct instance *it = peer->instance; /* the label of a service that is gone may be freed */
@@ -235,7 +235,7 @@ static void act_on(struct rs *rs, const struct ds_answer *answer, enum cause cau
     size_t count = 0;
     while (count < ACTIONS && !ds_rs_action(&rs->store, count, &actions[count])) count++;
     for (size_t i = 0; i < count; i++) act(rs, &actions[i], cause);
-    note_told(rs, answer->owed);
+    owe_notices(rs, answer->owed);
 }
 
 /* What RS stops by `down` and `refresh` has a grace period. A start for which the file lacks the generation is reported again after the

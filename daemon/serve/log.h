@@ -35,7 +35,7 @@ bool log_read_format(void *as_json, char *word);
 void log_open(struct log *log, bool as_json);
 /* Writes one line, of a text `WORD: TEXT`. */
 void log_say(struct log *log, const char *level, const char *format, ...) __attribute__((format(printf, 3, 4)));
-/* Writes a line of a fleet, as its `tell`. */
+/* Writes a line of a fleet: a ds_fleet_tell. */
 void log_tell(void *log, const char *line);
 /* Writes a line of another program, of at most LOG_PASSED bytes without the newline, as `NAME: LINE`. These lines have no quota. Returns
  * false if standard error is full, and the line isn't written. A line that can't be written at all, as without a reader, is left out, and
