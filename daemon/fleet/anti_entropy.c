@@ -166,12 +166,12 @@ static bool lacks_probe(const struct anti_entropy *anti_entropy, const redisRepl
 
 /* A stream that lost something is read again, and the bridge sends what is missing: one of another history, one that
  * lacks a probe, one that ends before what was read, and one that has less than before. */
-static enum ds_fleet_word look_for_loss(struct ds_fleet *fleet, const struct stock *stock, bool has_less) {
+static enum ds_fleet_word look_for_loss(struct ds_fleet *fleet, const struct stock *stock, bool is_lost) {
     struct anti_entropy *anti_entropy = &fleet->anti_entropy;
     struct reading *reading = &fleet->reading;
     bool is_behind = !is_same_entry(reading->last, NO_ENTRY) && stock->newest.first > reading->last.first;
     fleet->state.behind = is_behind ? stock->newest.first - reading->last.first : 0;
-    if (has_less || is_above(anti_entropy->asked, stock->generated) || has_lost(&anti_entropy->stock, stock)) {
+    if (is_lost || is_above(anti_entropy->asked, stock->generated) || has_less(&anti_entropy->stock, stock)) {
         items_say(&fleet->items, "lost: the server no longer has what it had, which is told again");
         fleet->producing.owes_all = true;
         bridge_begin_anew(fleet, stock);
@@ -197,9 +197,9 @@ static enum ds_fleet_word look_at_stream(struct ds_fleet *fleet, struct redisRep
     enum ds_fleet_word word = bridge_look(fleet, looked, &stock);
     if (word != DS_FLEET_INSTEP) return word;
     if (is_error(looked[LOOKED_ENTRIES])) return server_denied(fleet, looked[LOOKED_ENTRIES]);
-    bool has_less = server_changed_history(&fleet->server, replication);
-    has_less |= lacks_probe(&fleet->anti_entropy, looked[LOOKED_ENTRIES], &stock);
-    word = look_for_loss(fleet, &stock, has_less);
+    bool is_lost = server_changed_history(&fleet->server, replication);
+    is_lost |= lacks_probe(&fleet->anti_entropy, looked[LOOKED_ENTRIES], &stock);
+    word = look_for_loss(fleet, &stock, is_lost);
     if (word != DS_FLEET_INSTEP) return word; /* the answers are gone with the connection */
     const redisReply *scope = looked[LOOK_SNAPSHOT]->element[LOOK_SCOPE];
     return server_has_other_scope(fleet, scope) ? server_refuse_scope(fleet, scope) : DS_FLEET_INSTEP;

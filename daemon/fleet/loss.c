@@ -22,7 +22,7 @@ struct stock look_answered(struct redisReply **looked) {
     return stock;
 }
 
-bool has_lost(const struct stock *before, const struct stock *now) {
+bool has_less(const struct stock *before, const struct stock *now) {
     if (is_above(before->snapshot, now->snapshot) || now->gone > before->gone || now->added < before->added) return true;
     return now->bytes < before->bytes && !is_above(now->snapshot, before->snapshot);
 }

@@ -26,7 +26,7 @@ void look_ask(struct link *link, const char *stream);
 struct stock look_answered(struct redisReply **looked);
 /* Whether a server has less than before: the snapshot is older or smaller, entries left the stream and aren't in it, or
  * fewer were ever added. */
-bool has_lost(const struct stock *before, const struct stock *now);
+bool has_less(const struct stock *before, const struct stock *now);
 
 /* Entries of one origin, as those that a bridge added. While the stream is the same one, each of them is in it, or in
  * the snapshot. A stream that was replaced since it was last looked at lacks `sure` or, where no entry was there then,

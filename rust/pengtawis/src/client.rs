@@ -124,7 +124,7 @@ fn refusal_of(rest: &str) -> ClientError {
     }
 }
 
-/// Returns the answer, or the refusal that its only line is.
+/// Returns the answer, or an error if its only line is a refusal, `badline` or `norequest`.
 fn judged(answer: String) -> Result<String, ClientError> {
     let line = answer.trim_end_matches('\n');
     if line.contains('\n') {

@@ -56,7 +56,7 @@ impl<'store, T: Asks> Shown<'store, T> {
         }
     }
 
-    /// Returns the subscriptions that are owed a notice by the answer, as by that to a line that changes something.
+    /// Returns the subscriptions that the answer owes a notice: none, unless a line changed something or subscribed.
     pub fn owed(&self) -> Owed {
         Owed(self.answer.owed)
     }
