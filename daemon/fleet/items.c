@@ -253,7 +253,7 @@ static void forget_refused(struct items *items) {
 }
 
 /* Merges the refused lines again. A new second store takes those that are refused again. */
-static enum ds_fleet_word offered_again(struct items *items, const struct text *lines) {
+static enum ds_fleet_word offer_again(struct items *items, const struct text *lines) {
     items->here = !items->here;
     items->has_dead_letters = false;
     forget_refused(items);
@@ -273,7 +273,7 @@ enum ds_fleet_word items_retry(struct items *items) {
     struct ds_handle *dead_letters = &items->dead_letters[items->here];
     enum ds_fleet_word word = ask_store(items, dead_letters, DS_SNAPSHOT, &answer);
     if (word == DS_FLEET_INSTEP) word = fetch_items(dead_letters, &answer, &lines);
-    if (word == DS_FLEET_INSTEP) word = offered_again(items, &lines);
+    if (word == DS_FLEET_INSTEP) word = offer_again(items, &lines);
     if (word == DS_FLEET_INSTEP) {
         items->news = false;
         items->tried = items->position;

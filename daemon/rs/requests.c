@@ -89,7 +89,7 @@ static bool answer_beat(struct rs *rs, struct peer *peer) {
 typedef uint32_t judge(struct ds_handle *, uint32_t generation, uint16_t slot, const char *label, size_t length);
 
 /* Returns NULL if a peer may deal with another instance, or the word by which that is refused. */
-static const char *barred(struct rs *rs, const struct peer *peer, const struct instance *other, judge *judge) {
+static const char *why_barred(struct rs *rs, const struct peer *peer, const struct instance *other, judge *judge) {
     const struct instance *from = peer->instance;
     if (!from) return "notallowed";
     if (!other) return "oldendpoint";
@@ -97,11 +97,11 @@ static const char *barred(struct rs *rs, const struct peer *peer, const struct i
     return from == other || judge(&rs->store, from->generation, from->slot, label, strlen(label)) ? "notallowed" : NULL;
 }
 
-/* `complain ENDPOINT`: an instance reports that an instance of a driver is wrong. A late complaint names an old endpoint, so no newer instance
- * is hit. */
+/* `complain ENDPOINT`: an instance reports that another one misbehaves. A late complaint names an old endpoint, so no newer instance is
+ * hit. */
 static bool answer_complaint(struct rs *rs, struct peer *peer, const struct request *it) {
     const struct instance *about = read_instance(rs, it);
-    const char *why = barred(rs, peer, about, ds_rs_may_complain);
+    const char *why = why_barred(rs, peer, about, ds_rs_may_complain);
     if (why) return refuse(peer, why);
     events_tell(&rs->events, LOG_WARN, "complaint: %s %s by %s", about->service->label, about->endpoint, peer->instance->service->label);
     struct ds_rs_event death = rs_of_instance(DS_RS_DEATH, about->generation, about->slot, CAUSE_COMPLAINT);
@@ -111,7 +111,7 @@ static bool answer_complaint(struct rs *rs, struct peer *peer, const struct requ
 /* `connect ENDPOINT`: both ends know by dsrs' word who has the other one, and no right to a file is needed. */
 static bool answer_connect(struct rs *rs, struct peer *peer, const struct request *it) {
     const struct instance *to = read_instance(rs, it);
-    const char *why = barred(rs, peer, to, ds_rs_may_connect);
+    const char *why = why_barred(rs, peer, to, ds_rs_may_connect);
     if (!why) why = peers_connect(&rs->peers, peer, to);
     return why ? refuse(peer, why) : text_print(&peer->wire.out, "connected %s\n", to->endpoint);
 }

@@ -91,7 +91,7 @@ class Commands(Handle):
         ...     store.rs_died("eth0").dropped, len(store)
         (1, 0)
         """
-        wrong.named("label", wrong.spelled("label", label))
+        wrong.check_name("label", wrong.spelled("label", label))
         under = self.snapshot(label.replace(".", r"\."), [Endpoint]).items
         held = next((it for it in under if isinstance(it, Change)), None)
         if held is None:
@@ -232,7 +232,7 @@ class Commands(Handle):
         try:
             return self._ask(self._calls, request, text, len(text))
         except ValueError as fault:
-            raise named(fault, request, text) from None
+            raise explained(fault, request, text) from None
 
     def _reading(self, command: Command, pattern: str, kinds: Iterable[type], **parts: Any) -> Reading:
         mask = mask_of(kinds)
@@ -292,12 +292,12 @@ def request_of(
             wrong.pair(what, it)
         numbers = (*cursor, text_at, length, command, at[0], *version, number, sub, most, at[1], slot)
         wrong.check(wrong.request_parts(command.word, command is Command.PUBLISH and kinds == 1), numbers)
-        wrong.named(wrong.NAMES.get(command.word, {}).get("name", "name"), spelled)
+        wrong.check_name(wrong.NAMES.get(command.word, {}).get("name", "name"), spelled)
         raise
 
 
-def named(fault: ValueError, request: bytes, text: bytes) -> ValueError:
-    """Returns the fault of a request. For a request without a command, the fault that names the argument."""
+def explained(fault: ValueError, request: bytes, text: bytes) -> ValueError:
+    """Returns the fault of a request: that of the argument which is wrong, if the request has no command."""
     if type(fault) is ValueError:
         try:
             wrong.check_request(REQUEST, request, Command(REQUEST.unpack(request)[4]).word, text)

@@ -45,7 +45,7 @@ class Map(Handle):
     def label(self, name: str) -> Endpoint:
         """Returns where the label is now. If it was deleted, or never taken, raises NotFound."""
         spelled = wrong.spelled("name", name)
-        wrong.named("name", spelled)
+        wrong.check_name("name", spelled)
         answer = self._ask("ds_map_label", spelled, len(spelled))
         return Endpoint(answer.value, answer.value_slot)
 
@@ -59,7 +59,7 @@ class Map(Handle):
         """
         name, kind = wrong.key(key)
         spelled = wrong.spelled("name", name)
-        wrong.named("name", spelled)
+        wrong.check_name("name", spelled)
         return cast(V, self._value(kind, spelled))
 
     def __iter__(self) -> Iterator[Entry]:

@@ -205,7 +205,7 @@ class Rs(Store):
         spelled = wrong.spelled("label", label)
         wrong.check(PARTS, (tick, kind, cause, *wrong.pair("endpoint", endpoint)))
         if kind < Kind.DEATH:
-            wrong.named("label", spelled)
+            wrong.check_name("label", spelled)
         answer = self._ask("ds_rs_event", EVENT.pack(tick, kind, cause, *endpoint, len(spelled), spelled))
         return Acted([self._action(at) for at in range(answer.count)], answer.subscriptions())
 

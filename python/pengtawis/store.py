@@ -7,7 +7,7 @@ from ctypes import byref, c_size_t
 from typing import FrozenSet, Iterable, Iterator, List, Optional, Tuple, Union, cast
 
 from . import wrong
-from .commands import Commands, Pair, done, named, publication, request_of
+from .commands import Commands, Pair, done, explained, publication, request_of
 from .library import PIECE, WANTING, WHOLE, Answer, Command, fault_of
 from .refusals import NoRoom
 from .values import Change, Done, Items, Value
@@ -79,7 +79,7 @@ class Store(Commands):
         self._leave()
         # One call answers all, since none of these answers has a text.
         self._call("ds_run", b"".join(requests), count, b"".join(texts), length, answers, count, byref(c_size_t()))
-        return [told(*it) for it in zip(answers, requests, texts)]
+        return [outcome(*it) for it in zip(answers, requests, texts)]
 
     def line(self, line: str) -> str:
         """Returns the answer to a line of a script, as dsctl prints it. A refusal is raised. BadLine: the line can't be read."""
@@ -108,7 +108,9 @@ class Store(Commands):
             room = given.count - text.tell()
 
 
-def told(answer: Answer, request: bytes, text: bytes) -> Union[Done, Exception]:
+def outcome(answer: Answer, request: bytes, text: bytes) -> Union[Done, Exception]:
     """Returns the answer to one publication of several, or why it was refused."""
     fault = fault_of(answer)
-    return done(answer) if fault is None else named(fault, request, text) if isinstance(fault, ValueError) else fault
+    if fault is None:
+        return done(answer)
+    return explained(fault, request, text) if isinstance(fault, ValueError) else fault

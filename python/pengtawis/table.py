@@ -60,7 +60,7 @@ class Table(Handle):
         """Assigns a unit to the driver with a label: a block or a character driver in a FileTable, a network driver in a NetworkTable."""
         spelled = wrong.spelled("label", label)
         wrong.check((UNIT,), (unit,))
-        wrong.named("label", spelled)
+        wrong.check_name("label", spelled)
         try:
             self._ask("ds_table_assign", unit, Class(service_class), spelled, len(spelled))
         except ValueError as fault:

@@ -65,7 +65,7 @@ def key(it: Any) -> Any:
     return it
 
 
-def named(name: str, text: bytes) -> None:
+def check_name(name: str, text: bytes) -> None:
     """Raises ValueError if the bytes aren't a name."""
     it = text.decode()
     if not IS_NAME.fullmatch(it):
@@ -78,7 +78,7 @@ def check_request(layout: struct.Struct, request: bytes, word: str, text: bytes)
     is_publication = word == "publish"
     check(request_parts(word, is_publication and kinds == 1), numbers)
     if word in ("publish", "delete", "sweep", "retrieve") or behind:
-        named(NAMES.get(word, {}).get("name", "name"), name[:length])
+        check_name(NAMES.get(word, {}).get("name", "name"), name[:length])
     if (word == "subscribe" or under) and not kinds:
         raise ValueError(f"`kinds` has at least one of {', '.join(it.__name__ for it in KINDS)}")
     if is_publication and kinds == 4 and not IS_STRING.fullmatch(text):

@@ -173,13 +173,13 @@ def fault(case, ran):
     if ran.status != case.status:
         return f"status {ran.status}, wanted {case.status}; standard error: {ran.error[-200:]!r}"
     if case.error is not None:
-        return untold(ran.error, case.error)
+        return error_fault(ran.error, case.error)
     if case.status > 1:
         return None if ran.error else f"standard error is empty at status {ran.status}"
     return unexplained(ran.output, ran.error)
 
 
-def untold(error, wanted):
+def error_fault(error, wanted):
     """Returns how standard error differs from what is wanted, or None. A wanted word with a line and a byte must be followed by a sentence
     about that place. A wanted word of status 3 comes alone."""
     word = WORD.fullmatch(wanted)
@@ -207,7 +207,7 @@ def unexplained(output, error, has_notes=False):
     return f"standard error is {error[:200]!r}, wanted a line for each of {wanted[:3]}"
 
 
-def named(ran, word, has_notes=False):
+def ends_with(ran, word, has_notes=False):
     """Returns whether a run ended with status 3 and the word, after the sentences about bad lines."""
     found = re.fullmatch(rb"(.*)" + re.escape(word), ran.error, re.DOTALL)
     if ran.status != 3 or not found:

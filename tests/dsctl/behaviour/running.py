@@ -27,7 +27,7 @@ def expect(ran, output, status, error=None):
         wrong = harness.unexplained(ran.output, ran.error)
         assert not wrong, wrong
     else:
-        wrong = harness.untold(ran.error, error)
+        wrong = harness.error_fault(ran.error, error)
         assert not wrong, wrong
 
 

@@ -192,7 +192,7 @@ def a_reader_that_does_not_wait(program):
     finally:
         os.close(reader)
         os.close(writer)
-    assert (ran.stdout, ran.returncode) == (b"", 3) and not harness.untold(ran.stderr, b"readfault\n"), f"{ran}"
+    assert (ran.stdout, ran.returncode) == (b"", 3) and not harness.error_fault(ran.stderr, b"readfault\n"), f"{ran}"
 
 
 def a_writer_that_does_not_wait(program):
@@ -204,4 +204,4 @@ def a_writer_that_does_not_wait(program):
     finally:
         os.close(reader)
         os.close(writer)
-    assert ran.returncode == 3 and not harness.untold(ran.stderr, b"writefault\n"), f"{ran}"
+    assert ran.returncode == 3 and not harness.error_fault(ran.stderr, b"writefault\n"), f"{ran}"
