@@ -168,9 +168,16 @@ static void watch_link(struct ds_fleet *fleet, struct link *link) {
     link->watched = wanted;
 }
 
-/* Arms the timer for the next time at which there is something to do by itself. */
-static void arm_timer(struct ds_fleet *fleet, enum ds_fleet_word word) {
+static void watch_links(struct ds_fleet *fleet) {
     struct server *server = &fleet->server;
+    watch_link(fleet, &server->producer);
+    watch_link(fleet, &server->consumer);
+    watch_link(fleet, &server->master.sentinel);
+}
+
+/* Returns when the next step is due though no descriptor is ready, within a PERIOD. `word`: the last step's. */
+static uint64_t next_step_at(const struct ds_fleet *fleet, enum ds_fleet_word word) {
+    const struct server *server = &fleet->server;
     uint64_t at = fleet->anti_entropy.due_at, soonest = SOON, time = clock_now();
     if (!server_is_connected(server)) {
         at = server->call_at;
@@ -180,13 +187,13 @@ static void arm_timer(struct ds_fleet *fleet, enum ds_fleet_word word) {
         soonest = 1;
     }
     if (at > time + PERIOD) at = time + PERIOD;
-    if (at <= time) at = time + soonest;
+    return at > time ? at : time + soonest;
+}
+
+static void arm_timer(struct ds_fleet *fleet, uint64_t at) {
     struct itimerspec set = {.it_value = {.tv_sec = (time_t)(at / SECOND), .tv_nsec = (long)(at % SECOND) * NANOSECONDS}};
     if (at != fleet->armed) timerfd_settime(fleet->timer, TFD_TIMER_ABSTIME, &set, NULL);
     fleet->armed = at;
-    watch_link(fleet, &server->producer);
-    watch_link(fleet, &server->consumer);
-    watch_link(fleet, &server->master.sentinel);
 }
 
 /* Something is known of where the master is: it may be called at once. */
@@ -238,7 +245,8 @@ enum ds_fleet_word ds_fleet_step(struct ds_fleet *fleet, unsigned patience) {
     for (;;) {
         if (gathered != DS_FLEET_INSTEP) gathered = gather(fleet);
         enum ds_fleet_word word = gathered == DS_FLEET_INSTEP ? turn_both(fleet, patience) : gathered;
-        arm_timer(fleet, word);
+        arm_timer(fleet, next_step_at(fleet, word));
+        watch_links(fleet);
         fleet->state.word = word;
         if (word == DS_FLEET_INSTEP) fleet->state.caught_up = true;
         uint64_t time = clock_now(), left = time < end ? end - time : 0;
@@ -315,7 +323,7 @@ static enum ds_fleet_word read_options(struct ds_fleet *fleet, const struct ds_f
     return fleet->stream ? read_scope(fleet, options->pattern, options->kinds) : DS_FLEET_NOROOM;
 }
 
-static bool is_watched(struct ds_fleet *fleet, int descriptor, void *source) {
+static bool add_to_poller(struct ds_fleet *fleet, int descriptor, void *source) {
     struct epoll_event event = {.events = EPOLLIN, .data = {.ptr = source}};
     return !epoll_ctl(fleet->poller, EPOLL_CTL_ADD, descriptor, &event);
 }
@@ -333,9 +341,10 @@ static enum ds_fleet_word make_poller(struct ds_fleet *fleet) {
     struct master *master = &fleet->server.master;
     fleet->poller = epoll_create1(EPOLL_CLOEXEC);
     fleet->timer = timerfd_create(CLOCK_MONOTONIC, TFD_NONBLOCK | TFD_CLOEXEC);
-    if (fleet->poller < 0 || fleet->timer < 0 || !is_watched(fleet, fleet->timer, &fleet->timer)) return DS_FLEET_SYSTEM;
-    if (!is_watched(fleet, master->wakeup, master)) return DS_FLEET_SYSTEM;
-    arm_timer(fleet, DS_FLEET_LATE);
+    if (fleet->poller < 0 || fleet->timer < 0 || !add_to_poller(fleet, fleet->timer, &fleet->timer)) return DS_FLEET_SYSTEM;
+    if (!add_to_poller(fleet, master->wakeup, master)) return DS_FLEET_SYSTEM;
+    arm_timer(fleet, next_step_at(fleet, DS_FLEET_LATE));
+    watch_links(fleet);
     return DS_FLEET_INSTEP;
 }
 

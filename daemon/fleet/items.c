@@ -179,8 +179,8 @@ uint64_t items_drop_acknowledged(struct items *items, size_t length, unsigned ma
 
 /* ---- refused lines ---- */
 
-/* A refusal of a key or an owner is logged once; of many keys, ITEMS_LOGGED at a time. */
-static bool is_news(struct items *items, const char *line, size_t length, uint32_t refusal) {
+/* Returns whether a refusal of a key or an owner is to be logged, which is once; of many keys, the last ITEMS_LOGGED are remembered. */
+static bool note_news(struct items *items, const char *line, size_t length, uint32_t refusal) {
     const char *space = memchr(line, ' ', length);
     const char *end = space ? memchr(space + 1, ' ', length - (size_t)(space + 1 - line)) : NULL;
     uint64_t hash = hashed(hash_seed + refusal, line, end ? (size_t)(end - line) : length);
@@ -193,7 +193,7 @@ static bool is_news(struct items *items, const char *line, size_t length, uint32
 
 /* entry: NULL if the refusal was logged before. */
 static void log_refusal(struct items *items, const char *entry, const char *line, size_t length, uint32_t refusal) {
-    if (!entry || !is_news(items, line, length, refusal)) return;
+    if (!entry || !note_news(items, line, length, refusal)) return;
     size_t shown = length && line[length - 1] == '\n' ? length - 1 : length;
     if (shown > SHOWN) shown = SHOWN;
     items_say(items, "%s: entry %s: %.*s", ds_fleet_refusal(refusal), entry, (int)shown, line);

@@ -246,8 +246,8 @@ static bool read_some(struct link *link, uint64_t now) {
     }
 }
 
-/* Whether answers have been missing for longer than the server may take. */
-static bool is_silent(struct link *link, uint64_t now) {
+/* Fails the link if answers have been missing for longer than the server may take. Returns whether it failed. */
+static bool fail_if_silent(struct link *link, uint64_t now) {
     uint64_t limit = link->blocks + LINK_SILENCE;
     bool is_late = link->begun && now > link->begun + limit + link->received / LINK_SLOWEST;
     if (now <= link->active_at + limit && !is_late) return false;
@@ -267,7 +267,7 @@ enum link_state link_turn(struct link *link, uint64_t now) {
     }
     if (!link->begun && !link->writes) link->begun = now;
     if (link->came == link->asked && !link->greetings) return LINK_ANSWERED;
-    if (!is_silent(link, now)) return LINK_WAITS;
+    if (!fail_if_silent(link, now)) return LINK_WAITS;
     link_close(link);
     return LINK_LOST;
 }

@@ -43,8 +43,8 @@ static int open_alone(const char *path) {
     return -1;
 }
 
-/* Makes the file anew if somebody removed the name. */
-static bool is_there(struct generations *generations) {
+/* Makes the file anew if somebody removed its name. Returns false, with errno, if that fails. */
+static bool ensure_file(struct generations *generations) {
     struct stat it;
     if (fstat(generations->file, &it)) return false;
     if (it.st_nlink) return true;
@@ -61,7 +61,7 @@ uint32_t generations_open(struct generations *generations, const char *path) {
 }
 
 bool generations_write(struct generations *generations, uint64_t next) {
-    return is_there(generations) && write_number(generations, next < MOST ? (uint32_t)next : MOST);
+    return ensure_file(generations) && write_number(generations, next < MOST ? (uint32_t)next : MOST);
 }
 
 void generations_close(struct generations *generations, uint32_t next) {

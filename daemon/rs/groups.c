@@ -110,9 +110,9 @@ static bool look(struct instances *all) {
     return is_done;
 }
 
-/* Whether nothing is in the cgroup of an instance, which is removed then. Processes that left the group have no grace period of their own.
- * Nobody reports their end, so the cgroup is looked at again. */
-static bool is_cgroup_gone(struct instances *all, const struct instance *it) {
+/* Removes the cgroup of an instance once nothing is in there. Returns false if something is. Processes that left the group have no grace
+ * period of their own. Nobody reports their end, so the cgroup is looked at again. */
+static bool remove_cgroup(struct instances *all, const struct instance *it) {
     if (it->cgroup < 0 || cgroups_remove(&all->cgroups, it->name)) return true;
     cgroups_kill(it->cgroup);
     instances_look_again(all, AGAIN);
@@ -125,6 +125,6 @@ enum ds_keeper_scan groups_scan(struct instances *all, struct instance *it) {
         all->is_fresh = true;
         if (!look(all)) instances_look_again(all, AGAIN);
     }
-    if (it->is_alone && is_cgroup_gone(all, it)) return DS_KEEPER_NOTHING;
+    if (it->is_alone && remove_cgroup(all, it)) return DS_KEEPER_NOTHING;
     return it->is_killed ? DS_KEEPER_DYING : DS_KEEPER_LIVING;
 }

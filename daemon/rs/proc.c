@@ -45,7 +45,7 @@ bool proc_look(pid_t pid, struct proc_seen *seen) {
 
 /* ---- children ---- */
 
-/* Of a kernel that lists no children. */
+/* Finds the children of dsrs among all processes, if the kernel lists no children. */
 static bool find_children(struct text *numbers) {
     DIR *folder = opendir("/proc");
     bool put = folder;

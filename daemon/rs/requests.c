@@ -56,8 +56,9 @@ static bool answer_change(struct rs *rs, struct peer *peer, const struct request
 
 /* ---- subscriptions ---- */
 
-/* A server among the services has eight subscriptions of its own. Each of the public's is leased to the first peer that uses the number. */
-static bool may_use(struct rs *rs, struct peer *peer, long sub) {
+/* Returns whether a peer may use a subscription. A server among the services has eight of its own; each of the public's is leased to the
+ * first peer that uses the number. */
+static bool claim_sub(struct rs *rs, struct peer *peer, long sub) {
     if (peer->instance) return peer->instance->service->server == sub / SERVER_SUBS;
     if (sub / SERVER_SUBS != PUBLIC_SERVER) return false;
     for (size_t i = 0; i < rs->peers.count; i++) {
@@ -71,7 +72,7 @@ static bool may_use(struct rs *rs, struct peer *peer, long sub) {
 static bool answer_subscription(struct rs *rs, struct peer *peer, const struct request *it) {
     struct request rest = *it;
     long sub = request_sub(&rest);
-    if (sub >= 0 && !may_use(rs, peer, sub)) return refuse(peer, "notallowed");
+    if (sub >= 0 && !claim_sub(rs, peer, sub)) return refuse(peer, "notallowed");
     if (!request_is(it, "listen")) return answer_store(rs, peer, it);
     if (sub < 0 || rest.left) return put_bad(peer, strlen("listen "));
     subs_add(peer->wire.listens, sub);

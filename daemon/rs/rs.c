@@ -253,7 +253,7 @@ static bool report(struct rs *rs, struct ds_rs_event *event, struct text *to, st
 }
 
 /* Reports an event that RS hasn't learnt. Returns false where memory ran out: the event is to be reported again. */
-static bool has_learnt(struct rs *rs, struct ds_rs_event *event) {
+static bool try_report(struct rs *rs, struct ds_rs_event *event) {
     struct ds_answer answer = {0};
     report(rs, event, NULL, &answer);
     return !ran_out(rs, &answer);
@@ -261,7 +261,7 @@ static bool has_learnt(struct rs *rs, struct ds_rs_event *event) {
 
 bool rs_tell(struct rs *rs, enum ds_rs_event_kind kind, const char *label) {
     struct ds_rs_event event = rs_of_label(kind, label, strlen(label));
-    return has_learnt(rs, &event);
+    return try_report(rs, &event);
 }
 
 bool rs_event(struct rs *rs, struct ds_rs_event *event, struct text *to) {
@@ -284,7 +284,7 @@ bool rs_report(struct rs *rs, struct instance *it) {
 bool rs_fail(struct rs *rs, struct instance *it) {
     struct ds_rs_event death = rs_of_instance(DS_RS_DEATH, it->generation, it->slot, CAUSE_EXIT);
     it->service->cause = CAUSE_EXIT;
-    if (!has_learnt(rs, &death)) return false;
+    if (!try_report(rs, &death)) return false;
     if (it->is_up) end_instance(rs, it);
     return true;
 }

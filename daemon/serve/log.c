@@ -54,8 +54,8 @@ static enum written write_line(const struct log *log, const char *line, size_t l
     return put < 0 && (errno == EAGAIN || errno == EINTR || errno == ENOBUFS) ? NO_ROOM : UNWRITABLE;
 }
 
-/* Whether an event may have one more line. */
-static bool is_due(struct log *log, const char *event, size_t length) {
+/* Takes a line from the quota of an event. Returns false if the quota is used up. */
+static bool take_quota(struct log *log, const char *event, size_t length) {
     uint64_t now = clock_now(), hash = 0;
     for (size_t i = 0; i < length; i++) hash = hash * 31 + (unsigned char)event[i];
     uint64_t *due = &log->due[hash % LOG_WORDS];
@@ -93,7 +93,7 @@ void log_say(struct log *log, const char *level, const char *format, ...) {
     size_t length = (size_t)snprintf(line, sizeof line, head, level, (int)event, text);
     length = append_quoted(log, line, length, text + rest, strlen(text + rest));
     length += (size_t)sprintf(line + length, log->as_json ? "}\n" : "\n");
-    if (!is_due(log, text, event) || write_line(log, line, length) != WRITTEN) log->left_out++;
+    if (!take_quota(log, text, event) || write_line(log, line, length) != WRITTEN) log->left_out++;
 }
 
 void log_tell(void *log, const char *line) {
