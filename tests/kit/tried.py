@@ -103,8 +103,8 @@ def by_age(name, rows):
 
 
 def stalest(names, most):
-    """Returns edits by crate, those that weren't tried for the longest time, as many as take `most` minutes; one in any case. Of crates
-    with edits of one date that comes first whose proof is the shortest, since each is proved once more before its edits are tried.
+    """Returns by crate the edits that weren't tried for the longest time, as many as `most` minutes are enough for, and at least one. Of
+    crates whose oldest edits have the same date, the one with the shortest proof comes first: a crate is proved before its edits are tried.
     """
     rows, chosen, left = read(), {}, most
     aged = {name: edits for name in names if (edits := by_age(name, rows))}

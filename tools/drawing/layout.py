@@ -80,12 +80,12 @@ class Layout:
 
     def leave_out(self):
         """Leaves out of the story what happens in rows that aren't shown, and deaths after the last row."""
-        told = self.story
-        told.strokes = [it for it in told.strokes if it.row in self.shown]
-        told.notes = [it for it in told.notes if it.row in self.shown]
-        told.breaks = [it for it in told.breaks if it[1] in self.shown]
-        told.lives = [it for it in told.lives if it.born[0] < self.end]
-        for life in told.lives:
+        drawn = self.story
+        drawn.strokes = [it for it in drawn.strokes if it.row in self.shown]
+        drawn.notes = [it for it in drawn.notes if it.row in self.shown]
+        drawn.breaks = [it for it in drawn.breaks if it[1] in self.shown]
+        drawn.lives = [it for it in drawn.lives if it.born[0] < self.end]
+        for life in drawn.lives:
             if life.died and life.died[0] >= self.end:
                 life.died = None
 
