@@ -1,2 +1,3 @@
 mod CountLemmas
 mod MoveLemmas
+pub mod CrossingLemmas

@@ -50,7 +50,8 @@ map_send =
     search (inside, sendable) depth 40
 
 -- ---- a server's table
-module _ (K V S T : RattleType) (e : eq.Ghosts K.Denot) (h : hash.Ghosts K.Denot) (b : builder.Ghosts S.Denot T.Denot) (w : hasher.Ghosts T.Denot) where
+module _ (K V S T : RattleType) (e : eq.Ghosts K.Denot) (h : hash.Ghosts K.Denot) (b : builder.Ghosts S.Denot T.Denot)
+    (w : hasher.Ghosts T.Denot) where
   columns_send : IsSend K → IsSend V → IsSend (Columns.the_field K V Heap.the_row ghosts).row
   columns_send sk sv = let a = Vec-send K sk in let b = Vec-send V sv in search sendable depth 20
 

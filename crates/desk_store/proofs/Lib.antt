@@ -19,3 +19,4 @@ mod WholeLemmas
 mod BothLemmas
 pub mod PartLemmas
 pub mod PairPassLemmas
+mod LedLemmas

@@ -1,10 +1,15 @@
 -- The effects of a refresh, from the pass p and the follower f to q and g.
-use Rattle.std.specs.Prelude.{◌≡◌, ◌⊎◌, ℕ, ◌<◌, ◌≤◌, List, [], ◌∷◌, ◌++◌, length, Option, Some, None}
+use Rattle.std.specs.Prelude.{◌≡◌, ◌≢◌, ◌⊎◌, ℕ, ◌<◌, ◌≤◌, List, [], ◌∷◌, ◌++◌, length, take, Option, Some, None}
 use Rattle.std.specs.List.{AllByRecursion}
 use Rattle.history.specs.declared.entry.Entry.{Entry}
+use Rattle.history.specs.History.{Path}
+use Rattle.ds_entry.specs.declared.item.Item.{Item}
 use Rattle.ds_pattern.specs.declared.query.Query.{Query}
 use Rattle.ds_machine.specs.declared.command.Command.{Command}
 use Rattle.ds_machine.specs.declared.reply.Reply.{Reply}
+use Rattle.ds_machine.specs.declared.reply.Reply.TheVariants.{Subscribed, Checked, Refused}
+use Rattle.ds_submap.specs.Map.{SubMapRecord, empty_map}
+use Rattle.ds_submap.specs.Take.{JoinsUnder}
 use Rattle.desk_store.specs.Following.{IsCurrent}
 use Rattle.desk_store.specs.Called.{HadAccepted, Made}
 use Rattle.desk_store.specs.Record.{AfterEach, HasLegalHistory, PassRecord, place_after}
@@ -65,6 +70,34 @@ Refreshes p q f g limit More = EndsMore p q f g limit
 -- Whether the map is unchanged, unless a call was accepted.
 abbrev pub KeepsMap : PassRecord → PassRecord → FollowerRecord → FollowerRecord → Type 0
 KeepsMap p q f g = (g.map ≡ f.map) ⊎ HadAccepted p q
+
+-- ---- the map, call by call
+
+-- Whether the map m takes the first of these items, as far as they are under its query, and is n then.
+abbrev pub TakesFirst : SubMapRecord → List Item → SubMapRecord → Type 0
+TakesFirst m items n = (count : ℕ) × JoinsUnder m.query m.held (take count items) n.held × (n.query ≡ m.query)
+
+-- Whether a call with this reply leads the follower from f to g. An accepted Subscribe empties the map. A Check brings items if it returned
+-- the follower's own stamp. If it returned another one, the follower is lost, and its map unchanged. A refused call changes nothing.
+abbrev pub LeadsFollower : FollowerRecord → Reply → FollowerRecord → Type 0
+LeadsFollower f (Subscribed stamp owed) g = (g.stamp ≡ Some stamp) × (g.map ≡ empty_map f.map.query)
+LeadsFollower f (Checked items before after) g =
+    ((f.stamp ≡ Some before) × (g.stamp ≡ Some after) × TakesFirst f.map items g.map)
+    ⊎ ((f.stamp ≢ Some before) × (g.stamp ≡ None) × (g.map ≡ f.map))
+LeadsFollower f (Refused refusal) g = g ≡ f
+LeadsFollower f _ g = ⊥
+
+-- Whether calls were made that lead the follower from f to g, in order.
+pub record CallsLead (p q : PassRecord) (f g : FollowerRecord) : Type 0 where
+  pub own : List (Entry Command Reply)
+  pub made : Made p q own
+  pub leads : Path (λ (f : FollowerRecord) (e : Entry Command Reply) (g : FollowerRecord). LeadsFollower f e.reply g) f own g
+
+-- Whether the map is that of a follower to which the calls lead, whatever stamp is kept after a fault.
+pub record MapIsLed (p q : PassRecord) (f g : FollowerRecord) : Type 0 where
+  pub last : FollowerRecord
+  pub calls : CallsLead p q f last
+  pub map : g.map ≡ last.map
 
 -- ---- call by call
 

@@ -4,7 +4,7 @@ ghost use Rattle.std.specs.Prelude.{◌≡◌, ◌≤◌, Err, IfOk, IfErr, OnOk
 ghost use Rattle.desk_store.specs.RefreshFaults.{IsRefreshFault};
 ghost use Rattle.desk_store.specs.Follower.{IsSameFollower};
 ghost use Rattle.desk_store.specs.KeepsUp.{KeepsUpWith};
-ghost use Rattle.desk_store.specs.Refresh.{KeepsMap, Refreshes, SeatCallsOnly};
+ghost use Rattle.desk_store.specs.Refresh.{KeepsMap, MapIsLed, Refreshes, SeatCallsOnly};
 
 use crate::calling::call_once;
 use crate::follower::Follower;
@@ -28,7 +28,7 @@ pub enum Fresh {
 ///
 /// Returns `UpTo(place)` if the map is what the store held under the query after all calls below `place`, which is above all that the pass
 /// had seen. Returns `More` after exactly `limit` calls without such an end. Refuses any other limit as BadLimit. After any other fault the
-/// follower is lost; if no call was accepted, its map is unchanged.
+/// follower is lost; if no call was accepted, its map is unchanged. Only an accepted Subscribe empties the map. A Check's items join it.
 pub fn refresh<S: StoreSeat>(
     seat: &mut S,
     alloc: Global,
@@ -42,6 +42,7 @@ pub fn refresh<S: StoreSeat>(
     ensures same { IsSameFollower follower.old follower.new }
     ensures fault { IfErr result (IsRefreshFault limit (S.seat seat.old).pass (S.seat seat.new).pass follower.old) }
     ensures kept { OnErr result (KeepsMap (S.seat seat.old).pass (S.seat seat.new).pass follower.old follower.new) }
+    ensures map { MapIsLed (S.seat seat.old).pass (S.seat seat.new).pass follower.old follower.new }
     ensures untouched { result ≡ Err RefreshFault.BadLimit → (seat.new ≡ seat.old) × (follower.new.map ≡ follower.old.map) }
     ensures lost { OnErr result (follower.new.stamp ≡ None) }
     ensures limit { OnOk result ((2 ≤ limit) × (limit ≤ 65536)) }

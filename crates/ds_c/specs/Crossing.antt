@@ -1,7 +1,15 @@
--- Whether the handles of a seat and of a desk may go to another thread.
+-- Which handles may go to another thread.
 use denote.Param.Send.{IsSend}
 use Rattle.ds_c.specs.contracts.desk_handle.DeskHandle as desk_handle
+use Rattle.ds_c.specs.contracts.handle.Handle as handle
+use Rattle.ds_c.specs.contracts.map_handle.MapHandle as map_handle
 use Rattle.ds_c.specs.contracts.seat_handle.SeatHandle as seat_handle
+use Rattle.ds_c.specs.contracts.table_handle.TableHandle as table_handle
 
-abbrev pub HandlesCross : Type 0
-HandlesCross = IsSend seat_handle.the_row × IsSend desk_handle.the_row
+-- Whether each handle may: of a store with its RS and keepers, a map, a table, a desk and a seat.
+pub record HandlesCross : Type 0 where
+  pub store : IsSend handle.the_row
+  pub map : IsSend map_handle.the_row
+  pub table : IsSend table_handle.the_row
+  pub desk : IsSend desk_handle.the_row
+  pub seat : IsSend seat_handle.the_row

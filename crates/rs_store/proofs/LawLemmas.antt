@@ -149,7 +149,8 @@ asks_act_not o c (Refused fault) old new h = absurd h
 one_goes : (n : ℕ) (command : RsCommand) (reply : RsReply) (old new : PairRecord) (rs : RsRecord) → old.services ≡ Some rs →
     RsTurn old command reply new → Goes n command rs reply new.services
 one_goes n (Ask c) reply old new rs e h =
-    (rs, h.1 ∙ e, refl, subst (λ (l : List (List Action)). RsRun rs l rs) (sym (asks_act_not old.services c reply old.store new.store h.0)) refl)
+    let none = asks_act_not old.services c reply old.store new.store h.0 in
+    (rs, h.1 ∙ e, refl, subst (λ (l : List (List Action)). RsRun rs l rs) (sym none) refl)
 one_goes n (Begin settings next first) reply old new rs e h =
     let begins = subst (λ (o : Option RsRecord). BeginTurn o settings next first reply new.services) e h.0 in
     subst (λ (r : RsReply). Goes n (Begin settings next first) rs r new.services) (sym begins.0) (rs, begins.1, refl, refl)

@@ -23,7 +23,7 @@ pub struct Map {
     handle: Handle,
 }
 
-// SAFETY: as a `Store`, a map belongs to no thread.
+// SAFETY: the handle of a map may go to another thread, by the law `handles_cross` of the crate ds_c.
 unsafe impl Send for Map {}
 
 impl Map {

@@ -25,7 +25,7 @@ pub struct Store {
     handle: Handle,
 }
 
-// SAFETY: a store belongs to no thread: its calls use no global and no thread's own data, and its memory is malloc's.
+// SAFETY: the handle of a store may go to another thread, by the law `handles_cross` of the crate ds_c.
 unsafe impl Send for Store {}
 
 impl Store {

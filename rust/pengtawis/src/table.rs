@@ -65,7 +65,7 @@ pub struct Table {
     handle: Handle,
 }
 
-// SAFETY: as a `Store`, a table belongs to no thread.
+// SAFETY: the handle of a table may go to another thread, by the law `handles_cross` of the crate ds_c.
 unsafe impl Send for Table {}
 
 impl Table {

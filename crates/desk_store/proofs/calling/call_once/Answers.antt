@@ -7,6 +7,7 @@ use Rattle.ds_machine.specs.declared.reply.Reply.TheVariants.{Checked, Subscribe
 use Rattle.ds_reader.specs.Asked.{subscribe_anew}
 use Rattle.desk_store.specs.Follower.{FollowerRecord, follower_of}
 use Rattle.desk_store.proofs.CheckLemmas.{map_ends, map_never_stops, map_stands, subscribe_stands}
+use Rattle.desk_store.proofs.LedLemmas.{led_other, led_subscribed, led_whole, map_failed, map_none, map_stopped}
 use Rattle.desk_store.proofs.OnlyLemmas.{only_none}
 use Rattle.desk_store.proofs.RoomLemmas.{fails_asking, fails_unasked, next_checks, next_subscribes}
 use Rattle.desk_store.proofs.calling.call_once.Goals as goal
@@ -98,3 +99,65 @@ returns-clause-keeps g c =
     c.take.new.self c.in-Some.stamp at.before at.after at.place at.items (Checked at.items at.before at.after)
     parts stamped c.requires c.in_ok-items.ensures.told refl c.if-before-stamp.false c.in_default-take.ensures.query
     c.in_default-take.ensures.joined
+
+-- the map after each call
+pub returns-in_err-query-clause-map : goal.returns-in_err-query-clause-map
+returns-in_err-query-clause-map g c =
+    let f = c.follower.inside in
+    map_none (g.S.StoreSeat.seat c.args.seat.now).pass c.args.follower.now f.map f.sub f.stamp
+    (ap (λ (x : FollowerRecord). x.map) c.follower.view_is)
+
+pub returns-in_err-told-clause-map : goal.returns-in_err-told-clause-map
+returns-in_err-told-clause-map g c =
+    let f = c.follower.inside in
+    map_failed (g.S.StoreSeat.seat c.args.seat.now).pass (g.S.StoreSeat.seat c.subscribe.new.self).pass c.args.follower.now
+    (follower_of f.sub f.stamp f.map) (subscribe_anew f.sub c.in_ok-query.query) c.in_err-told.field-0.0 c.in_err-told.ensures.fault
+    (ap (λ (x : FollowerRecord). x.map) c.follower.view_is)
+
+pub returns-in_err-items-clause-map : goal.returns-in_err-items-clause-map
+returns-in_err-items-clause-map g c =
+    let f = c.follower.inside in
+    map_failed (g.S.StoreSeat.seat c.args.seat.now).pass (g.S.StoreSeat.seat c.check.new.self).pass c.args.follower.now
+    (follower_of f.sub f.stamp f.map) (Check f.sub most_items) c.in_err-items.field-0.0 c.in_err-items.ensures.fault
+    (ap (λ (x : FollowerRecord). x.map) c.follower.view_is)
+
+pub returns-in_default-clause-leads : goal.returns-in_default-clause-leads
+returns-in_default-clause-leads g c =
+    let f = c.follower.inside in
+    let told = c.in_ok-told.ensures.told in
+    led_subscribed (g.S.StoreSeat.seat c.args.seat.now).pass (g.S.StoreSeat.seat c.subscribe.new.self).pass c.args.follower.now f.sub
+    f.stamp f.map (subscribe_anew f.sub c.in_ok-query.query) told.1 (sym c.follower.view_is) c.clear.new.self c.in_ok-told.told told.0
+    c.clear.ensures told.2
+
+pub returns-then-before-stamp-clause-leads : goal.returns-then-before-stamp-clause-leads
+returns-then-before-stamp-clause-leads g c =
+    let f = c.follower.inside in
+    let at = c.in_ok-items.field-0 in
+    led_other (g.S.StoreSeat.seat c.args.seat.now).pass (g.S.StoreSeat.seat c.check.new.self).pass c.args.follower.now f.sub f.stamp
+    f.map (Check f.sub most_items) at.place (sym c.follower.view_is) at.items c.in-Some.stamp at.before at.after c.in-Some.is
+    c.in_ok-items.ensures.told c.if-before-stamp.true
+
+pub returns-in-Err-clause-map : goal.returns-in-Err-clause-map
+returns-in-Err-clause-map g c =
+    let f = c.follower.inside in
+    let at = c.in_ok-items.field-0 in
+    map_stopped (g.S.StoreSeat.seat c.args.seat.now).pass (g.S.StoreSeat.seat c.check.new.self).pass c.args.follower.now f.sub f.stamp
+    f.map (Check f.sub most_items) at.place (sym c.follower.view_is) at.items c.in-Some.stamp at.before at.after c.in-Some.is
+    c.in_ok-items.ensures.told c.if-before-stamp.false (follower_of f.sub f.stamp c.take.new.self) c.take.new.self c.in-Err.stop.done
+    c.in-Err.ensures.joined c.in-Err.ensures.query refl
+
+pub returns-then-len-lt-MOST_ITEMS-clause-leads : goal.returns-then-len-lt-MOST_ITEMS-clause-leads
+returns-then-len-lt-MOST_ITEMS-clause-leads g c =
+    let f = c.follower.inside in
+    let at = c.in_ok-items.field-0 in
+    led_whole (g.S.StoreSeat.seat c.args.seat.now).pass (g.S.StoreSeat.seat c.check.new.self).pass c.args.follower.now f.sub f.stamp
+    f.map (Check f.sub most_items) at.place (sym c.follower.view_is) at.items c.in-Some.stamp at.before at.after c.in-Some.is
+    c.in_ok-items.ensures.told c.if-before-stamp.false c.take.new.self c.in_default-take.ensures.joined c.in_default-take.ensures.query
+
+pub returns-clause-leads : goal.returns-clause-leads
+returns-clause-leads g c =
+    let f = c.follower.inside in
+    let at = c.in_ok-items.field-0 in
+    led_whole (g.S.StoreSeat.seat c.args.seat.now).pass (g.S.StoreSeat.seat c.check.new.self).pass c.args.follower.now f.sub f.stamp
+    f.map (Check f.sub most_items) at.place (sym c.follower.view_is) at.items c.in-Some.stamp at.before at.after c.in-Some.is
+    c.in_ok-items.ensures.told c.if-before-stamp.false c.take.new.self c.in_default-take.ensures.joined c.in_default-take.ensures.query

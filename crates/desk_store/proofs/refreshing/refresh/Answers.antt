@@ -4,6 +4,7 @@ use Rattle.desk_store.specs.Called.{HadAccepted}
 use Rattle.desk_store.specs.Follower.{FollowerRecord}
 use Rattle.desk_store.specs.Refresh.{TakesOneCall}
 use Rattle.desk_store.proofs.GoneLemmas.{goes_on_accepted, gone_ends, gone_none, gone_on, map_kept}
+use Rattle.desk_store.proofs.LedLemmas.{led_more, led_none, map_more}
 use Rattle.desk_store.proofs.OnlyLemmas.{only_gone, only_more, only_none}
 use Rattle.desk_store.proofs.RoomLemmas.{fails_refreshing}
 use Rattle.desk_store.proofs.refreshing.refresh.Goals as goal
@@ -12,7 +13,42 @@ pub returns-then-limit-lt2-clause-only : goal.returns-then-limit-lt2-clause-only
 returns-then-limit-lt2-clause-only g c = (refl, only_none (g.S.StoreSeat.seat c.args.seat.now).pass c.args.follower.now c.args.limit)
 
 pub loop-made-init : goal.loop-made-init
-loop-made-init g c = (refl, gone_none (g.S.StoreSeat.seat c.args.seat.now).pass c.args.follower.now c.requires.keeps, inl refl)
+loop-made-init g c = (
+  refl,
+  gone_none (g.S.StoreSeat.seat c.args.seat.now).pass c.args.follower.now c.requires.keeps,
+  inl refl,
+  led_none (g.S.StoreSeat.seat c.args.seat.now).pass c.args.follower.now,
+)
+
+pub returns-then-limit-lt2-clause-map : goal.returns-then-limit-lt2-clause-map
+returns-then-limit-lt2-clause-map g c = record {
+  last = c.args.follower.now;
+  calls = led_none (g.S.StoreSeat.seat c.args.seat.now).pass c.args.follower.now;
+  map = ap (λ (x : FollowerRecord). x.map) c.lose.ensures;
+}
+
+pub returns-in-Ok-Some-clause-map : goal.returns-in-Ok-Some-clause-map
+returns-in-Ok-Some-clause-map g c =
+    let l = c.loop-made in record {
+      last = c.call_once.new.follower;
+      calls = led_more (g.S.StoreSeat.seat c.args.seat.now).pass (g.S.StoreSeat.seat l.seat).pass
+          (g.S.StoreSeat.seat c.call_once.new.seat).pass c.args.follower.now l.follower c.call_once.new.follower l.invariant.3
+          c.in-Ok-Some.ensures.leads;
+      map = refl;
+    }
+
+pub returns-in-Err-clause-map : goal.returns-in-Err-clause-map
+returns-in-Err-clause-map g c =
+    let l = c.loop-made in
+    let led = map_more (g.S.StoreSeat.seat c.args.seat.now).pass (g.S.StoreSeat.seat l.seat).pass
+    (g.S.StoreSeat.seat c.call_once.new.seat).pass c.args.follower.now l.follower c.call_once.new.follower l.invariant.3
+    c.in-Err.ensures.map in
+    record { last = led.last; calls = led.calls; map = ap (λ (x : FollowerRecord). x.map) c.lose-in-Err.ensures ∙ led.map }
+
+pub returns-clause-map : goal.returns-clause-map
+returns-clause-map g c =
+    let l = c.loop-made in
+    record { last = l.follower; calls = l.invariant.3; map = refl }
 
 pub returns-in-Ok-Some-clause-only : goal.returns-in-Ok-Some-clause-only
 returns-in-Ok-Some-clause-only g c =
@@ -73,6 +109,8 @@ loop-made-preserved g c =
           c.args.follower.now l.follower c.call_once.new.follower l._made l.invariant.1 e.same on e.keeps,
       inr (goes_on_accepted (g.S.StoreSeat.seat c.args.seat.now).pass (g.S.StoreSeat.seat l.seat).pass
           (g.S.StoreSeat.seat c.call_once.new.seat).pass c.args.follower.now l.follower c.call_once.new.follower l._made l.invariant.1 on),
+      led_more (g.S.StoreSeat.seat c.args.seat.now).pass (g.S.StoreSeat.seat l.seat).pass (g.S.StoreSeat.seat c.call_once.new.seat).pass
+          c.args.follower.now l.follower c.call_once.new.follower l.invariant.3 e.leads,
     )
 
 pub returns-clause-only : goal.returns-clause-only
