@@ -15,22 +15,22 @@ use Rattle.desk_store.specs.CallFaults.{FailsAsking}
 use Rattle.desk_store.specs.Record.{PassRecord}
 use Rattle.desk_store.specs.declared.call_fault.CallFault.{CallFault}
 use Rattle.desk_store.specs.Follower.{FollowerRecord, follower_of}
-use Rattle.desk_store.specs.Refresh.{CallsLead, LeadsFollower, MapIsLed, TakesFirst}
+use Rattle.desk_store.specs.Refresh.{FollowerIsLed, LeadsFollower, MapIsLed, TakesFirst}
 use Rattle.desk_store.proofs.RecordLemmas.{made_more, made_none}
 
 abbrev leads_on : FollowerRecord → Entry Command Reply → FollowerRecord → Type 0
 leads_on f e g = LeadsFollower f e.reply g
 
 -- ---- calls in order
-pub led_none : (p : PassRecord) (f : FollowerRecord) → CallsLead p p f f
+pub led_none : (p : PassRecord) (f : FollowerRecord) → FollowerIsLed p p f f
 led_none p f = record { own = []; made = made_none p; leads = refl }
 
 led_one : (p q : PassRecord) (f g : FollowerRecord) (command : Command) (reply : Reply) →
-    Made p q (entry p.origin.number command reply ∷ []) → LeadsFollower f reply g → CallsLead p q f g
+    Made p q (entry p.origin.number command reply ∷ []) → LeadsFollower f reply g → FollowerIsLed p q f g
 led_one p q f g command reply made leads =
     record { own = entry p.origin.number command reply ∷ []; made = made; leads = (g, leads, refl) }
 
-pub led_more : (p q r : PassRecord) (f g h : FollowerRecord) → CallsLead p q f g → CallsLead q r g h → CallsLead p r f h
+pub led_more : (p q r : PassRecord) (f g h : FollowerRecord) → FollowerIsLed p q f g → FollowerIsLed q r g h → FollowerIsLed p r f h
 led_more p q r f g h a b = record {
   own = a.own ++ b.own;
   made = made_more p q r a.own b.own a.made b.made;
@@ -49,14 +49,14 @@ map_failed p q f g command fault (inl (worn, found, is)) same =
 map_failed p q f g command fault (inr (refusal, place, called, tells)) same =
     record { last = f; calls = led_one p q f f command (Refused refusal) called.made refl; map = same }
 
-pub map_more : (p q r : PassRecord) (f g h : FollowerRecord) → CallsLead p q f g → MapIsLed q r g h → MapIsLed p r f h
+pub map_more : (p q r : PassRecord) (f g h : FollowerRecord) → FollowerIsLed p q f g → MapIsLed q r g h → MapIsLed p r f h
 map_more p q r f g h a b = record { last = b.last; calls = led_more p q r f g b.last a b.calls; map = b.map }
 
 -- ---- each call of a follower with these parts
 module _ (p q : PassRecord) (f : FollowerRecord) (sub : ℕ) (stamp : Option ℕ) (map : SubMapRecord) (command : Command) (place : ℕ)
     (parts : f ≡ follower_of sub stamp map) where
   pub led_subscribed : (new : SubMapRecord) (told owed : ℕ) → new ≡ empty_map map.query →
-      MadeCall p q command (Subscribed told owed) place → CallsLead p q f (follower_of sub (Some told) new)
+      MadeCall p q command (Subscribed told owed) place → FollowerIsLed p q f (follower_of sub (Some told) new)
   led_subscribed new told owed empty called =
       led_one p q f (follower_of sub (Some told) new) command (Subscribed told owed) called.made
       (refl, subst (λ (x : FollowerRecord). new ≡ empty_map x.map.query) (sym parts) empty)
@@ -66,7 +66,7 @@ module _ (p q : PassRecord) (f : FollowerRecord) (sub : ℕ) (stamp : Option ℕ
     stamp_is : f.stamp ≡ Some last
     stamp_is = ap (λ (x : FollowerRecord). x.stamp) parts ∙ stamped
 
-    pub led_other : before ≢ last → CallsLead p q f (follower_of sub None map)
+    pub led_other : before ≢ last → FollowerIsLed p q f (follower_of sub None map)
     led_other differs = led_one p q f (follower_of sub None map) command (Checked items before after) called.made
         (inr (other, refl, ap (λ (x : FollowerRecord). x.map) (sym parts)))
       where
@@ -74,7 +74,7 @@ module _ (p q : PassRecord) (f : FollowerRecord) (sub : ℕ) (stamp : Option ℕ
         other e = let q : Some before ≡ Some last = sym e ∙ stamp_is in differs (cc)
 
     pub led_checked : before ≡ last → (new : SubMapRecord) (count : ℕ) → JoinsUnder map.query map.held (take count items) new.held →
-        new.query ≡ map.query → CallsLead p q f (follower_of sub (Some after) new)
+        new.query ≡ map.query → FollowerIsLed p q f (follower_of sub (Some after) new)
     led_checked own new count joined query =
         led_one p q f (follower_of sub (Some after) new) command (Checked items before after) called.made
         (inl (stamp_is ∙ ap (λ (s : ℕ). Some s) (sym own), refl, takes))
@@ -83,7 +83,7 @@ module _ (p q : PassRecord) (f : FollowerRecord) (sub : ℕ) (stamp : Option ℕ
         takes = subst (λ (x : FollowerRecord). TakesFirst x.map items new) (sym parts) (count, joined, query)
 
     pub led_whole : before ≡ last → (new : SubMapRecord) → JoinsUnder map.query map.held items new.held → new.query ≡ map.query →
-        CallsLead p q f (follower_of sub (Some after) new)
+        FollowerIsLed p q f (follower_of sub (Some after) new)
     led_whole own new joined query = led_checked own new (length items)
         (subst (λ (l : List Item). JoinsUnder map.query map.held l new.held) (sym (take-length items)) joined) query
 

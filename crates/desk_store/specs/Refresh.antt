@@ -88,7 +88,7 @@ LeadsFollower f (Refused refusal) g = g ≡ f
 LeadsFollower f _ g = ⊥
 
 -- Whether calls were made that lead the follower from f to g, in order.
-pub record CallsLead (p q : PassRecord) (f g : FollowerRecord) : Type 0 where
+pub record FollowerIsLed (p q : PassRecord) (f g : FollowerRecord) : Type 0 where
   pub own : List (Entry Command Reply)
   pub made : Made p q own
   pub leads : Path (λ (f : FollowerRecord) (e : Entry Command Reply) (g : FollowerRecord). LeadsFollower f e.reply g) f own g
@@ -96,7 +96,7 @@ pub record CallsLead (p q : PassRecord) (f g : FollowerRecord) : Type 0 where
 -- Whether the map is that of a follower to which the calls lead, whatever stamp is kept after a fault.
 pub record MapIsLed (p q : PassRecord) (f g : FollowerRecord) : Type 0 where
   pub last : FollowerRecord
-  pub calls : CallsLead p q f last
+  pub calls : FollowerIsLed p q f last
   pub map : g.map ≡ last.map
 
 -- ---- call by call

@@ -4,7 +4,7 @@ ghost use Rattle.std.specs.Prelude.{◌≡◌, IfOk, IfErr, OnOk, OnErr};
 ghost use Rattle.desk_store.specs.RefreshFaults.{FailsOnce};
 ghost use Rattle.desk_store.specs.Follower.{IsSameFollower};
 ghost use Rattle.desk_store.specs.KeepsUp.{KeepsUpWith};
-ghost use Rattle.desk_store.specs.Refresh.{CallsLead, KeepsMap, MapIsLed, SeatCallsOnly, TakesOneCall};
+ghost use Rattle.desk_store.specs.Refresh.{FollowerIsLed, KeepsMap, MapIsLed, SeatCallsOnly, TakesOneCall};
 
 use crate::call_fault::CallFault;
 use crate::follower::Follower;
@@ -29,7 +29,7 @@ pub(crate) fn call_once<S: StoreSeat>(
     ensures keeps { OnOk result (KeepsUpWith (S.seat seat.new).pass follower.new) }
     ensures same { IsSameFollower follower.old follower.new }
     ensures kept { OnErr result (KeepsMap (S.seat seat.old).pass (S.seat seat.new).pass follower.old follower.new) }
-    ensures leads { OnOk result (CallsLead (S.seat seat.old).pass (S.seat seat.new).pass follower.old follower.new) }
+    ensures leads { OnOk result (FollowerIsLed (S.seat seat.old).pass (S.seat seat.new).pass follower.old follower.new) }
     ensures map { OnErr result (MapIsLed (S.seat seat.old).pass (S.seat seat.new).pass follower.old follower.new) }
     ensures fault { IfErr result (FailsOnce (S.seat seat.old).pass (S.seat seat.new).pass follower.old) }
 {

@@ -43,7 +43,7 @@ use Rattle.rs_store.specs.Pair.{PairRecord}
 use Rattle.rs_store.specs.Serving.{ClientTurn, BeginTurn, BeginsFirst, EventTurn, RsServes, TurnFor, TurnsFor, before_beginning}
 use Rattle.rs_store.specs.Turns.{RsTurn}
 use Rattle.rs_store.specs.Laws.{entry_if, entries_for, entries_by, store_entries, StoreTurnsRun, actions_in, actions_by, RsTurnsRun}
-use Rattle.rs_store.specs.Laws.{events_in, events_by, RsAnswers, HistoriesKeepLabels, RsAloneIsRs, StandAlike, PairsSettle}
+use Rattle.rs_store.specs.Laws.{events_in, events_by, RsEventStep, HistoriesKeepLabels, RsAloneIsRs, StandAlike, PairsSettle}
 
 -- ---- the store's part
 
@@ -120,7 +120,7 @@ store_turns_run (e ∷ es) old new run =
 -- ---- RS's part
 
 abbrev Goes : ℕ → RsCommand → RsRecord → RsReply → Option RsRecord → Type 0
-Goes n command rs reply after = (t : RsRecord) × (after ≡ Some t) × Run RsAnswers rs (events_in n command reply) t
+Goes n command rs reply after = (t : RsRecord) × (after ≡ Some t) × Run RsEventStep rs (events_in n command reply) t
     × RsRun rs (actions_in reply) t
 
 served : (n : ℕ) (event : Event) (tick : ℕ) (rs : RsRecord) (reply : RsReply) (old : ContentRecord) (after : Option RsRecord)
@@ -168,7 +168,7 @@ rs_turns_run (x ∷ es) old new rs e run =
       more.1,
       record {
         events =
-            run_join RsAnswers rs one.0 more.0 (events_in x.pass x.command x.reply) (events_by es) one.2 more.2.events;
+            run_join RsEventStep rs one.0 more.0 (events_in x.pass x.command x.reply) (events_by es) one.2 more.2.events;
         actions = path_join RsActs rs one.0 more.0 (actions_in x.reply) (actions_by es) one.3 more.2.actions;
       },
     )

@@ -74,14 +74,14 @@ events_by es = flat_map (λ (e : Entry RsCommand RsReply). events_in e.pass e.co
 
 -- The effect of an event on RS alone. The actions are those of RS's step at this event and tick, and the reply has the service that RS
 -- gave up; or RS refuses the event for this fault, and is unchanged.
-abbrev pub RsAnswers : RsRecord → RsCommand → RsReply → RsRecord → Type 0
-RsAnswers rs (Tell event tick) (Acted actions replies given) new = RsStep rs event tick actions new × (given ≡ given_up rs event tick)
-RsAnswers rs (Tell event tick) (Refused fault) new = RsRefuses rs event tick fault × (new ≡ rs)
-RsAnswers rs _ _ new = ⊥
+abbrev pub RsEventStep : RsRecord → RsCommand → RsReply → RsRecord → Type 0
+RsEventStep rs (Tell event tick) (Acted actions replies given) new = RsStep rs event tick actions new × (given ≡ given_up rs event tick)
+RsEventStep rs (Tell event tick) (Refused fault) new = RsRefuses rs event tick fault × (new ≡ rs)
+RsEventStep rs _ _ new = ⊥
 
 -- Whether RS's part of a history leads from one state of RS to another: its events, and its actions.
 pub record RsRunsBy (es : List (Entry RsCommand RsReply)) (rs new : RsRecord) : Type 0 where
-  pub events : Run RsAnswers rs (events_by es) new
+  pub events : Run RsEventStep rs (events_by es) new
   pub actions : RsRun rs (actions_by es) new
 
 -- A law: once RS has begun, its part of a history is a run of RS over exactly the events of the history.

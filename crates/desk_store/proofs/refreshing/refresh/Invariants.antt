@@ -1,5 +1,5 @@
 use Rattle.desk_store.specs.Seat.{IsSameSeat}
-use Rattle.desk_store.specs.Refresh.{CallsLead, HasGone, KeepsMap}
+use Rattle.desk_store.specs.Refresh.{FollowerIsLed, HasGone, KeepsMap}
 use Rattle.desk_store.proofs.refreshing.refresh.Given as goal
 
 -- this number of calls was made, none ended the refresh, and they lead the follower
@@ -8,4 +8,4 @@ invariant-loop-made g l =
     let s = g.S.StoreSeat.seat in
     IsSameSeat (s l.fn.seat) (s l.seat) × HasGone (s l.fn.seat).pass (s l.seat).pass l.fn.follower l.follower l._made
     × KeepsMap (s l.fn.seat).pass (s l.seat).pass l.fn.follower l.follower
-    × CallsLead (s l.fn.seat).pass (s l.seat).pass l.fn.follower l.follower
+    × FollowerIsLed (s l.fn.seat).pass (s l.seat).pass l.fn.follower l.follower
