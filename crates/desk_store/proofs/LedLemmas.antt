@@ -38,16 +38,15 @@ led_more p q r f g h a b = record {
 }
 
 -- ---- the map after a call that failed
-pub map_none : (p : PassRecord) (f : FollowerRecord) (map : SubMapRecord) (sub : ℕ) (stamp : Option ℕ) → map ≡ f.map →
-    MapIsLed p p f (follower_of sub stamp map)
-map_none p f map sub stamp same = record { last = f; calls = led_none p f; map = same }
+pub map_none : (p : PassRecord) (f : FollowerRecord) → MapIsLed p p f f
+map_none p f = record { last = f; calls = led_none p f; map = refl }
 
-pub map_failed : (p q : PassRecord) (f g : FollowerRecord) (command : Command) (fault : CallFault) → FailsAsking p q command fault →
-    g.map ≡ f.map → MapIsLed p q f g
-map_failed p q f g command fault (inl (worn, found, is)) same =
-    record { last = f; calls = record { own = []; made = found.made; leads = refl }; map = same }
-map_failed p q f g command fault (inr (refusal, place, called, tells)) same =
-    record { last = f; calls = led_one p q f f command (Refused refusal) called.made refl; map = same }
+pub map_failed : (p q : PassRecord) (f : FollowerRecord) (command : Command) (fault : CallFault) → FailsAsking p q command fault →
+    MapIsLed p q f f
+map_failed p q f command fault (inl (fall, found, is)) =
+    record { last = f; calls = record { own = []; made = found.made; leads = refl }; map = refl }
+map_failed p q f command fault (inr (refusal, place, called, tells)) =
+    record { last = f; calls = led_one p q f f command (Refused refusal) called.made refl; map = refl }
 
 pub map_more : (p q r : PassRecord) (f g h : FollowerRecord) → FollowerIsLed p q f g → MapIsLed q r g h → MapIsLed p r f h
 map_more p q r f g h a b = record { last = b.last; calls = led_more p q r f g b.last a b.calls; map = b.map }

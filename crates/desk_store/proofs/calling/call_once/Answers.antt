@@ -103,23 +103,22 @@ returns-clause-keeps g c =
 -- the map after each call
 pub returns-in_err-query-clause-map : goal.returns-in_err-query-clause-map
 returns-in_err-query-clause-map g c =
-    let f = c.follower.inside in
-    map_none (g.S.StoreSeat.seat c.args.seat.now).pass c.args.follower.now f.map f.sub f.stamp
-    (ap (λ (x : FollowerRecord). x.map) c.follower.view_is)
+    let exit = err_from_is_err_and c.from_residual.result c.from_residual.ensures.1 in
+    rw exit.1 (map_none (g.S.StoreSeat.seat c.args.seat.now).pass c.args.follower.now)
 
 pub returns-in_err-told-clause-map : goal.returns-in_err-told-clause-map
 returns-in_err-told-clause-map g c =
-    let f = c.follower.inside in
-    map_failed (g.S.StoreSeat.seat c.args.seat.now).pass (g.S.StoreSeat.seat c.subscribe.new.self).pass c.args.follower.now
-    (follower_of f.sub f.stamp f.map) (subscribe_anew f.sub c.in_ok-query.query) c.in_err-told.field-0.0 c.in_err-told.ensures.fault
-    (ap (λ (x : FollowerRecord). x.map) c.follower.view_is)
+    let exit = err_from_is_err_and c.from_residual-in_err-told.result c.from_residual-in_err-told.ensures.1 in
+    rw exit.1
+    (map_failed (g.S.StoreSeat.seat c.args.seat.now).pass (g.S.StoreSeat.seat c.subscribe.new.self).pass c.args.follower.now
+    (subscribe_anew c.follower.inside.sub c.in_ok-query.query) c.in_err-told.field-0.0 c.in_err-told.ensures.fault)
 
 pub returns-in_err-items-clause-map : goal.returns-in_err-items-clause-map
 returns-in_err-items-clause-map g c =
-    let f = c.follower.inside in
-    map_failed (g.S.StoreSeat.seat c.args.seat.now).pass (g.S.StoreSeat.seat c.check.new.self).pass c.args.follower.now
-    (follower_of f.sub f.stamp f.map) (Check f.sub most_items) c.in_err-items.field-0.0 c.in_err-items.ensures.fault
-    (ap (λ (x : FollowerRecord). x.map) c.follower.view_is)
+    let exit = err_from_is_err_and c.from_residual-in_err-items.result c.from_residual-in_err-items.ensures.1 in
+    rw exit.1
+    (map_failed (g.S.StoreSeat.seat c.args.seat.now).pass (g.S.StoreSeat.seat c.check.new.self).pass c.args.follower.now
+    (Check c.follower.inside.sub most_items) c.in_err-items.field-0.0 c.in_err-items.ensures.fault)
 
 pub returns-in_default-clause-leads : goal.returns-in_default-clause-leads
 returns-in_default-clause-leads g c =
