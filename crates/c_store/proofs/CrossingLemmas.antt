@@ -1,4 +1,4 @@
--- A session, a subscriber's map and a server's table may go to another thread: RS's store may, and the rest is plain data, lists and maps.
+-- A subscriber's map and a server's table may go to another thread: they are plain data, lists and maps.
 use denote.RattleType.{RattleType}
 use denote.Param.Send.{IsSend, sendable}
 use denote.Param.SendFields.{declared_send}
@@ -34,13 +34,10 @@ use Rattle.driver_tables.specs.contracts.net_table.NetTable as NetTable
 use Rattle.driver_tables.specs.contracts.net_table.NetTable.TheInside as in_net
 use Rattle.driver_tables.specs.contracts.moves.Moves as Moves
 use Rattle.driver_tables.proofs.moves.Move.TheSendSync as move
-use Rattle.rs_store.proofs.CrossingLemmas.{pair_send}
 use Rattle.c_store.specs.contracts.drivers.Tables as Tables
 use Rattle.c_store.specs.contracts.moves.LastMoves as LastMoves
 use Rattle.c_store.specs.contracts.moves.LastMoves.TheInside as in_moves
 use Rattle.c_store.specs.contracts.server_table.ServerTable as ServerTable
-use Rattle.c_store.specs.contracts.last.Last as Last
-use Rattle.c_store.specs.contracts.session.Session as Session
 
 -- ---- a subscriber's map
 pub map_send : IsSend SubMap.the_row
@@ -107,13 +104,6 @@ pub table_send : IsSend ServerTable.the_row
 table_send = declared_send ServerTable.the_type
     (search (tables_send, sendable) depth 40, (search (last_moves_send, sendable) depth 40, tt))
 
--- ---- a session
+-- ---- a reply
 pub reply_field : IsSend Reply.the_field.row
 reply_field = search (items.the_send, text.the_send, blob.the_send, name.the_send, endpoint.the_send, crosses, sendable) fits 20000 depth 80
-
-last_send : IsSend Last.the_row
-last_send = search (reply_field, items.the_send, items.the_field_send, sendable) fits 20000 depth 80
-
-pub session_send : IsSend Session.the_row
-session_send = declared_send Session.the_type
-    (search (pair_send, sendable) depth 40, (search (last_send, sendable) depth 40, tt))
