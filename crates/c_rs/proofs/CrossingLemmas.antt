@@ -41,10 +41,11 @@ action_send = search (name.the_send, endpoint.the_send, change.the_send, floor.t
 actions_field : IsSend Actions.the_field.row
 actions_field = search (action_send, crosses, sendable) depth 40
 
+reply_send : IsSend Reply.the_row
+reply_send = search (reply_field, sendable) depth 40
+
 replies_field : IsSend Replies.the_field.row
-replies_field =
-    let reply : IsSend Reply.the_row = search (reply_field, sendable) depth 40 in
-    search (reply_field, reply, crosses, sendable) depth 40
+replies_field = search (reply_field, reply_send, crosses, sendable) depth 40
 
 rs_reply_send : IsSend RsReply.the_row
 rs_reply_send = search (reply_field, actions_field, replies_field, fault_field, new_fault_field, sendable) fits 20000 depth 80
