@@ -1,5 +1,5 @@
 -- Patterns in quotes, read byte by byte.
-use Rattle.std.specs.Prelude.{◌==◌, Result, Err, OnErr}
+use Rattle.std.specs.Prelude.{◌==◌}
 use Rattle.std.proofs.Common.{Ok, ◌≡◌, ◌≢◌, ℕ, ◌+◌, ◌<◌, inl, inr, List, [], ◌∷◌, ◌++◌, length, drop, refl, sym, ap, subst, ◌∙◌}
 use Rattle.std.proofs.Common.{append_assoc, append-nil, length-append, arith}
 use Rattle.std.proofs.lemmas.Bool.{cond-false, ne_eqb}
@@ -136,7 +136,8 @@ unescaped_all (b ∷ text) = first_unescaped b (escaped text) ∙ ap (λ (t : Li
 pub unescaped_is : (written text : List ℕ) → written ≡ escaped text → unescaped written ≡ text
 unescaped_is written text is = ap unescaped is ∙ unescaped_all text
 
-pub left_some : (written text rest past : List ℕ) (b : ℕ) → IsLeft written text rest → rest ≡ escaped_byte b ++ past → unescaped written ≢ []
+pub left_some : (written text rest past : List ℕ) (b : ℕ) → IsLeft written text rest → rest ≡ escaped_byte b ++ past →
+    unescaped written ≢ []
 left_some written text rest past b left h none =
     some_left left.0 text rest past b left.2 h (sym (unescaped_is written (text ++ left.0) left.3) ∙ none)
 
@@ -169,8 +170,3 @@ pattern_fixed text = refl
 pub pattern_one : One a_pattern
 pattern_one = one_by a_pattern (λ a b is_a is_b. (refl, λ _. (refl, λ _. tt))) (λ a is. (refl, ((a, refl), tt)))
     (λ a b is_a is_b same. (quoted_one a b [] [] (ap (λ (t : List ℕ). t ++ []) (ap (text_at 1) same))).0)
-
--- What holds anyway holds at an error.
-pub on_any_err : {T E : Type 0} (r : Result T E) (P : Type 0) → P → OnErr r P
-on_any_err (Ok x) P p = tt
-on_any_err (Err e) P p = p

@@ -1,8 +1,9 @@
 use Rattle.std.proofs.Common.{◌≡◌, ℕ, List, sym, ap, ◌∙◌}
 use Rattle.std.proofs.lemmas.Result.{IfOk-weaker, on_err_weaker}
 use Rattle.ds_line.specs.Spelling.{escaped}
+use Rattle.script_answers.proofs.AppendLemmas.{on_each}
 use Rattle.script_commands.specs.Query.{unescaped}
-use Rattle.script_commands.proofs.QueryLemmas.{left_more, left_last, left_some, on_any_err, unescaped_is}
+use Rattle.script_commands.proofs.QueryLemmas.{left_more, left_last, left_some, unescaped_is}
 use Rattle.script_commands.proofs.query.unescape.Goals as goal
 
 pub loop-byte-preserved : goal.loop-byte-preserved
@@ -23,6 +24,6 @@ returns-clause-room c =
     (λ some none. some (c.deref.ensures.value ∙ sym (unescaped_is c.args.written.now c.loop-byte.text.items all) ∙ none)) c.of.ensures.room
 
 pub returns-in_err-push-clause-room : goal.returns-in_err-push-clause-room
-returns-in_err-push-clause-room c = on_any_err c.from_residual.result _
+returns-in_err-push-clause-room c = on_each c.from_residual.result
     (left_some c.args.written.now c.loop-byte.text.items c.loop-byte.rest.now c.in-Some.after.now c.in-Some.byte c.loop-byte.invariant
     c.in-Some.ensures.found)
