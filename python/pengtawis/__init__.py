@@ -12,8 +12,8 @@ from .map import Entry, Map
 from .publisher import Publisher
 from .refusals import (
     Ahead, AlreadyUp, Assigned, BadCause, BadFirst, BadItems, BadKind, BadLabel, BadLine, BadPattern, BadRing, BadSub,
-    BadVersion, Behind, Clash, Exists, Full, GenerationsSpent, IsBusy, IsClosed, IsOpen, Missing, NoCaller, NoDevice, NoRoom, NoSeat,
-    NoSlot, NotAllowed, NotFound, NotOwner, NotPending, NotSender, NotUp, OldCursor, OldEndpoint, OutOfRange, Refused, SharedName,
+    BadVersion, Behind, Clash, Exists, Full, GenerationsSpent, IsBusy, IsClosed, IsOpen, Missing, NoCaller, NoDevice, NoLines, NoRoom,
+    NoSeat, NoSlot, NotAllowed, NotFound, NotOwner, NotPending, NotSender, NotUp, OldCursor, OldEndpoint, OutOfRange, Refused, SharedName,
     Stale, TickBack, Toml, TooLong, TooMany, TwoIds, TwoLabels, TwoUnits, UnknownField, UnknownLabel, Worn,
 )
 from .rs import Acted, Action, Cause, Class, GiveUp, Kill, Offer, Ping, Rs, Service, Start, State, Sweep
@@ -30,8 +30,8 @@ __all__ = [
     "Subscribed", "Swept", "Value", "Version", "read_item", "Acted", "Action", "Cause", "Class", "GiveUp", "Kill", "Offer", "Ping",
     "Service", "Start", "State", "Sweep", "Fail", "Finish", "Hold", "Move", "Moved", "Send", "StartPort", "Ahead", "AlreadyUp",
     "Assigned", "BadCause", "BadFirst", "BadKind", "BadLabel", "BadPattern", "BadRing", "BadSub", "BadVersion", "Behind", "Clash",
-    "Exists", "Full", "GenerationsSpent", "IsBusy", "IsClosed", "IsOpen", "Missing", "NoCaller", "NoDevice", "NoRoom", "NoSeat",
-    "NoSlot", "NotAllowed", "NotFound", "NotOwner", "NotPending", "NotSender", "NotUp", "OldCursor", "OldEndpoint", "OutOfRange",
+    "Exists", "Full", "GenerationsSpent", "IsBusy", "IsClosed", "IsOpen", "Missing", "NoCaller", "NoDevice", "NoLines", "NoRoom",
+    "NoSeat", "NoSlot", "NotAllowed", "NotFound", "NotOwner", "NotPending", "NotSender", "NotUp", "OldCursor", "OldEndpoint", "OutOfRange",
     "Refused", "SharedName", "Stale", "TickBack", "Toml", "TooLong", "TooMany", "TwoIds", "TwoLabels", "TwoUnits", "UnknownField",
     "UnknownLabel", "Watch", "Worn",
 ]

@@ -88,6 +88,8 @@ class NotPending(Refused, LookupError): """There is no unanswered request of thi
 # Those of a desk.
 class IsBusy(Refused): """Another seat has the turn, or a seat of the desk is open."""
 class NoSeat(Refused): """The desk has no seat left."""
+# That of a bridge.
+class NoLines(Refused, ValueError): """The text isn't lines of items."""
 
 
 NUMBERED = dict(enumerate(Refused.__subclasses__(), 1))

@@ -39,7 +39,7 @@ static void ask(const char *line) {
 }
 
 static void numbers(void) {
-    for (uint32_t number = 0; number <= DS_NOSEAT + 1; number++) {
+    for (uint32_t number = 0; number <= DS_NOLINES + 1; number++) {
         printf("%" PRIu32 " %s\n", number, ds_refusal_text(number));
     }
     printf("%" PRIu32 " %s\n", UINT32_MAX, ds_refusal_text(UINT32_MAX));

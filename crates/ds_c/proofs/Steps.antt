@@ -1,7 +1,7 @@
 -- What the walks of handles share. Assumes `Logic`.
 --     word                             a handle's machine value: a struct of one pointer
---     handle_out, map_out, table_out, desk_out, seat_out   a handle by value is what it holds, and its machine value
---     handle_in, map_in, table_in, desk_in, seat_in        and back
+--     handle_out, map_out, table_out, desk_out, seat_out, bridge_out   a handle by value is what it holds, and its machine value
+--     handle_in, map_in, table_in, desk_in, seat_in, bridge_in        and back
 --     held                             what a handle holds: nothing at null, or a box, whose pointer may be compared with null
 use Rattle.std.proofs.Common.{◌≡◌, ℕ, List, [], ◌∷◌, ◌++◌, refl, ap, ◌∙◌}
 use seplogic.Ra.Ura.{Ura}
@@ -30,12 +30,14 @@ pub use Rattle.ds_submap.specs.contracts.map.SubMap.{the_row as Map}
 pub use Rattle.c_store.specs.contracts.server_table.ServerTable.{the_row as Table}
 pub use Rattle.c_desk.specs.contracts.board.Board.{the_row as Desk}
 pub use Rattle.c_desk.specs.contracts.seat.Seat.{the_row as Seat}
-use Rattle.ds_c.specs.Held.{chunk, box_or_null, holds, holds_desk, holds_map, holds_seat, holds_table}
+pub use Rattle.c_bridge.specs.contracts.bridge.StoreBridge.{the_row as Bridge}
+use Rattle.ds_c.specs.Held.{chunk, box_or_null, holds, holds_bridge, holds_desk, holds_map, holds_seat, holds_table}
 use Rattle.ds_c.specs.contracts.handle.Handle as handle
 use Rattle.ds_c.specs.contracts.map_handle.MapHandle as map_handle
 use Rattle.ds_c.specs.contracts.table_handle.TableHandle as table_handle
 use Rattle.ds_c.specs.contracts.desk_handle.DeskHandle as desk_handle
 use Rattle.ds_c.specs.contracts.seat_handle.SeatHandle as seat_handle
+use Rattle.ds_c.specs.contracts.bridge_handle.BridgeHandle as bridge_handle
 
 abbrev pub word : Val → Val
 word v = vstruct (vcons v vnil)
@@ -54,6 +56,9 @@ DeskHandle = desk_handle.the_row
 
 abbrev pub SeatHandle : RattleType
 SeatHandle = seat_handle.the_row
+
+abbrev pub BridgeHandle : RattleType
+BridgeHandle = bridge_handle.the_row
 
 module _ {M : Type 1} {𝓤 : Ura M} (𝓛 : Logic 𝓤) (R : RattleType) (a : Global) where
   -- a box of the heap may be compared with null
@@ -105,6 +110,14 @@ module _ {M : Type 1} {𝓤 : Ura M} {𝓛 : Logic 𝓤} {K : Type 0} {Γ : List
   seat_in t p x = step (λ s. let v : Val = word (ptr_val p) in
       nothing t $ feq_i t (List Val) (ptr_val p ∷ []) (ptr_val p ∷ []) refl $ fjoin t $ feq_i t (List Val) (v ∷ []) (v ∷ []) refl $ fjoin t $
       fpack t (Valss (RawPtr ∷ [])) (within (shape seat_handle.the_type) (p, tt) (v ∷ [])) (ptr_val p ∷ [], tt) $ fjoin t $ s)
+
+  pub bridge_out : K → (d : BridgeHandle.Denot) (vs : List Val) → (vs ≡ word (ptr_val d.at) ∷ [] → Seq K 𝓛 (‵ (holds_bridge d.at d.value) ∷ Γ) G) → Seq K 𝓛 (‵ (BridgeHandle.own_val d vs) ∷ Γ) G
+  bridge_out t d vs k = fsplit t $ fpick t (λ vss. fsplit t $ feq_l t (λ ev. fsplit t $ feq_l t (λ ep. drop t $ k (ev ∙ ap (λ (ps : List Val). vstruct (of_list (ps ++ [])) ∷ []) ep))))
+
+  pub bridge_in : K → (p : Ptr) (x : Option Bridge.Denot) → Step K 𝓛 (‵ (BridgeHandle.own_val (record { at = p; value = x }) (word (ptr_val p) ∷ [])) ∷ Γ) G (‵ (holds_bridge p x) ∷ Γ) G
+  bridge_in t p x = step (λ s. let v : Val = word (ptr_val p) in
+      nothing t $ feq_i t (List Val) (ptr_val p ∷ []) (ptr_val p ∷ []) refl $ fjoin t $ feq_i t (List Val) (v ∷ []) (v ∷ []) refl $ fjoin t $
+      fpack t (Valss (RawPtr ∷ [])) (within (shape bridge_handle.the_type) (p, tt) (v ∷ [])) (ptr_val p ∷ [], tt) $ fjoin t $ s)
 
   pub held : K → (R : RattleType) → Global → (p : Ptr) (x : Option R.Denot) → (p ≡ null_ptr → x ≡ None → Seq K 𝓛 Γ G)
       → ((b o : ℕ) (y : R.Denot) → p ≡ block_ptr b o → x ≡ Some y → Testable (block_ptr b o) → Seq K 𝓛 (‵ (box_owns chunk R (block_ptr b o) y) ∷ Γ) G) → Seq K 𝓛 (‵ (box_or_null R p x) ∷ Γ) G

@@ -13,6 +13,7 @@ use Rattle.ds_submap.specs.contracts.map.SubMap as map
 use Rattle.c_store.specs.contracts.server_table.ServerTable as table
 use Rattle.c_desk.specs.contracts.board.Board as board
 use Rattle.c_desk.specs.contracts.seat.Seat as seat
+use Rattle.c_bridge.specs.contracts.bridge.StoreBridge as bridge
 
 -- The token by which the heap knows a block; it doesn't depend on the handle to the heap.
 abbrev pub any_heap : Global
@@ -26,7 +27,7 @@ abbrev pub box_or_null : (R : RattleType) → Ptr → Option R.Denot → Fml
 box_or_null R at None = feq Ptr at null_ptr
 box_or_null R at (Some x) = box_owns chunk R at x
 
--- The ownership of a handle of a store, of a map, of a table, of a desk and of a seat.
+-- The ownership of a handle of a store, of a map, of a table, of a desk, of a seat and of a bridge.
 abbrev pub holds : Ptr → Option session.the_row.Denot → Fml
 holds = box_or_null session.the_row
 
@@ -41,3 +42,6 @@ holds_desk = box_or_null board.the_row
 
 abbrev pub holds_seat : Ptr → Option seat.the_row.Denot → Fml
 holds_seat = box_or_null seat.the_row
+
+abbrev pub holds_bridge : Ptr → Option bridge.the_row.Denot → Fml
+holds_bridge = box_or_null bridge.the_row

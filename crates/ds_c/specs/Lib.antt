@@ -8,3 +8,4 @@ pub mod Renewing
 pub mod Keepers
 pub mod Desks
 pub mod Crossing
+pub mod Bridges

@@ -1,7 +1,15 @@
 //! The data store for C, which `ds.h` declares: handles of stores with RS beside them, of
-//! subscribers' maps, of servers' driver tables, and of desks that threads share, with their seats.
+//! subscribers' maps, of servers' driver tables, of desks that threads share, with their seats, and of bridges between hosts.
 #![tactic(auto)]
 
+mod bridge_answers;
+mod bridge_faults;
+mod bridge_handle;
+mod bridge_id;
+mod bridge_question;
+mod bridge_readings;
+mod bridge_taken;
+mod bridges;
 mod desk_handle;
 mod desks;
 mod entries;
@@ -24,6 +32,16 @@ ghost use Rattle.std.specs.Prelude.{◌≡◌};
 ghost use Rattle.std.specs.declared.option.Option.TheVariants.{None};
 ghost use Rattle.ds_c.specs.Calls.{Opens, Opened, Calls, Fetches, Closes};
 
+pub use bridge_answers::{ds_bridge_added, ds_bridge_fetched, ds_bridge_met, ds_bridge_refused};
+pub use bridge_handle::BridgeHandle;
+pub use bridge_id::BridgeId;
+pub use bridge_question::BridgeQuestion;
+pub use bridge_readings::{ds_bridge_consumed, ds_bridge_entry, ds_bridge_read};
+pub use bridge_taken::BridgeTaken;
+pub use bridges::{
+    ds_bridge_ask, ds_bridge_close, ds_bridge_differs, ds_bridge_gather, ds_bridge_items,
+    ds_bridge_open, ds_bridge_parted, ds_bridge_reread, ds_bridge_snapshot,
+};
 use c_keeper::KeeperSession;
 use c_rs::RsSession;
 use c_values::{Answer, Given, Request, refusal_number};

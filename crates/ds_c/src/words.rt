@@ -8,7 +8,13 @@ pub(crate) const BAD_KIND: u32 = 5;
 
 pub(crate) const NOT_ALLOWED: u32 = 9;
 
+pub(crate) const STALE: u32 = 12;
+
 pub(crate) const NOT_FOUND: u32 = 14;
+
+pub(crate) const AHEAD: u32 = 16;
+
+pub(crate) const BEHIND: u32 = 17;
 
 pub(crate) const WORN: u32 = 19;
 
@@ -18,6 +24,10 @@ pub(crate) const IS_CLOSED: u32 = 23;
 
 pub(crate) const IS_OPEN: u32 = 24;
 
+pub(crate) const NOT_PENDING: u32 = 43;
+
 pub(crate) const IS_BUSY: u32 = 44;
 
 pub(crate) const NO_SEAT: u32 = 45;
+
+pub(crate) const NO_LINES: u32 = 46;

@@ -99,6 +99,7 @@ refusals! {
     NotPending "notpending" 43 "no such request waits for a reply";
     IsBusy "isbusy" 44 "another seat of the desk has the turn";
     NoSeat "noseat" 45 "the desk has no seat left";
+    NoLines "nolines" 46 "the text isn't lines of items";
 }
 
 impl fmt::Display for Refusal {
