@@ -205,7 +205,10 @@ module _ {A : Type 0} where
   DoesByBoth does s None before word told store new = (word ≡ is_closed) × (told ≡ before) × (store ≡ s) × (new ≡ None)
   DoesByBoth does s (Some old) before word told store new = DoneByBoth does s old before word told store new
 
--- The effect of a call that gathers.
+-- The effect of a call that gathers, of an open bridge and of any.
+abbrev pub GathersBeside : Option KeeperSession → StoreBridge → ℕ → Option KeeperSession → StoreBridge → Type 0
+GathersBeside s old word store new = DoesAt (λ c b (u : ⊤) w (v : ⊤) d e. GathersFrom c b w d e) s old tt word tt store new
+
 abbrev pub GathersAt : Option KeeperSession → Option StoreBridge → ℕ → Option KeeperSession → Option StoreBridge → Type 0
 GathersAt s old word store new = DoesByBoth (λ c b (u : ⊤) w (v : ⊤) d e. GathersFrom c b w d e) s old tt word tt store new
 

@@ -3,7 +3,7 @@
 ghost use Rattle.std.specs.Prelude.{◌≡◌, ◌==◌, not};
 ghost use Rattle.std.specs.declared.option.Option.TheVariants.{None};
 ghost use Rattle.c_bridge.specs.State.{bridge_doubting, bridge_parted, bridge_rereading};
-ghost use Rattle.ds_c.specs.Bridges.{AsksAt, AsksBeside, AsksOf, DoesAt, FetchesOf, GathersAt, GathersFrom, KeepsAllElse, MovesIn};
+ghost use Rattle.ds_c.specs.Bridges.{AsksAt, AsksBeside, AsksOf, FetchesOf, GathersAt, GathersBeside, GathersFrom, KeepsAllElse, MovesIn};
 ghost use Rattle.ds_c.specs.Bridges.{OpenedBridge, OpensBridge, added_from, snapshot_from};
 ghost use Rattle.ds_c.specs.Calls.{Closes};
 
@@ -83,8 +83,7 @@ pub extern "C" fn ds_bridge_gather(
 }
 
 fn gather_at(alloc: Global, bridge: &mut StoreBridge, store: &mut Handle) -> u32
-    ensures { DoesAt (λ c b (u : ⊤) w (v : ⊤) d e. GathersFrom c b w d e)
-        store.old.value bridge.old tt result tt store.new.value bridge.new }
+    ensures { GathersBeside store.old.value bridge.old result store.new.value bridge.new }
 {
     match store.take(alloc) {
         None => IS_CLOSED,
