@@ -1,8 +1,7 @@
 -- What the calls on the handle of a bridge return, and what they leave in it and in the handle of its store.
-use Rattle.std.specs.Prelude.{◌≡◌, ℕ, ◌==◌, ◌+◌, ◌*◌, ◌^◌, Bool, true, false, not, List, replicate, take, Option, None, Some, Result, Ok, Err}
+use Rattle.std.specs.Prelude.{◌≡◌, ℕ, ◌+◌, ◌*◌, ◌^◌, Bool, true, false, List, replicate, take, Option, None, Some, Result, Ok, Err}
 use Rattle.std.specs.Prelude.{IfOk, IfErr, OnErr, MatchOption, ⊤}
 use Rattle.std.specs.Int.{to_le_bytes, w128}
-use Rattle.ds_entry.specs.declared.item.Item.{Item}
 use Rattle.ds_content.specs.Content.{ContentRecord}
 use Rattle.ds_content.specs.Stands.{ContentStands, InEachState}
 use Rattle.fleet_bridge.specs.declared.question.Due.{Due}
@@ -25,7 +24,7 @@ use Rattle.ds_c.specs.declared.bridge_id.BridgeId.{BridgeId}
 use Rattle.ds_c.specs.declared.bridge_question.BridgeQuestion.{BridgeQuestion}
 use Rattle.ds_c.specs.declared.bridge_taken.BridgeTaken.{BridgeTaken}
 use Rattle.ds_c.specs.Calls.{done, is_closed, is_open}
-use Rattle.ds_c.specs.Desks.{is_busy, no_memory}
+use Rattle.ds_c.specs.Desks.{no_memory}
 use Rattle.ds_c.specs.Services.{not_found}
 
 -- ---- numbers
@@ -95,19 +94,21 @@ module _ {T : Type 0} where
 
 abbrev pub GathersFrom : ContentRecord → StoreBridge → ℕ → ContentRecord → StoreBridge → Type 0
 GathersFrom c old word d new =
-    TellsOutcome (λ (u : ⊤). InEachState c (λ s. Gathers s d old new)) (λ fault. InEachState c (λ s. IsGatherFault s.feed old fault)) (new ≡ old)
-    word × InEachState c (ContentStands d)
+    TellsOutcome (λ (u : ⊤). InEachState c (λ s. Gathers s d old new)) (λ fault. InEachState c (λ s. IsGatherFault s.feed old fault))
+    (new ≡ old) word × InEachState c (ContentStands d)
 
 abbrev pub AsksOf : ContentRecord → StoreBridge → Due → BridgeQuestion → ℕ → BridgeQuestion → StoreBridge → Type 0
 AsksOf c old due before word told new =
     TellsOutcome (λ q. AsksNext c old due q new × IsToldQuestion q new told) (IsAskFault c old) ((new ≡ old) × (told ≡ before)) word
 
-abbrev pub TakesFetched : ContentRecord → StoreBridge → BridgeId → List ℕ → BridgeTaken → ℕ → BridgeTaken → ContentRecord → StoreBridge → Type 0
+abbrev pub TakesFetched : ContentRecord → StoreBridge → BridgeId → List ℕ → BridgeTaken → ℕ → BridgeTaken → ContentRecord →
+    StoreBridge → Type 0
 TakesFetched c old end text before word told d new =
     TellsOutcome (λ t. FetchesSnapshot c old (id_of end) text t d new × (told ≡ told_taken t)) (IsFetchFault c old text)
     ((new ≡ old) × (d ≡ c) × (told ≡ before)) word
 
-abbrev pub TakesConsumed : ContentRecord → StoreBridge → BridgeId → Bool → BridgeTaken → ℕ → BridgeTaken → ContentRecord → StoreBridge → Type 0
+abbrev pub TakesConsumed : ContentRecord → StoreBridge → BridgeId → Bool → BridgeTaken → ℕ → BridgeTaken → ContentRecord →
+    StoreBridge → Type 0
 TakesConsumed c old end is_all before word told d new =
     TellsOutcome (λ t. FinishesReading c old (id_of end) is_all t d new × (told ≡ told_reading t)) (IsHearFault c old)
     ((new ≡ old) × (d ≡ c) × (told ≡ before)) word
@@ -116,7 +117,8 @@ abbrev pub MeetsOr : StoreBridge → ℕ → ℕ → StoreBridge → Type 0
 MeetsOr old history word new = TellsOutcome (λ (u : ⊤). Meets old history new) (IsMeetFault old) (new ≡ old) word
 
 abbrev pub EntersOr : StoreBridge → BridgeId → List ℕ → ℕ → StoreBridge → Type 0
-EntersOr old id text word new = TellsOutcome (λ (u : ⊤). Enters old (id_of id) text new) (IsReadEntryFault old (id_of id) text) (new ≡ old) word
+EntersOr old id text word new =
+    TellsOutcome (λ (u : ⊤). Enters old (id_of id) text new) (IsReadEntryFault old (id_of id) text) (new ≡ old) word
 
 abbrev pub AcknowledgesOr : StoreBridge → ℕ → ℕ → ℕ → StoreBridge → Type 0
 AcknowledgesOr old before word count new =
@@ -189,8 +191,8 @@ DoneAt does s old word (Some t) new = DoneBeside does s old word t new
 
 module _ {A : Type 0} where
   -- The effect of a call of a bridge with the handle of a store. If that is closed, the bridge and the result's place are unchanged.
-  abbrev pub DoesAt : (ContentRecord → StoreBridge → A → ℕ → A → ContentRecord → StoreBridge → Type 0) → Option KeeperSession → StoreBridge →
-      A → ℕ → A → Option KeeperSession → StoreBridge → Type 0
+  abbrev pub DoesAt : (ContentRecord → StoreBridge → A → ℕ → A → ContentRecord → StoreBridge → Type 0) → Option KeeperSession →
+      StoreBridge → A → ℕ → A → Option KeeperSession → StoreBridge → Type 0
   DoesAt does None old before word told store new = (word ≡ is_closed) × (told ≡ before) × (store ≡ None) × (new ≡ old)
   DoesAt does (Some s) old before word told store new = DoneAt (λ c b w d e. does c b before w told d e) s old word store new
 

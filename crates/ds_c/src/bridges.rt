@@ -19,9 +19,9 @@ use ds_store::Store;
 use fleet_bridge::Due;
 use std::alloc::Global;
 
-/// Opens a bridge beside the store of an open handle, in a closed handle of its own. All that the store holds is to be sent. Returns 0, that
-/// memory ran out, that the store's handle is closed, or that the bridge's is open. Each later call is one event of `fleet_rule`, or
-/// none, as `calls_happen` of `c_bridge` says, as long as it gets the same store.
+/// Opens a bridge beside the store of an open handle, in a closed handle of its own. All that the store holds is to be sent. Returns 0, or
+/// that memory ran out, the store's handle is closed, or the bridge's is open. By law `calls_happen` of `c_bridge`, each later call with the
+/// same store is an event of `fleet_rule`, or more than one, or none.
 #[unsafe(no_mangle)]
 pub extern "C" fn ds_bridge_open(
     alloc: Global,
