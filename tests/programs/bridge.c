@@ -1,6 +1,6 @@
-/* Plays a server for the bridges of two stores, and of a third, by calls alone: a list is its log. A change of one store is added and read by
- * the other; a compaction takes in nothing that wasn't gathered; a server with another history gets everything again; questions are refused,
- * dead letters are sent on, and memory runs out. Link with -Wl,--wrap=malloc,--wrap=realloc. */
+/* Plays a server for the bridges of two stores, and of a third, by calls alone: a list is its log. A change of one store is added and read
+ * by the other; a compaction takes in nothing that wasn't gathered; a server with another history gets everything again; questions are
+ * refused, dead letters are sent on, and memory runs out. Link with -Wl,--wrap=malloc,--wrap=realloc. */
 #include "ds.h"
 #include "growths.h"
 #include <inttypes.h>

@@ -63,7 +63,7 @@ question_count Compact b = b.decisions.in_flight
 question_count _ b = 0
 
 -- Whether this is the question, as C has it, with the id of the last entry that was read.
-pub record IsToldQuestion (q : Question) (b : StoreBridge) (told : BridgeQuestion) : Type 0 where
+pub record IsReportedQuestion (q : Question) (b : StoreBridge) (told : BridgeQuestion) : Type 0 where
   pub kind : told.kind ≡ question_kind q
   pub count : told.count ≡ question_count q b
   pub last : told.high * 2 ^ 64 + told.low ≡ b.decisions.position
@@ -73,19 +73,19 @@ flag true = 1
 flag false = 0
 
 -- What became of items, as C has it.
-abbrev pub told_taken : Taken → BridgeTaken
-told_taken t = record { owed = to_le_bytes w128 t.owed; is_taken = 1; has_dropped = flag t.has_dropped }
+abbrev pub reported_taken : Taken → BridgeTaken
+reported_taken t = record { owed = to_le_bytes w128 t.owed; is_taken = 1; has_dropped = flag t.has_dropped }
 
 -- Likewise of a reading's, which may be ignored.
-abbrev pub told_reading : Option Taken → BridgeTaken
-told_reading (Some t) = told_taken t
-told_reading None = record { owed = replicate 16 0; is_taken = 0; has_dropped = 0 }
+abbrev pub reported_reading : Option Taken → BridgeTaken
+reported_reading (Some t) = reported_taken t
+reported_reading None = record { owed = replicate 16 0; is_taken = 0; has_dropped = 0 }
 
 -- ---- what a call does
 
 module _ {T : Type 0} where
   -- Whether the call did this, with some result, or returns the number of a fault, for this reason, and left this.
-  pub record TellsOutcome (did : T → Type 0) (why : BridgeFault → Type 0) (same : Type 0) (word : ℕ) : Type 0 where
+  pub record ReportsOutcome (did : T → Type 0) (why : BridgeFault → Type 0) (same : Type 0) (word : ℕ) : Type 0 where
     pub outcome : Result T BridgeFault
     pub word_is : word ≡ outcome_word outcome
     pub done : IfOk outcome did
@@ -94,35 +94,35 @@ module _ {T : Type 0} where
 
 abbrev pub GathersFrom : ContentRecord → StoreBridge → ℕ → ContentRecord → StoreBridge → Type 0
 GathersFrom c old word d new =
-    TellsOutcome (λ (u : ⊤). InEachState c (λ s. Gathers s d old new)) (λ fault. InEachState c (λ s. IsGatherFault s.feed old fault))
+    ReportsOutcome (λ (u : ⊤). InEachState c (λ s. Gathers s d old new)) (λ fault. InEachState c (λ s. IsGatherFault s.feed old fault))
     (new ≡ old) word × InEachState c (ContentStands d)
 
 abbrev pub AsksOf : ContentRecord → StoreBridge → Due → BridgeQuestion → ℕ → BridgeQuestion → StoreBridge → Type 0
 AsksOf c old due before word told new =
-    TellsOutcome (λ q. AsksNext c old due q new × IsToldQuestion q new told) (IsAskFault c old) ((new ≡ old) × (told ≡ before)) word
+    ReportsOutcome (λ q. AsksNext c old due q new × IsReportedQuestion q new told) (IsAskFault c old) ((new ≡ old) × (told ≡ before)) word
 
 abbrev pub TakesFetched : ContentRecord → StoreBridge → BridgeId → List ℕ → BridgeTaken → ℕ → BridgeTaken → ContentRecord →
     StoreBridge → Type 0
 TakesFetched c old end text before word told d new =
-    TellsOutcome (λ t. FetchesSnapshot c old (id_of end) text t d new × (told ≡ told_taken t)) (IsFetchFault c old text)
+    ReportsOutcome (λ t. FetchesSnapshot c old (id_of end) text t d new × (told ≡ reported_taken t)) (IsFetchFault c old text)
     ((new ≡ old) × (d ≡ c) × (told ≡ before)) word
 
 abbrev pub TakesConsumed : ContentRecord → StoreBridge → BridgeId → Bool → BridgeTaken → ℕ → BridgeTaken → ContentRecord →
     StoreBridge → Type 0
 TakesConsumed c old end is_all before word told d new =
-    TellsOutcome (λ t. FinishesReading c old (id_of end) is_all t d new × (told ≡ told_reading t)) (IsHearFault c old)
+    ReportsOutcome (λ t. FinishesReading c old (id_of end) is_all t d new × (told ≡ reported_reading t)) (IsHearFault c old)
     ((new ≡ old) × (d ≡ c) × (told ≡ before)) word
 
 abbrev pub MeetsOr : StoreBridge → ℕ → ℕ → StoreBridge → Type 0
-MeetsOr old history word new = TellsOutcome (λ (u : ⊤). Meets old history new) (IsMeetFault old) (new ≡ old) word
+MeetsOr old history word new = ReportsOutcome (λ (u : ⊤). Meets old history new) (IsMeetFault old) (new ≡ old) word
 
 abbrev pub EntersOr : StoreBridge → BridgeId → List ℕ → ℕ → StoreBridge → Type 0
 EntersOr old id text word new =
-    TellsOutcome (λ (u : ⊤). Enters old (id_of id) text new) (IsReadEntryFault old (id_of id) text) (new ≡ old) word
+    ReportsOutcome (λ (u : ⊤). Enters old (id_of id) text new) (IsReadEntryFault old (id_of id) text) (new ≡ old) word
 
 abbrev pub AcknowledgesOr : StoreBridge → ℕ → ℕ → ℕ → StoreBridge → Type 0
 AcknowledgesOr old before word count new =
-    TellsOutcome (λ n. IsAcknowledged old n new × (count ≡ n)) (IsAddFault old) ((new ≡ old) × (count ≡ before)) word
+    ReportsOutcome (λ n. IsAcknowledged old n new × (count ≡ n)) (IsAddFault old) ((new ≡ old) × (count ≡ before)) word
 
 -- Whether a reading begins after the id, or none may.
 pub record ReadsAfter (old : StoreBridge) (before : BridgeId) (word : ℕ) (id : BridgeId) (new : StoreBridge) : Type 0 where
@@ -169,8 +169,9 @@ abbrev pub AsksBeside : Option KeeperSession → StoreBridge → Due → BridgeQ
 AsksBeside None old due before word told new = (word ≡ is_closed) × (told ≡ before) × (new ≡ old)
 AsksBeside (Some s) old due before word told new = AsksOf s.rs.session.node.store old due before word told new
 
-abbrev pub AsksAt : Option KeeperSession → Option StoreBridge → Due → BridgeQuestion → ℕ → BridgeQuestion → Option StoreBridge → Type 0
-AsksAt s old due before word told new = AnswersIn (λ b before w told e. AsksBeside s b due before w told e) old before word told new
+abbrev pub AsksByBridge : Option KeeperSession → Option StoreBridge → Due → BridgeQuestion → ℕ → BridgeQuestion → Option StoreBridge →
+    Type 0
+AsksByBridge s old due before word told new = AnswersIn (λ b before w told e. AsksBeside s b due before w told e) old before word told new
 
 -- Whether only the store of a session may have changed.
 pub record KeepsAllElse (old new : KeeperSession) : Type 0 where

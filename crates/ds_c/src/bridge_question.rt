@@ -1,7 +1,7 @@
 //! The questions of a bridge, for C.
 
 ghost use Rattle.std.specs.Prelude.{◌≡◌};
-ghost use Rattle.ds_c.specs.Bridges.{IsToldQuestion, question_count, question_kind};
+ghost use Rattle.ds_c.specs.Bridges.{IsReportedQuestion, question_count, question_kind};
 
 use crate::bridge_id::BridgeId;
 use c_bridge::StoreBridge;
@@ -47,7 +47,7 @@ fn count_of(question: Question, bridge: &StoreBridge) -> u64
 impl BridgeQuestion {
     /// Returns a question of the bridge, as C has it.
     pub(crate) fn of(question: Question, bridge: &StoreBridge) -> BridgeQuestion
-        ensures { IsToldQuestion question bridge.now result }
+        ensures { IsReportedQuestion question bridge.now result }
     {
         let last = BridgeId::of(bridge.decisions.position);
         BridgeQuestion {

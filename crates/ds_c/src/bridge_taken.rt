@@ -1,7 +1,7 @@
 //! What became of items, for C.
 
 ghost use Rattle.std.specs.Prelude.{◌≡◌};
-ghost use Rattle.ds_c.specs.Bridges.{flag, told_reading, told_taken};
+ghost use Rattle.ds_c.specs.Bridges.{flag, reported_reading, reported_taken};
 
 use fleet_store::Taken;
 
@@ -25,7 +25,7 @@ fn flag_of(holds: bool) -> u8
 impl BridgeTaken {
     /// Returns what became of items, as C has it.
     pub(crate) fn of(taken: Taken) -> BridgeTaken
-        ensures { result ≡ told_taken taken }
+        ensures { result ≡ reported_taken taken }
     {
         BridgeTaken {
             owed: taken.owed.to_le_bytes(),
@@ -36,7 +36,7 @@ impl BridgeTaken {
 
     /// Returns what became of a reading's items; `None` if the reading was ignored.
     pub(crate) fn of_reading(taken: Option<Taken>) -> BridgeTaken
-        ensures { result ≡ told_reading taken }
+        ensures { result ≡ reported_reading taken }
     {
         match taken {
             Some(taken) => BridgeTaken::of(taken),

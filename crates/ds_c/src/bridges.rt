@@ -3,8 +3,8 @@
 ghost use Rattle.std.specs.Prelude.{◌≡◌, ◌==◌, not};
 ghost use Rattle.std.specs.declared.option.Option.TheVariants.{None};
 ghost use Rattle.c_bridge.specs.State.{bridge_doubting, bridge_parted, bridge_rereading};
-ghost use Rattle.ds_c.specs.Bridges.{AsksAt, AsksBeside, AsksOf, FetchesOf, GathersAt, GathersBeside, GathersFrom, KeepsAllElse, MovesIn};
-ghost use Rattle.ds_c.specs.Bridges.{OpenedBridge, OpensBridge, added_from, snapshot_from};
+ghost use Rattle.ds_c.specs.Bridges.{AsksBeside, AsksByBridge, AsksOf, FetchesOf, GathersAt, GathersBeside, GathersFrom};
+ghost use Rattle.ds_c.specs.Bridges.{KeepsAllElse, MovesIn, OpenedBridge, OpensBridge, added_from, snapshot_from};
 ghost use Rattle.ds_c.specs.Calls.{Closes};
 
 use crate::bridge_faults::word_of;
@@ -19,9 +19,9 @@ use ds_store::Store;
 use fleet_bridge::Due;
 use std::alloc::Global;
 
-/// Opens a bridge beside the store of an open handle, in a closed handle of its own. All that the store holds is to be sent. Returns 0, or
-/// that memory ran out, the store's handle is closed, or the bridge's is open. By law `calls_happen` of `c_bridge`, each later call with the
-/// same store is an event of `fleet_rule`, or more than one, or none.
+/// Opens a bridge beside the store of an open handle, in a closed handle of its own. All that the store holds is to be sent. Returns 0,
+/// or that memory ran out, the store's handle is closed, or the bridge's is open. By law `calls_happen` of `c_bridge`, each later call
+/// with the same store is an event of `fleet_rule`, or more than one, or none.
 #[unsafe(no_mangle)]
 pub extern "C" fn ds_bridge_open(
     alloc: Global,
@@ -114,7 +114,7 @@ pub extern "C" fn ds_bridge_ask(
     most: u64,
     question: &mut BridgeQuestion,
 ) -> u32
-    ensures asked { AsksAt store.old.value handle.old.value (record { compaction = not (compaction == 0); most = most })
+    ensures asked { AsksByBridge store.old.value handle.old.value (record { compaction = not (compaction == 0); most = most })
         question.old result question.new handle.new.value }
     ensures store { store.new.value ≡ store.old.value }
 {
