@@ -30,6 +30,7 @@ mod words;
 
 ghost use Rattle.std.specs.Prelude.{◌≡◌};
 ghost use Rattle.std.specs.declared.option.Option.TheVariants.{None};
+ghost use Rattle.c_holders.specs.Agree.{HandlesAgree};
 ghost use Rattle.ds_c.specs.Calls.{Opens, Opened, Calls, Fetches, Closes};
 
 pub use bridge_answers::{ds_bridge_added, ds_bridge_fetched, ds_bridge_met, ds_bridge_refused};
@@ -42,6 +43,7 @@ pub use bridges::{
     ds_bridge_ask, ds_bridge_close, ds_bridge_differs, ds_bridge_gather, ds_bridge_items,
     ds_bridge_open, ds_bridge_parted, ds_bridge_reread, ds_bridge_snapshot,
 };
+use c_holders::handles_agree;
 use c_keeper::KeeperSession;
 use c_rs::RsSession;
 use c_values::{Answer, Given, Request, refusal_number};
@@ -77,7 +79,7 @@ pub use tables::{
 use words::{DONE, IS_CLOSED, IS_OPEN};
 
 /// Opens a store of this incarnation in a closed handle. Its first item gets the position `first`, and its journal keeps `ring` items, 1 to
-/// 4096. Returns 0, the number of the refusal, or that the handle is open.
+/// 4096. Returns 0, the number of the refusal, or that the handle is open. Handles that know the same under a query hold the same.
 #[unsafe(no_mangle)]
 pub extern "C" fn ds_open(
     alloc: Global,
@@ -86,8 +88,10 @@ pub extern "C" fn ds_open(
     first: u64,
     ring: u32,
 ) -> u32
-    ensures { Opens incarnation first ring handle.old.value result handle.new.value }
+    ensures opens { Opens incarnation first ring handle.old.value result handle.new.value }
+    ensures agree { HandlesAgree }
 {
+    handles_agree();
     match handle.take(alloc) {
         None => open_in(alloc, handle, incarnation, first, ring),
         Some(session) => {

@@ -2,11 +2,13 @@
 
 ghost use Rattle.std.specs.Prelude.{◌≡◌};
 ghost use Rattle.std.specs.declared.option.Option.TheVariants.{None};
+ghost use Rattle.c_holders.specs.Agree.{HandlesAgree};
 ghost use Rattle.ds_c.specs.Maps.{OpensMap, OpenedMap, TakesInMap, FindsInMap};
 ghost use Rattle.ds_c.specs.Calls.{Closes};
 
 use crate::map_handle::MapHandle;
 use crate::words::{DONE, IS_CLOSED, IS_OPEN};
+use c_holders::handles_agree;
 use c_store::{label_in, new_map, take_lines};
 use c_values::{Answer, refusal_number};
 use ds_machine::Refusal;
@@ -20,8 +22,10 @@ pub extern "C" fn ds_map_new(
     kinds: u8,
     pattern: &[u8],
 ) -> u32
-    ensures { OpensMap kinds pattern.now handle.old.value result handle.new.value }
+    ensures opens { OpensMap kinds pattern.now handle.old.value result handle.new.value }
+    ensures agree { HandlesAgree }
 {
+    handles_agree();
     match handle.take(alloc) {
         None => new_in(alloc, handle, kinds, pattern),
         Some(map) => {
