@@ -11,6 +11,7 @@ MADE = "made by tests/dsctl/manual from the program's help"
 NO_MORE = "'*:no other argument, options begin with -: '"  # what zsh shows instead of the options if no dash is typed
 HELP = "help"  # the command whose words are the names of the others
 TABBED = '"%s\\t%s\\n"'  # how fish prints each word and its text
+OF_FILE = " <FILE>"  # how an option ends that takes a file's name
 MANY = 16  # numbers of an option that span this many aren't offered one by one
 EXAMPLES = ("Example session", "Two replicas", "A driver that dies")  # how the paragraphs with examples begin
 OF_LINES = "new over first later label u32 str mem file net block character up down refresh help quit exit".split()  # beside the first words of lines
@@ -134,7 +135,8 @@ def words_of(rows):
 
 def numbers_of(rows):
     """Returns the numbers that each option takes, by the option: those that its text names, if they are few."""
-    return {word.split()[0]: few(about) for names, about in rows for word in names.split(", ") if " " in word}
+    valued = [(word, about) for names, about in rows for word in names.split(", ") if " " in word and not word.endswith(OF_FILE)]
+    return {word.split()[0]: few(about) for word, about in valued}
 
 
 def few(about):
@@ -213,6 +215,8 @@ def zsh(whole, parts):
         option, _, value = word.partition(" ")
         about = about.replace("[", "(").replace("]", ")").replace(":", "\\:")
         few = numbers.get(option)
+        if word.endswith(OF_FILE):
+            return quoted_for_zsh(f"{option}[{about}]:file:_files")
         return quoted_for_zsh(f"{option}[{about}]" + (f":number:({' '.join(few)})" if few else ":number: " if value else ""))
 
     def arguments(help_):
@@ -251,8 +255,8 @@ def fish(whole, parts):
     def option(condition, names, about, numbers):
         words = [it.partition(" ") for it in names.split(", ")]
         flags = " ".join(f"-l {it[2:]}" if it.startswith("--") else f"-s {it[1:]}" for it, _, _ in words)
-        few = next((numbers[it] for it, _, value in words if value), None)
-        valued = "" if few is None else " -x" + f" -a '{' '.join(few)}'" * bool(few)
+        few = next((numbers[it] for it, _, value in words if it in numbers), None)
+        valued = " -r -F" if names.endswith(OF_FILE) else "" if few is None else " -x" + f" -a '{' '.join(few)}'" * bool(few)
         return f"complete -c dsctl -n {condition} {flags}{valued} -d {quoted_for_fish(about)}"
 
     def options(condition, rows):

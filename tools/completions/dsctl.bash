@@ -8,7 +8,7 @@ _dsctl() {
         esac
     done
     case $command in
-        replay) words="--keep-going --stop --ends -h --help" ;;
+        replay) words="--keep-going --stop --ends --load --save -h --help" ;;
         settings) words="--line -h --help" ;;
         verify) words="-h --help" ;;
         upgrade) words="-h --help" ;;

@@ -7,6 +7,8 @@ complete -c dsctl -n '__fish_seen_subcommand_from replay settings verify upgrade
 complete -c dsctl -n '__fish_seen_subcommand_from replay' -l keep-going -d 'Continue after a bad line; status 1 at the end'
 complete -c dsctl -n '__fish_seen_subcommand_from replay' -l stop -d 'End at a bad line, at a terminal too'
 complete -c dsctl -n '__fish_seen_subcommand_from replay' -l ends -d 'End each answer by an empty line'
+complete -c dsctl -n '__fish_seen_subcommand_from replay' -l load -r -F -d 'Run this script first, without printing its answers'
+complete -c dsctl -n '__fish_seen_subcommand_from replay' -l save -r -F -d 'Save the store at the end, as a script for --load'
 complete -c dsctl -n '__fish_seen_subcommand_from replay' -s h -l help -d 'Print help'
 complete -c dsctl -n '__fish_seen_subcommand_from settings' -l line -d 'Print them as a line of a script'
 complete -c dsctl -n '__fish_seen_subcommand_from settings' -s h -l help -d 'Print help (see a summary with \'-h\')'

@@ -11,7 +11,9 @@ use Rattle.ds_script.specs.declared.fault.ReplayFault.TheVariants.{BadLine, Read
 use Rattle.ds_script.specs.declared.report.BadLines.{BadLines}
 use Rattle.ds_script.specs.declared.report.BadLines.TheVariants.{End, GoOn}
 use Rattle.ds_script.specs.Session.{SessionContent, IsOpened}
-use Rattle.ds_script.specs.Replay.{AnswersLines, AreAnswers, IsReplayed, IsAnsweredUpTo, IsAnsweredInPart, StopsWith}
+use Rattle.ds_script.specs.Replay.{AnswersLines, AreAnswers, AnswersFrom, IsAnsweredAs}
+use Rattle.ds_script.specs.Replay.{IsReplayed, IsReplayedIn, IsAnsweredUpTo, IsAnsweredInPart}
+use Rattle.ds_script.specs.Replay.{BeginsBadLine, StopsBy, StopsWith, StopsLater}
 use Rattle.ds_script.specs.Progress.{Reached, TakesLines, TakesText, TakesNoneOrAll, TextStops, Turns, TurnStops, Stops, Settles}
 use Rattle.ds_script.proofs.ProgressLemmas.{takes_kept, takes_then}
 use Rattle.ds_script.proofs.RunLemmas.{text_sent, texts_then, stops_then}
@@ -73,9 +75,9 @@ all_lines bytes last lines split unbroken whole =
     record { front = lines; last = last; text = split; unbroken = unbroken; unbroken_last = whole; all = refl }
 
 -- some of the answers are left
-part_of : (policy : BadLines) (to : Option (List ℕ)) (rest input output answers left : List ℕ) (count bad : ℕ) →
-    IsAnsweredUpTo policy rest input count bad answers → answers ≡ output ++ left → IsAnsweredInPart policy to input output
-part_of policy to rest input output answers left count bad u same =
+part_of : (A : List (List ℕ) → ℕ → List ℕ → Type 0) (to : Option (List ℕ)) (rest input output answers left : List ℕ) (count bad : ℕ) →
+    IsAnsweredUpTo A rest input count bad answers → answers ≡ output ++ left → IsAnsweredInPart A to input output
+part_of A to rest input output answers left count bad u same =
     record {
       front = joined u.lines;
       rest = rest;
@@ -88,36 +90,39 @@ part_of policy to rest input output answers left count bad u same =
             lines = u.lines;
             split = whole_lines u.lines u.unbroken;
             answers =
-                subst (λ (o : List ℕ). AreAnswers policy u.lines bad o) same u.answers;
+                subst (λ (o : List ℕ). A u.lines bad o) same u.answers;
             counted = u.counted;
           };
       ends = inl refl;
     }
 
 -- nothing was read
-pub nothing_answered : (policy : BadLines) → IsAnsweredUpTo policy [] [] 0 0 []
+pub nothing_answered : (policy : BadLines) → IsAnsweredUpTo (AreAnswers policy) [] [] 0 0 []
 nothing_answered policy = record { lines = []; unbroken = All-nil IsUnbroken; split = refl; answers = (refl, refl); counted = refl }
+
+-- nor was it in a session
+pub nothing_answered_in : (policy : BadLines) (before : ℕ) (old : SessionContent) →
+    IsAnsweredUpTo (AnswersFrom policy before old) [] [] 0 0 []
+nothing_answered_in policy before old =
+    record { lines = []; unbroken = All-nil IsUnbroken; split = refl; answers = (old, (refl, refl, refl)); counted = refl }
 
 -- ---- from the start
 
--- at the first line
-abbrev pub start : SessionContent → BadLines → Reached
-start session policy = record { session = session; waiting = []; lines = 0; bad = 0; policy = policy }
+-- at the first line, after `before` others
+abbrev pub start : SessionContent → BadLines → ℕ → Reached
+start session policy before = record { session = session; waiting = []; lines = before; bad = 0; policy = policy }
 
 -- what was read and answered since
-pub record Come (from to had has : Option (List ℕ)) (policy : BadLines) (now : Reached) (pending : List ℕ) : Type 0 where
-  pub first : SessionContent
-  pub opened : IsOpened 256 first
+pub record Come (from to had has : Option (List ℕ)) (policy : BadLines) (before : ℕ) (first : SessionContent) (now : Reached)
+    (pending : List ℕ) : Type 0 where
   pub bytes : List ℕ
   pub read : Consumes from to bytes
-  pub text : TakesText had has (start first policy) bytes now pending
+  pub text : TakesText had has (start first policy before) bytes now pending
 
-pub come_none : (from had : Option (List ℕ)) (old : Reached) (pending : List ℕ) → IsOpened 256 old.session → old.waiting ≡ [] →
-    old.lines ≡ 0 → old.bad ≡ 0 → pending ≡ [] → Come from from had had old.policy old pending
-come_none from had old pending opened empty lines bad none =
+pub come_none : (from had : Option (List ℕ)) (old : Reached) (pending : List ℕ) → old.waiting ≡ [] → old.bad ≡ 0 → pending ≡ [] →
+    Come from from had had old.policy old.lines old.session old pending
+come_none from had old pending empty bad none =
     record {
-      first = old.session;
-      opened = opened;
       bytes = [];
       read = Consumes-nil from;
       text =
@@ -126,32 +131,34 @@ come_none from had old pending opened empty lines bad none =
             split = sym none;
             unbroken = All-nil IsUnbroken;
             takes =
-                takes_kept had had (start old.session old.policy) old [] (sym empty) (Appends-nil had) refl lines bad refl;
+                takes_kept had had (start old.session old.policy old.lines) old [] (sym empty) (Appends-nil had) refl refl bad refl;
           };
     }
 
 -- a turn left more to read
-pub come_more : (from mid to had is has : Option (List ℕ)) (policy : BadLines) (old new : Reached) (pending rest : List ℕ)
-    → Come from mid had is policy old pending → Turns true mid to is has old pending new rest
-    → Come from to had has policy new rest × IsUnbroken rest
-come_more from mid to had is has policy old new pending rest p t = (
+pub come_more : (from mid to had is has : Option (List ℕ)) (policy : BadLines) (before : ℕ) (first : SessionContent) (old new : Reached)
+    (pending rest : List ℕ)
+    → Come from mid had is policy before first old pending → Turns true mid to is has old pending new rest
+    → Come from to had has policy before first new rest × IsUnbroken rest
+come_more from mid to had is has policy before first old new pending rest p t = (
   record {
-    first = p.first;
-    opened = p.opened;
     bytes = p.bytes ++ t.0;
     read = Consumes-trans from mid to p.bytes t.0 p.read t.1;
-    text = texts_then had is has (start p.first policy) old new p.bytes pending t.0 (pending ++ t.0) (p.bytes ++ t.0) rest p.text refl refl
+    text = texts_then had is has (start first policy before) old new p.bytes pending t.0 (pending ++ t.0) (p.bytes ++ t.0) rest p.text
+        refl refl
         t.2;
   },
   t.3,
 )
 
-pub come_turn : (from mid to had is has : Option (List ℕ)) (policy : BadLines) (old new : Reached) (pending rest : List ℕ)
+pub come_turn : (from mid to had is has : Option (List ℕ)) (policy : BadLines) (before : ℕ) (first : SessionContent) (old new : Reached)
+    (pending rest : List ℕ)
     (more : Bool)
-    → more ≡ true → Come from mid had is policy old pending → Turns more mid to is has old pending new rest
-    → Come from to had has policy new rest × IsUnbroken rest
-come_turn from mid to had is has policy old new pending rest more same p t =
-    come_more from mid to had is has policy old new pending rest p (subst (λ (m : Bool). Turns m mid to is has old pending new rest) same t)
+    → more ≡ true → Come from mid had is policy before first old pending → Turns more mid to is has old pending new rest
+    → Come from to had has policy before first new rest × IsUnbroken rest
+come_turn from mid to had is has policy before first old new pending rest more same p t =
+    come_more from mid to had is has policy before first old new pending rest p (subst (λ (m : Bool). Turns m mid to is has old pending
+    new rest) same t)
 
 -- ---- to the end
 
@@ -159,17 +166,18 @@ read_all : (from mid to : Option (List ℕ)) (bytes : List ℕ) → Consumes fro
 read_all from mid to bytes first second = subst (Consumes from to) (append-nil bytes) (Consumes-trans from mid to bytes [] first second)
 
 -- all was read and answered
-abbrev pub Answered : (from to had has : Option (List ℕ)) → BadLines → (count bad : ℕ) → Type 0
-Answered from to had has policy count bad =
-    (input output : List ℕ) × Consumes from to input × IsAtEnd to × Appends had has output × IsReplayed policy input count bad output
+abbrev pub Answered : (from to had has : Option (List ℕ)) → BadLines → ℕ → (first last : SessionContent) → (total bad : ℕ) → Type 0
+Answered from to had has policy before first last total bad = (input output : List ℕ) × Consumes from to input × IsAtEnd to ×
+    Appends had has output × IsReplayedIn policy before first last input total bad output
 
-come_whole : (from mid to had is has : Option (List ℕ)) (policy : BadLines) (old new : Reached) (pending rest : List ℕ)
-    → Come from mid had is policy old pending → IsUnbroken pending → Turns false mid to is has old pending new rest
-    → Answered from to had has policy new.lines new.bad
-come_whole from mid to had is has policy old new pending rest p whole t =
+come_whole : (from mid to had is has : Option (List ℕ)) (policy : BadLines) (before : ℕ) (first : SessionContent) (old new : Reached)
+    (pending rest : List ℕ)
+    → Come from mid had is policy before first old pending → IsUnbroken pending → Turns false mid to is has old pending new rest
+    → Answered from to had has policy before first new.session new.lines new.bad
+come_whole from mid to had is has policy before first old new pending rest p whole t =
     let lines : List (List ℕ) = p.text.lines ++ unended pending in
-    let a : TakesLines had has (start p.first policy) lines new =
-    takes_then had is has (start p.first policy) old new p.text.lines (unended pending) p.text.takes t.2 in
+    let a : TakesLines had has (start first policy before) lines new =
+    takes_then had is has (start first policy before) old new p.text.lines (unended pending) p.text.takes t.2 in
     let same : a.output ≡ a.sent = a.split ∙ ap (λ t. a.sent ++ t) t.3 ∙ append-nil a.sent in
     let bads : a.bad ≡ new.bad = omega (arith, a.told) in (
       p.bytes,
@@ -178,61 +186,74 @@ come_whole from mid to had is has policy old new pending rest p whole t =
       t.1,
       subst (Appends had has) (sym same) a.written,
       record {
-        lines = lines;
-        split = all_lines p.bytes pending p.text.lines p.text.split p.text.unbroken whole;
-        answers = are_answers policy lines new.bad a.output p.first new.session p.opened
-            (subst (λ (n : ℕ). AnswersLines policy 0 p.first lines a.output n new.session) bads a.answers);
-        counted = omega (arith, a.counted);
+        count = length lines;
+        answered = record {
+          lines = lines;
+          split = all_lines p.bytes pending p.text.lines p.text.split p.text.unbroken whole;
+          answers = subst (λ (n : ℕ). AnswersLines policy before first lines a.output n new.session) bads a.answers;
+          counted = refl;
+        };
+        counted = a.counted;
       },
     )
 
-pub come_end : (from mid to had is has : Option (List ℕ)) (policy : BadLines) (old new : Reached) (pending rest : List ℕ) (more : Bool)
-    → more ≡ false → Come from mid had is policy old pending → IsUnbroken pending → Turns more mid to is has old pending new rest
-    → Answered from to had has policy new.lines new.bad
-come_end from mid to had is has policy old new pending rest more same p whole t =
-    come_whole from mid to had is has policy old new pending rest p whole
+pub come_end : (from mid to had is has : Option (List ℕ)) (policy : BadLines) (before : ℕ) (first : SessionContent) (old new : Reached)
+    (pending rest : List ℕ) (more : Bool)
+    → more ≡ false → Come from mid had is policy before first old pending → IsUnbroken pending →
+    Turns more mid to is has old pending new rest
+    → Answered from to had has policy before first new.session new.lines new.bad
+come_end from mid to had is has policy before first old new pending rest more same p whole t =
+    come_whole from mid to had is has policy before first old new pending rest p whole
     (subst (λ (m : Bool). Turns m mid to is has old pending new rest) same t)
 
 -- ---- to a fault
 
 -- some input was read and some output written, and the fault ended the replay there
-abbrev pub Stopped : BadLines → ReplayFault → (from to had has : Option (List ℕ)) → List ℕ → Type 0
-Stopped policy fault from to had has waiting =
-    (input output : List ℕ) × Consumes from to input × Appends had has output × Stops policy fault to input output waiting
+abbrev pub Stopped : BadLines → ℕ → SessionContent → ReplayFault → (from to had has : Option (List ℕ)) → List ℕ → Type 0
+Stopped policy before first fault from to had has waiting =
+    (input output : List ℕ) × Consumes from to input × Appends had has output × Stops policy before first fault to input output waiting
 
 -- whole lines were answered
-up_to : (had has : Option (List ℕ)) (first : SessionContent) (policy : BadLines) (now : Reached) (input rest waiting : List ℕ) →
-    IsOpened 256 first → (t : TakesText had has (start first policy) input now rest) → now.waiting ≡ waiting
-    → IsAnsweredUpTo policy rest input now.lines t.takes.bad (t.takes.sent ++ waiting)
-up_to had has first policy now input rest waiting opened t same =
+up_to : (had has : Option (List ℕ)) (first : SessionContent) (policy : BadLines) (before : ℕ) (now : Reached) (input rest waiting : List ℕ)
+    → (t : TakesText had has (start first policy before) input now rest) → now.waiting ≡ waiting
+    → IsAnsweredUpTo (AnswersFrom policy before first) rest input (length t.lines) t.takes.bad (t.takes.sent ++ waiting)
+up_to had has first policy before now input rest waiting t same =
     let split : t.takes.output ≡ t.takes.sent ++ waiting = t.takes.split ∙ ap (λ w. t.takes.sent ++ w) same in
     record {
       lines = t.lines;
       unbroken = t.unbroken;
       split = t.split;
-      answers = are_answers policy t.lines t.takes.bad (t.takes.sent ++ waiting) first now.session opened
-          (subst (λ (o : List ℕ). AnswersLines policy 0 first t.lines o t.takes.bad now.session) split t.takes.answers);
-      counted = omega (arith, t.takes.counted);
+      answers = (
+        now.session,
+        subst (λ (o : List ℕ). AnswersLines policy before first t.lines o t.takes.bad now.session) split t.takes.answers,
+      );
+      counted = refl;
     }
 
-unwritten : (from to had has : Option (List ℕ)) (first : SessionContent) (policy : BadLines) (now : Reached)
+unwritten : (from to had has : Option (List ℕ)) (first : SessionContent) (policy : BadLines) (before : ℕ) (now : Reached)
     (input rest waiting : List ℕ)
-    → IsOpened 256 first → Consumes from to input → (t : TakesText had has (start first policy) input now rest)
-    → Stopped policy WriteFault from to had has waiting
-unwritten from to had has first policy now input rest waiting opened read t = (
+    → Consumes from to input → (t : TakesText had has (start first policy before) input now rest)
+    → Stopped policy before first WriteFault from to had has waiting
+unwritten from to had has first policy before now input rest waiting read t = (
   input,
   t.takes.sent,
   read,
   t.takes.written,
-  part_of policy to rest input t.takes.sent (t.takes.sent ++ now.waiting) now.waiting
-      now.lines t.takes.bad (up_to had has first policy now input rest now.waiting opened t refl) refl,
+  part_of (AnswersFrom policy before first) to rest input t.takes.sent (t.takes.sent ++ now.waiting) now.waiting
+      (length t.lines) t.takes.bad (up_to had has first policy before now input rest now.waiting t refl) refl,
 )
 
-text_stopped : (fault : ReplayFault) (from to had has : Option (List ℕ)) (first : SessionContent) (policy : BadLines)
+-- the bad line after those that were answered
+bad_line_after : (lines : ℕ) (to : Option (List ℕ)) (rest : List ℕ) (number place total : ℕ) → total ≡ lines →
+    BeginsBadLine lines to rest place × (number ≡ suc lines) → BeginsBadLine total to rest place × (number ≡ suc total)
+bad_line_after lines to rest number place total same b =
+    subst (λ (n : ℕ). BeginsBadLine n to rest place × (number ≡ suc n)) (sym same) b
+
+text_stopped : (fault : ReplayFault) (from to had has : Option (List ℕ)) (first : SessionContent) (policy : BadLines) (before : ℕ)
     (input waiting : List ℕ)
-    → IsOpened 256 first → Consumes from to input → TextStops fault to had has (start first policy) input waiting
-    → Stopped policy fault from to had has waiting
-text_stopped (BadLine number place expected) from to had has first policy input waiting opened read s =
+    → Consumes from to input → TextStops fault to had has (start first policy before) input waiting
+    → Stopped policy before first fault from to had has waiting
+text_stopped (BadLine number place expected) from to had has first policy before input waiting read s =
     let t = s.2.takes in (
       input,
       t.sent,
@@ -241,35 +262,52 @@ text_stopped (BadLine number place expected) from to had has first policy input 
       (
         sym t.policy ∙
             s.3.0,
-        (s.0.lines, t.bad, s.1, up_to had has first policy s.0 input s.1 waiting opened s.2 s.3.1, (s.3.2, s.3.3)),
+        (
+          length s.2.lines,
+          t.bad,
+          s.1,
+          up_to had has first policy before s.0 input s.1 waiting s.2 s.3.1,
+          bad_line_after s.0.lines to s.1 number place (before + length s.2.lines) (sym t.counted) (s.3.2, s.3.3),
+        ),
       ),
     )
-text_stopped ReadFault from to had has first policy input waiting opened read s =
-    let t = s.2.takes in
-    (input, t.sent, read, t.written, (s.0.lines, t.bad, s.1, up_to had has first policy s.0 input s.1 waiting opened s.2 s.3.0, s.3.1))
-text_stopped WriteFault from to had has first policy input waiting opened read s =
-    unwritten from to had has first policy s.0 input s.1 waiting opened read s.2
-text_stopped NoRoom from to had has first policy input waiting opened read s =
-    let t = s.2.takes in
-    (input, t.sent, read, t.written, (s.0.lines, t.bad, s.1, up_to had has first policy s.0 input s.1 waiting opened s.2 s.3, tt))
+text_stopped ReadFault from to had has first policy before input waiting read s =
+    let t = s.2.takes in (
+      input,
+      t.sent,
+      read,
+      t.written,
+      (length s.2.lines, t.bad, s.1, up_to had has first policy before s.0 input s.1 waiting s.2 s.3.0, s.3.1),
+    )
+text_stopped WriteFault from to had has first policy before input waiting read s =
+    unwritten from to had has first policy before s.0 input s.1 waiting read s.2
+text_stopped NoRoom from to had has first policy before input waiting read s =
+    let t = s.2.takes in (
+      input,
+      t.sent,
+      read,
+      t.written,
+      (length s.2.lines, t.bad, s.1, up_to had has first policy before s.0 input s.1 waiting s.2 s.3, tt),
+    )
 
 -- the answer to the last line wasn't written whole
-last_stopped : (from mid to had is has : Option (List ℕ)) (policy : BadLines) (old : Reached) (pending waiting : List ℕ)
-    → Come from mid had is policy old pending → IsUnbroken pending → Consumes mid to [] → IsAtEnd to
+last_stopped : (from mid to had is has : Option (List ℕ)) (policy : BadLines) (before : ℕ) (first : SessionContent) (old : Reached)
+    (pending waiting : List ℕ)
+    → Come from mid had is policy before first old pending → IsUnbroken pending → Consumes mid to [] → IsAtEnd to
     → TakesNoneOrAll is has old (unended pending)
-    → Stopped policy WriteFault from to had has waiting
-last_stopped from mid to had is has policy old pending waiting p whole read end s =
+    → Stopped policy before first WriteFault from to had has waiting
+last_stopped from mid to had is has policy before first old pending waiting p whole read end s =
     let input : Consumes from to p.bytes = read_all from mid to p.bytes p.read read in
     elim s.2 [
       | inl none ↦
           (let sent : TakesLines is has old [] s.1 = subst (λ (ls : List (List ℕ)). TakesLines is has old ls s.1) none s.3 in
-          unwritten from to had has p.first policy s.1 p.bytes pending waiting p.opened input
-          (text_sent had is has (start p.first policy) old s.1 p.bytes pending p.text sent))
+          unwritten from to had has first policy before s.1 p.bytes pending waiting input
+          (text_sent had is has (start first policy before) old s.1 p.bytes pending p.text sent))
       | inr all ↦
           (let one : TakesLines is has old (unended pending) s.1 = subst (λ (ls : List (List ℕ)). TakesLines is has old ls s.1) all s.3 in
           let lines : List (List ℕ) = p.text.lines ++ unended pending in
-          let a : TakesLines had has (start p.first policy) lines s.1 =
-          takes_then had is has (start p.first policy) old s.1 p.text.lines (unended pending) p.text.takes one in (
+          let a : TakesLines had has (start first policy before) lines s.1 =
+          takes_then had is has (start first policy before) old s.1 p.text.lines (unended pending) p.text.takes one in (
             p.bytes,
             a.sent,
             input,
@@ -284,8 +322,10 @@ last_stopped from mid to had is has policy old pending waiting p whole read end 
               answered = record {
                 lines = lines;
                 split = all_lines p.bytes pending p.text.lines p.text.split p.text.unbroken whole;
-                answers = are_answers policy lines a.bad (a.sent ++ s.1.waiting) p.first s.1.session p.opened
-                    (subst (λ (o : List ℕ). AnswersLines policy 0 p.first lines o a.bad s.1.session) a.split a.answers);
+                answers = (
+                  s.1.session,
+                  subst (λ (o : List ℕ). AnswersLines policy before first lines o a.bad s.1.session) a.split a.answers,
+                );
                 counted = refl;
               };
               ends = inr (refl, end);
@@ -294,72 +334,133 @@ last_stopped from mid to had is has policy old pending waiting p whole read end 
     ]
 
 -- a turn stopped
-pub come_stop : (fault : ReplayFault) (from mid to had is has : Option (List ℕ)) (policy : BadLines) (old : Reached)
+pub come_stop : (fault : ReplayFault) (from mid to had is has : Option (List ℕ)) (policy : BadLines) (before : ℕ) (first : SessionContent)
+    (old : Reached)
     (pending waiting : List ℕ)
-    → Come from mid had is policy old pending → IsUnbroken pending → TurnStops fault mid to is has old pending waiting
-    → Stopped policy fault from to had has waiting
-come_stop fault from mid to had is has policy old pending waiting p whole s =
+    → Come from mid had is policy before first old pending → IsUnbroken pending → TurnStops fault mid to is has old pending waiting
+    → Stopped policy before first fault from to had has waiting
+come_stop fault from mid to had is has policy before first old pending waiting p whole s =
     elim s [
       | inl t ↦
-          text_stopped fault from to had has p.first policy (p.bytes ++ t.0) waiting p.opened
+          text_stopped fault from to had has first policy before (p.bytes ++ t.0) waiting
           (Consumes-trans from mid to p.bytes t.0 p.read t.1)
-          (stops_then fault to had is has (start p.first policy) old p.bytes pending t.0 (pending ++ t.0) (p.bytes ++ t.0) waiting
+          (stops_then fault to had is has (start first policy before) old p.bytes pending t.0 (pending ++ t.0) (p.bytes ++ t.0) waiting
           p.text refl refl t.2)
       | inr t ↦ elim t.2 [
         | inl u ↦
-            text_stopped fault from to had has p.first policy p.bytes waiting p.opened (read_all from mid to p.bytes p.read t.0)
-            (stops_then fault to had is has (start p.first policy) old p.bytes pending [] pending p.bytes waiting p.text
+            text_stopped fault from to had has first policy before p.bytes waiting (read_all from mid to p.bytes p.read t.0)
+            (stops_then fault to had is has (start first policy before) old p.bytes pending [] pending p.bytes waiting p.text
             (append-nil pending) (append-nil p.bytes) u)
-        | inr u ↦ subst (λ (f : ReplayFault). Stopped policy f from to had has waiting) (sym u.0)
-            (last_stopped from mid to had is has policy old pending waiting p whole t.0 t.1 u.1)
+        | inr u ↦ subst (λ (f : ReplayFault). Stopped policy before first f from to had has waiting) (sym u.0)
+            (last_stopped from mid to had is has policy before first old pending waiting p whole t.0 t.1 u.1)
       ]
     ]
 
 -- the turns are over
-pub come_over : (from to had has : Option (List ℕ)) (policy : BadLines) (now : Reached) (pending : List ℕ) →
-    Come from to had has policy now pending → IsUnbroken pending → Stopped policy ReadFault from to had has now.waiting
-come_over from to had has policy now pending p whole =
-    text_stopped ReadFault from to had has p.first policy p.bytes now.waiting p.opened p.read (now, pending, p.text, (refl, whole))
+pub come_over : (from to had has : Option (List ℕ)) (policy : BadLines) (before : ℕ) (first : SessionContent) (now : Reached) (pending :
+    List ℕ) →
+    Come from to had has policy before first now pending → IsUnbroken pending →
+    Stopped policy before first ReadFault from to had has now.waiting
+come_over from to had has policy before first now pending p whole =
+    text_stopped ReadFault from to had has first policy before p.bytes now.waiting p.read (now, pending, p.text, (refl, whole))
 
 -- ---- after a fault
 
 -- what the caller learns
-abbrev pub Told : BadLines → ReplayFault → (from to had has : Option (List ℕ)) → Type 0
-Told policy fault from to had has = (input output : List ℕ) × Consumes from to input × Appends had has output ×
-    StopsWith policy fault to input output
+abbrev pub Told : BadLines → ℕ → SessionContent → ReplayFault → (from to had has : Option (List ℕ)) → Type 0
+Told policy before first fault from to had has = (input output : List ℕ) × Consumes from to input × Appends had has output ×
+    StopsLater policy before first fault to input output
 
 -- the answers that waited were written, or the writer failed
-settles : (policy : BadLines) (fault given : ReplayFault) (from to had is has : Option (List ℕ)) (input output waiting rest : List ℕ)
+settles : (policy : BadLines) (before : ℕ) (first : SessionContent) (fault given : ReplayFault) (from to had is has : Option (List ℕ))
+    (input output waiting rest : List ℕ)
     (count bad : ℕ)
-    → Consumes from to input → Appends had is output → IsAnsweredUpTo policy rest input count bad (output ++ waiting)
-    → StopsWith policy fault to input (output ++ waiting)
+    → Consumes from to input → Appends had is output →
+    IsAnsweredUpTo (AnswersFrom policy before first) rest input count bad (output ++ waiting)
+    → StopsLater policy before first fault to input (output ++ waiting)
     → ((given ≡ fault) × Appends is has waiting) ⊎
-    ((given ≡ WriteFault) × ((sent left : List ℕ) × (waiting ≡ sent ++ left) × Appends is has sent)) → Told policy given from to had has
-settles policy fault given from to had is has input output waiting rest count bad read written up s h =
+    ((given ≡ WriteFault) × ((sent left : List ℕ) × (waiting ≡ sent ++ left) × Appends is has sent)) →
+    Told policy before first given from to had has
+settles policy before first fault given from to had is has input output waiting rest count bad read written up s h =
     elim h [
-      | inl w ↦ subst (λ (f : ReplayFault). Told policy f from to had has) (sym w.0)
+      | inl w ↦ subst (λ (f : ReplayFault). Told policy before first f from to had has) (sym w.0)
           (input, output ++ waiting, read, Appends-trans had is has output waiting written w.1, s)
       | inr w ↦
           (let v = w.1 in
-          subst (λ (f : ReplayFault). Told policy f from to had has) (sym w.0) (
+          subst (λ (f : ReplayFault). Told policy before first f from to had has) (sym w.0) (
             input,
             output ++ v.0,
             read,
             Appends-trans had is has output v.0 written v.3,
-            part_of policy to rest input (output ++ v.0) (output ++ waiting) v.1 count bad up
+            part_of (AnswersFrom policy before first) to rest input (output ++ v.0) (output ++ waiting) v.1 count bad up
                 (ap (λ t. output ++ t) v.2 ∙ sym (append_assoc output v.0 v.1)),
           ))
     ]
 
-pub settled_stops : (policy : BadLines) (fault given : ReplayFault) (from to had is has : Option (List ℕ)) (waiting : List ℕ)
-    → Stopped policy fault from to had is waiting → Settles given fault is has waiting → Told policy given from to had has
-settled_stops policy (BadLine number place expected) given from to had is has waiting s h =
+pub settled_stops : (policy : BadLines) (before : ℕ) (first : SessionContent) (fault given : ReplayFault) (from to had is has : Option
+    (List ℕ)) (waiting : List ℕ)
+    → Stopped policy before first fault from to had is waiting → Settles given fault is has waiting →
+    Told policy before first given from to had has
+settled_stops policy before first (BadLine number place expected) given from to had is has waiting s h =
     let at = s.4.1 in
-    settles policy (BadLine number place expected) given from to had is has s.0 s.1 waiting at.2 at.0 at.1 s.2 s.3 at.3 s.4 h
-settled_stops policy ReadFault given from to had is has waiting s h =
-    settles policy ReadFault given from to had is has s.0 s.1 waiting s.4.2 s.4.0 s.4.1 s.2 s.3 s.4.3 s.4 h
-settled_stops policy WriteFault given from to had is has waiting s h =
-    subst (λ (f : ReplayFault). Told policy f from to had has) (sym h.0)
+    settles policy before first (BadLine number place expected) given from to had is has s.0 s.1 waiting at.2 at.0 at.1 s.2 s.3 at.3 s.4 h
+settled_stops policy before first ReadFault given from to had is has waiting s h =
+    settles policy before first ReadFault given from to had is has s.0 s.1 waiting s.4.2 s.4.0 s.4.1 s.2 s.3 s.4.3 s.4 h
+settled_stops policy before first WriteFault given from to had is has waiting s h =
+    subst (λ (f : ReplayFault). Told policy before first f from to had has) (sym h.0)
     (s.0, s.1, s.2, subst (λ (w : Option (List ℕ)). Appends had w s.1) (sym h.1) s.3, s.4)
-settled_stops policy NoRoom given from to had is has waiting s h =
-    settles policy NoRoom given from to had is has s.0 s.1 waiting s.4.2 s.4.0 s.4.1 s.2 s.3 s.4.3 s.4 h
+settled_stops policy before first NoRoom given from to had is has waiting s h =
+    settles policy before first NoRoom given from to had is has s.0 s.1 waiting s.4.2 s.4.0 s.4.1 s.2 s.3 s.4.3 s.4 h
+
+-- ---- from a new session
+
+-- the answers from a session that was just opened are a new script's
+pub opened_answers : (policy : BadLines) (first : SessionContent) (lines : List (List ℕ)) (bad : ℕ) (output : List ℕ) → IsOpened 256 first →
+    AnswersFrom policy 0 first lines bad output → AreAnswers policy lines bad output
+opened_answers policy first lines bad output opened a = are_answers policy lines bad output first a.0 opened a.1
+
+pub opened_replayed : (policy : BadLines) (first last : SessionContent) (input : List ℕ) (total bad : ℕ) (output : List ℕ) →
+    IsOpened 256 first → IsReplayedIn policy 0 first last input total bad output → IsReplayed policy input total bad output
+opened_replayed policy first last input total bad output opened r =
+    record {
+      lines = r.answered.lines;
+      split = r.answered.split;
+      answers = are_answers policy r.answered.lines bad output first last opened r.answered.answers;
+      counted = omega (arith, r.answered.counted, r.counted);
+    }
+
+opened_up_to : (policy : BadLines) (first : SessionContent) (rest input : List ℕ) (count bad : ℕ) (output : List ℕ) → IsOpened 256 first →
+    IsAnsweredUpTo (AnswersFrom policy 0 first) rest input count bad output → IsAnsweredUpTo (AreAnswers policy) rest input count bad output
+opened_up_to policy first rest input count bad output opened u =
+    record {
+      lines = u.lines;
+      unbroken = u.unbroken;
+      split = u.split;
+      answers = opened_answers policy first u.lines bad output opened u.answers;
+      counted = u.counted;
+    }
+
+pub opened_stops : (policy : BadLines) (first : SessionContent) (fault : ReplayFault) (to : Option (List ℕ)) (input output : List ℕ) →
+    IsOpened 256 first → StopsLater policy 0 first fault to input output → StopsWith policy fault to input output
+opened_stops policy first (BadLine number place expected) to input output opened s =
+    (s.0, (s.1.0, s.1.1, s.1.2, opened_up_to policy first s.1.2 input s.1.0 s.1.1 output opened s.1.3, s.1.4))
+opened_stops policy first ReadFault to input output opened s =
+    (s.0, s.1, s.2, opened_up_to policy first s.2 input s.0 s.1 output opened s.3, s.4)
+opened_stops policy first WriteFault to input output opened s =
+    record {
+      front = s.front;
+      rest = s.rest;
+      left = s.left;
+      count = s.count;
+      bad = s.bad;
+      split = s.split;
+      answered = record {
+        lines = s.answered.lines;
+        split = s.answered.split;
+        answers = opened_answers policy first s.answered.lines s.bad (output ++ s.left) opened s.answered.answers;
+        counted = s.answered.counted;
+      };
+      ends = s.ends;
+    }
+opened_stops policy first NoRoom to input output opened s =
+    (s.0, s.1, s.2, opened_up_to policy first s.2 input s.0 s.1 output opened s.3, s.4)

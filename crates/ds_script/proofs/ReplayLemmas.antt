@@ -9,7 +9,8 @@ use Rattle.ds_script.specs.Left.{text_left}
 use Rattle.ds_script.specs.Stops.{StopsWhatIsLeft}
 use Rattle.ds_script.specs.declared.fault.ReplayFault.{ReplayFault}
 use Rattle.ds_script.specs.declared.report.BadLines.{BadLines}
-use Rattle.ds_script.specs.Replay.{StopsWith}
+use Rattle.ds_script.specs.Session.{SessionContent}
+use Rattle.ds_script.specs.Replay.{StopsLater}
 
 -- Where all was read, what holds of the input that was read holds of what is left.
 pub answered_of : (old new : Option (List ℕ)) (input : List ℕ) (P : List ℕ → Type 0) →
@@ -20,10 +21,12 @@ answered_of (Some text) (Some rest) input P read end holds =
     subst P (sym (read ∙ ap (λ l. input ++ l) end ∙ append-nil input)) holds
 
 -- Where a part was read, a fault that ends the replay of that part ends that of what is left.
-pub stopped_of : (policy : BadLines) (fault : ReplayFault) (old new had has : Option (List ℕ)) (input output : List ℕ) →
-    Consumes (option_map (text_left Begins) old) new input → Appends had has output → StopsWith policy fault new input output →
-    IfSome old (λ text. StopsWhatIsLeft policy fault had has text)
-stopped_of policy fault None new had has input output read written stops = tt
-stopped_of policy fault (Some text) None had has input output read written stops = absurd read
-stopped_of policy fault (Some text) (Some rest) had has input output read written stops =
+pub stopped_of : (policy : BadLines) (before : ℕ) (first : SessionContent) (fault : ReplayFault) (old new had has : Option (List ℕ))
+    (input output : List ℕ) →
+    Consumes (option_map (text_left Begins) old) new input → Appends had has output →
+    StopsLater policy before first fault new input output →
+    IfSome old (λ text. StopsWhatIsLeft policy before first fault had has text)
+stopped_of policy before first fault None new had has input output read written stops = tt
+stopped_of policy before first fault (Some text) None had has input output read written stops = absurd read
+stopped_of policy before first fault (Some text) (Some rest) had has input output read written stops =
     record { input = input; rest = rest; output = output; split = read; written = written; stops = stops }

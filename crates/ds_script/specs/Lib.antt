@@ -1,3 +1,4 @@
+pub mod Saved
 pub mod Session
 pub mod Answer
 pub mod Replay

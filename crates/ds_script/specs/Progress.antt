@@ -12,7 +12,7 @@ use Rattle.ds_script.specs.declared.report.BadLines.{BadLines}
 use Rattle.ds_script.specs.declared.report.BadLines.TheVariants.{End}
 use Rattle.ds_script.specs.Session.{SessionContent}
 use Rattle.line_io.specs.Transfer.{WritesPart}
-use Rattle.ds_script.specs.Replay.{AnswersLines, IsBadAfter, BeginsBadLine, badline, StopsWith}
+use Rattle.ds_script.specs.Replay.{AnswersLines, IsBadAfter, BeginsBadLine, badline, StopsLater}
 
 -- The state of a replay: its session, the answers that wait to be written, the count of lines and of bad ones, and what
 -- it does at bad lines.
@@ -120,11 +120,11 @@ TurnStops fault from to had has old pending output =
     ((bytes : List ℕ) × Consumes from to bytes × TextStops fault to had has old (pending ++ bytes) output)
     ⊎ (Consumes from to [] × IsAtEnd to × LastStops fault to had has old pending output)
 
--- How the written and the waiting answers answer the input. This is what the fault promises once the waiting answers
--- are written too; for a writer that failed, it holds already.
-abbrev pub Stops : BadLines → ReplayFault → (to : Option (List ℕ)) → (input output waiting : List ℕ) → Type 0
-Stops policy WriteFault to input output waiting = StopsWith policy WriteFault to input output
-Stops policy fault to input output waiting = StopsWith policy fault to input (output ++ waiting)
+-- How the written and the waiting answers answer the input, from the session `first` after `before` lines on. This is
+-- what the fault promises once the waiting answers are written too; for a writer that failed, it holds already.
+abbrev pub Stops : BadLines → ℕ → SessionContent → ReplayFault → (to : Option (List ℕ)) → (input output waiting : List ℕ) → Type 0
+Stops policy before first WriteFault to input output waiting = StopsLater policy before first WriteFault to input output
+Stops policy before first fault to input output waiting = StopsLater policy before first fault to input (output ++ waiting)
 
 -- The fault of a whole replay, after the waiting answers are written.
 abbrev pub Settles : ReplayFault → ReplayFault → (had has : Option (List ℕ)) → List ℕ → Type 0

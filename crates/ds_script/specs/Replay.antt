@@ -45,31 +45,47 @@ AreAnswers policy [] bad output = (output ≡ []) × (bad ≡ 0)
 AreAnswers policy (line ∷ lines) bad output =
     (start end : SessionContent) × IsOpened 256 start × AnswersLines policy 0 start (line ∷ lines) output bad end
 
--- Whether the input is `count` lines, `bad` of them bad, and the output is all their answers.
-pub record IsReplayed (policy : BadLines) (input : List ℕ) (count bad : ℕ) (output : List ℕ) : Type 0 where
+-- The answers to lines after `before` others, from a session to some other.
+abbrev pub AnswersFrom : BadLines → ℕ → SessionContent → List (List ℕ) → ℕ → List ℕ → Type 0
+AnswersFrom policy before old lines bad output = (new : SessionContent) × AnswersLines policy before old lines output bad new
+
+-- Whether the input is `count` lines, `bad` of them bad, and the output is all their answers, as A has them.
+pub record IsAnsweredAs (A : List (List ℕ) → ℕ → List ℕ → Type 0) (input : List ℕ) (count bad : ℕ) (output : List ℕ) : Type 0 where
   pub lines : List (List ℕ)
   pub split : HasLines input lines
-  pub answers : AreAnswers policy lines bad output
+  pub answers : A lines bad output
   pub counted : length lines ≡ count
 
+-- Like `IsAnsweredAs`, for a script from a new session on.
+abbrev pub IsReplayed : BadLines → List ℕ → ℕ → ℕ → List ℕ → Type 0
+IsReplayed policy input count bad output = IsAnsweredAs (AreAnswers policy) input count bad output
+
+-- Whether the input is lines after `before` others, `total` is the count of them all, `bad` of the input's are bad, and
+-- the output is all their answers, which lead from the old session to the new one.
+pub record IsReplayedIn (policy : BadLines) (before : ℕ) (old new : SessionContent) (input : List ℕ) (total bad : ℕ) (output : List ℕ) :
+    Type 0 where
+  pub count : ℕ
+  pub answered : IsAnsweredAs (λ lines n out. AnswersLines policy before old lines out n new) input count bad output
+  pub counted : total ≡ before + count
+
 -- Whether the input is `count` whole lines and then `rest`, and the output is the answers to these lines.
-pub record IsAnsweredUpTo (policy : BadLines) (rest input : List ℕ) (count bad : ℕ) (output : List ℕ) : Type 0 where
+pub record IsAnsweredUpTo (A : List (List ℕ) → ℕ → List ℕ → Type 0) (rest input : List ℕ) (count bad : ℕ) (output : List ℕ) : Type 0 where
   pub lines : List (List ℕ)
   pub unbroken : All IsUnbroken lines
   pub split : input ≡ joined lines ++ rest
-  pub answers : AreAnswers policy lines bad output
+  pub answers : A lines bad output
   pub counted : length lines ≡ count
 
 -- Whether the output is the answers to a front of the input, except the last of them, `left`. The front ends with a
 -- newline, or is all that there was to read.
-pub record IsAnsweredInPart (policy : BadLines) (to : Option (List ℕ)) (input output : List ℕ) : Type 0 where
+pub record IsAnsweredInPart (A : List (List ℕ) → ℕ → List ℕ → Type 0) (to : Option (List ℕ)) (input output : List ℕ) : Type 0 where
   pub front : List ℕ
   pub rest : List ℕ
   pub left : List ℕ
   pub count : ℕ
   pub bad : ℕ
   pub split : input ≡ front ++ rest
-  pub answered : IsReplayed policy front count bad (output ++ left)
+  pub answered : IsAnsweredAs A front count bad (output ++ left)
   pub ends : (answered.split.last ≡ []) ⊎ ((rest ≡ []) × IsAtEnd to)
 
 -- Whether the rest, after `before` lines, begins with a line that is bad at the place. It was read up to its newline,
@@ -83,14 +99,23 @@ pub record BeginsBadLine (before : ℕ) (to : Option (List ℕ)) (rest : List �
   pub ends : ((after : List ℕ) × (more ≡ 10 ∷ after)) ⊎ (((more ≡ []) × IsAtEnd to) ⊎ (4096 < length line))
 
 -- Whether all lines before the rest are answered.
-abbrev pub ReplayStops : BadLines → (ℕ → List ℕ → Type 0) → List ℕ → List ℕ → Type 0
-ReplayStops policy Why input output = (count bad : ℕ) × (rest : List ℕ) × IsAnsweredUpTo policy rest input count bad output × Why count rest
+abbrev pub ReplayStops : (List (List ℕ) → ℕ → List ℕ → Type 0) → (ℕ → List ℕ → Type 0) → List ℕ → List ℕ → Type 0
+ReplayStops A Why input output = (count bad : ℕ) × (rest : List ℕ) × IsAnsweredUpTo A rest input count bad output × Why count rest
 
--- How the output answers the input when a fault ends the replay; `to` is what the reader has left. A bad line ends it
--- only under the policy End.
+-- How the output answers the input, after `before` lines, when a fault ends the replay; `to` is what the reader has left.
+-- A bad line ends it only under the policy End.
+abbrev pub StopsBy : (List (List ℕ) → ℕ → List ℕ → Type 0) → ℕ → BadLines → ReplayFault → Option (List ℕ) → List ℕ → List ℕ → Type 0
+StopsBy A before policy (BadLine number place expected) to input output =
+    (policy ≡ End)
+    × ReplayStops A (λ count rest. BeginsBadLine (before + count) to rest place × (number ≡ suc (before + count))) input output
+StopsBy A before policy ReadFault to input output = ReplayStops A (λ count rest. IsUnbroken rest) input output
+StopsBy A before policy WriteFault to input output = IsAnsweredInPart A to input output
+StopsBy A before policy NoRoom to input output = ReplayStops A (λ count rest. Unit {0}) input output
+
+-- Like `StopsBy`, for a script from a new session on.
 abbrev pub StopsWith : BadLines → ReplayFault → Option (List ℕ) → List ℕ → List ℕ → Type 0
-StopsWith policy (BadLine number place expected) to input output =
-    (policy ≡ End) × ReplayStops policy (λ count rest. BeginsBadLine count to rest place × (number ≡ suc count)) input output
-StopsWith policy ReadFault to input output = ReplayStops policy (λ count rest. IsUnbroken rest) input output
-StopsWith policy WriteFault to input output = IsAnsweredInPart policy to input output
-StopsWith policy NoRoom to input output = ReplayStops policy (λ count rest. Unit {0}) input output
+StopsWith policy fault to input output = StopsBy (AreAnswers policy) 0 policy fault to input output
+
+-- Like `StopsBy`, for a script that continues a session.
+abbrev pub StopsLater : BadLines → ℕ → SessionContent → ReplayFault → Option (List ℕ) → List ℕ → List ℕ → Type 0
+StopsLater policy before old fault to input output = StopsBy (AnswersFrom policy before old) before policy fault to input output

@@ -1,5 +1,5 @@
 -- What the steps of a replay do to its session, the waiting answers and the writer.
-use Rattle.std.specs.Prelude.{◌≡◌, ℕ, ◌≤◌, suc, Bool, List, [], ◌∷◌, Option, Result, MatchResult}
+use Rattle.std.specs.Prelude.{◌≡◌, ℕ, ◌≤◌, ◌+◌, ◌^◌, suc, Bool, List, [], ◌∷◌, Option, Result, MatchResult}
 use Rattle.std.specs.Io.KnownBytes.{IsAtEnd}
 use Rattle.line_io.specs.Lines.{IsUnbroken, unended, with_newline}
 use Rattle.ds_script.specs.declared.fault.ReplayFault.{ReplayFault}
@@ -9,7 +9,6 @@ use Rattle.line_io.specs.Streams.{OnlyCalls}
 use Rattle.ds_script.specs.declared.report.BadLines.{BadLines}
 use Rattle.ds_script.specs.declared.report.BadLines.TheVariants.{End, GoOn}
 use Rattle.ds_script.specs.declared.taking.Replay.{Replay}
-use Rattle.ds_script.specs.Session.{IsOpened}
 use Rattle.line_io.specs.Reading.{LinesContent, no_lines}
 use Rattle.ds_script.specs.Replay.{IsBadAfter}
 use Rattle.ds_script.specs.Progress.{Reached, TakesLines, TakesText, LineStops, TextStops, LastStops, Turns, TurnStops}
@@ -20,7 +19,7 @@ use Rattle.ds_script.specs.Causes.{HasWriteCause, HasTurnCause}
 -- The state that the replay has reached.
 abbrev pub reached : {W B : Type 0} → Replay W B → Reached
 reached it = record {
-  session = it.session.now;
+  session = it.session;
   waiting = it.output.items;
   lines = it.tally.lines;
   bad = it.tally.bad;
@@ -130,15 +129,15 @@ abbrev pub TakesTurn : {R W B : Type 0} → Reader R → Writer W → (from to :
 TakesTurn r w from to old new pending rest result =
     MatchResult result (TurnsBy r w from to old new pending rest) (StopsInTurn r w from to old new pending)
 
--- Whether the replay has counted the lines so far, after one more read.
+-- Whether the replay has counted the lines so far, after one more read. Earlier replays of the session had at most 2^32.
 pub record KeepsCount {W B : Type 0} (replay : Replay W B) (old new : LinesContent) : Type 0 where
-  pub count : replay.tally.lines ≡ new.count
+  pub count : replay.tally.lines ≤ new.count + 2 ^ 32
   pub reads : new.reads ≡ suc old.reads
 
--- Whether nothing has been read or answered yet.
-pub record IsAtStart {W B : Type 0} (replay : Replay W B) (at : LinesContent) : Type 0 where
-  pub opened : IsOpened 256 replay.session.now
+-- Whether nothing has been read or answered yet, since `before` lines.
+pub record IsAtStart {W B : Type 0} (before : ℕ) (replay : Replay W B) (at : LinesContent) : Type 0 where
+  pub few : before ≤ 2 ^ 32
   pub waiting : replay.output.items ≡ []
-  pub lines : replay.tally.lines ≡ 0
+  pub lines : replay.tally.lines ≡ before
   pub bad : replay.tally.bad ≡ 0
   pub nothing : at ≡ no_lines

@@ -1,4 +1,5 @@
-//! Scripts: a session over a world of two stores, and its replay, which answers a script line by line.
+//! Scripts: a session over a world of two stores, and its replay, which answers a script line by line. A session may go
+//! through several scripts, and its store may be saved as one.
 //!
 //! A script sends commands to the stores, RS and the driver tables, makes maps, and delivers messages, one command a
 //! line. The fault of a replay that ends early tells reading, writing and memory apart. The lines and their answers are
@@ -22,6 +23,7 @@ mod note_laws;
 mod place;
 mod replaying;
 mod report;
+mod saved;
 mod session;
 mod shown;
 mod stream;
@@ -35,4 +37,6 @@ pub use laws::{none_is_bad_where_one_ends, scripts_are_events};
 pub use note_laws::whole_lines_are_left;
 pub use replaying::replay_without_notes;
 pub use report::{BadLine, BadLines, Report};
+pub use saved::append_saved;
+pub use session::{RING, Session};
 pub use stream::{Replayed, replay, replay_reporting};

@@ -7,6 +7,7 @@ ghost use Rattle.ds_machine.specs.declared.command.Command.TheVariants.{Merge};
 ghost use Rattle.ds_replica.specs.Happens.{gives_items};
 ghost use Rattle.ds_replica.specs.declared.event.Event.TheVariants.{Ask};
 ghost use Rattle.ds_replica.specs.declared.outcome.Outcome.TheVariants.{Replied};
+ghost use Rattle.ds_world.specs.World.{store_in};
 ghost use Rattle.ds_script.specs.Session.{IsOpened, seed as described_seed, held_of, turned, IsHappening};
 
 use ds_entry::Item;
@@ -23,11 +24,11 @@ use std::marker::Model;
 mod servers;
 
 /// How many items each store's journal keeps, unless the first line says otherwise.
-pub(crate) const RING: u32 = 256;
+pub const RING: u32 = 256;
 
-/// The session of a script: a world of two stores, the side of the current one, and RS with the driver tables.
+/// The session of scripts: a world of two stores, the side of the current one, and RS with the driver tables.
 #[derive(Drop)]
-pub(crate) struct Session {
+pub struct Session {
     world: World,
     side: Side,
     servers: Servers,
@@ -58,7 +59,7 @@ impl Model for Session {
 impl Session {
     /// Opens a new session: stores of incarnations 1 and 2 whose journals keep `ring` items, no maps, no messages, side
     /// a current, no settings, no units. NoRoom: out of memory for the stores' rings.
-    pub(crate) fn open(alloc: Global, ring: u32) -> Result<Session, NoRoom>
+    pub fn open(alloc: Global, ring: u32) -> Result<Session, NoRoom>
         requires { (1 ≤ ring) × (ring ≤ 4096) }
         ensures opened { IfOk result (λ session. IsOpened ring session) }
     {
@@ -78,6 +79,13 @@ impl Session {
         ensures { result ≡ self.now.side }
     {
         self.side
+    }
+
+    /// Returns the incarnation of a side's store.
+    pub(crate) fn incarnation(&self, side: Side) -> u64
+        ensures { result ≡ (store_in self.now.world side).journal.incarnation }
+    {
+        self.world.store(side).incarnation()
     }
 
     /// Makes the store of this side the current one.

@@ -3,10 +3,9 @@
 ghost use Rattle.std.specs.Prelude.{◌≡◌, ℕ, List, IfOk, IfErr, OnOk};
 ghost use Rattle.std.specs.Io.KnownBytes.{Appends, Consumes, IsAtEnd};
 ghost use Rattle.ds_script.specs.declared.report.BadLines.TheVariants.{End};
-ghost use Rattle.ds_script.specs.Replay.{IsReplayed, StopsWith};
+ghost use Rattle.ds_script.specs.Replay.{IsReplayed, IsReplayedIn, StopsLater, StopsWith};
 ghost use Rattle.ds_script.specs.Progress.{Stops, Settles};
 ghost use Rattle.ds_script.specs.Causes.{HasCause, SettlesFor};
-ghost use Rattle.ds_script.specs.Session.{IsOpened};
 ghost use Rattle.ds_script.specs.Taking.{KeepsWriter, IsAtStart};
 ghost use Rattle.line_io.specs.Reading.{no_lines};
 
@@ -18,13 +17,15 @@ use crate::tally::Tally;
 use line_io::{Lines, Sink, Source, WriteFailed, write_out};
 use std::alloc::Global;
 
-/// The counts of a whole replay.
-#[derive(Clone, Copy)]
+/// What a replay leaves.
+#[derive(Drop)]
 pub struct Replayed {
-    /// How many lines were answered.
+    /// How many lines of the session were answered so far.
     pub lines: u64,
-    /// How many of them aren't commands.
+    /// How many of this replay's aren't commands.
     pub bad: u64,
+    /// The session.
+    pub session: Session,
 }
 
 /// Answers the lines of a script, in order, and returns how many there were.
@@ -56,18 +57,38 @@ pub fn replay<R: Source, W: Sink>(
         × StopsWith End fault (R.remaining reader.new) input output) }
     ensures cause { IfErr result (λ fault. HasCause R.Source W.Sink fault reader.old reader.new writer.old writer.new) }
 {
-    let done = replay_reporting(alloc, reader, writer, &mut Nobody, BadLines::End)?;
-    Ok(done.lines)
+    let Ok(session) = Session::open(alloc, RING) else {
+        return Err(ReplayFault::NoRoom);
+    };
+    let ended = replay_reporting(
+        alloc,
+        session,
+        0,
+        reader,
+        writer,
+        &mut Nobody,
+        BadLines::End,
+    );
+    match ended {
+        Ok(done) => Ok(done.lines),
+        Err(fault) => Err(fault),
+    }
 }
 
-/// Answers the lines of a script as `replay` does, but handles lines that aren't commands as `bad_lines` says. Each
-/// such line is reported after the answers before it, and its own if it has one, are written. Returns how many lines
-/// there were, and how many were bad.
+/// Answers the lines of a script in a session, as `replay` does in a new one, but handles lines that aren't commands as
+/// `bad_lines` says. Each such line is reported after the answers before it, and its own if it has one, are written.
+///
+/// The script continues one of which `before` lines were answered: only if there were none may it begin with `ring`,
+/// and its lines are counted from there on. Returns how many lines there were so far, and how many of these were bad.
+/// The session that it returns is where the answers lead; if it stops
+/// early, the session ends.
 ///
 /// Where bad lines don't end the replay, a line is kept until its end is read, and one above 16777216 bytes ends it
 /// with NoRoom.
 pub fn replay_reporting<R: Source, W: Sink, B: Report>(
     alloc: Global,
+    session: Session,
+    before: u32,
     reader: &mut R,
     writer: &mut W,
     report: &mut B,
@@ -76,50 +97,41 @@ pub fn replay_reporting<R: Source, W: Sink, B: Report>(
     ensures answered { IfOk result (λ done. (input output : List ℕ)
         × Consumes (R.remaining reader.old) (R.remaining reader.new) input × IsAtEnd (R.remaining reader.new)
         × Appends (W.contents writer.old) (W.contents writer.new) output
-        × IsReplayed bad_lines input done.lines done.bad output) }
+        × IsReplayedIn bad_lines before session done.session input done.lines done.bad output) }
     ensures stopped { IfErr result (λ fault. (input output : List ℕ)
         × Consumes (R.remaining reader.old) (R.remaining reader.new) input
         × Appends (W.contents writer.old) (W.contents writer.new) output
-        × StopsWith bad_lines fault (R.remaining reader.new) input output) }
+        × StopsLater bad_lines before session fault (R.remaining reader.new) input output) }
     ensures cause { IfErr result (λ fault. HasCause R.Source W.Sink fault reader.old reader.new writer.old writer.new) }
 {
     let Ok(mut lines) = Lines::new(alloc) else {
         return Err(ReplayFault::NoRoom);
     };
-    let Ok(mut session) = Session::open(alloc, RING) else {
-        return Err(ReplayFault::NoRoom);
-    };
     replay_over(
-        alloc,
-        &mut session,
-        &mut lines,
-        reader,
-        writer,
-        report,
-        bad_lines,
+        alloc, session, before, &mut lines, reader, writer, report, bad_lines,
     )
 }
 
-// Likewise over a session that was just opened, and lines of which none was read.
+// Likewise, with lines of which none was read.
 fn replay_over<R: Source, W: Sink, B: Report>(
     alloc: Global,
-    session: &mut Session,
+    session: Session,
+    before: u32,
     lines: &mut Lines,
     reader: &mut R,
     writer: &mut W,
     report: &mut B,
     policy: BadLines,
 ) -> Result<Replayed, ReplayFault>
-    requires opened { IsOpened 256 session.old }
     requires nothing { lines.old ≡ no_lines }
     ensures answered { IfOk result (λ done. (input output : List ℕ)
         × Consumes (R.remaining reader.old) (R.remaining reader.new) input × IsAtEnd (R.remaining reader.new)
         × Appends (W.contents writer.old) (W.contents writer.new) output
-        × IsReplayed policy input done.lines done.bad output) }
+        × IsReplayedIn policy before session done.session input done.lines done.bad output) }
     ensures stopped { IfErr result (λ fault. (input output : List ℕ)
         × Consumes (R.remaining reader.old) (R.remaining reader.new) input
         × Appends (W.contents writer.old) (W.contents writer.new) output
-        × StopsWith policy fault (R.remaining reader.new) input output) }
+        × StopsLater policy before session fault (R.remaining reader.new) input output) }
     ensures cause { IfErr result (λ fault. HasCause R.Source W.Sink fault reader.old reader.new writer.old writer.new) }
 {
     let mut replay = Replay {
@@ -128,12 +140,16 @@ fn replay_over<R: Source, W: Sink, B: Report>(
         report,
         session,
         output: Vec::new(alloc),
-        tally: Tally { lines: 0, bad: 0 },
+        tally: Tally {
+            lines: before as u64,
+            bad: 0,
+        },
         bad_lines: policy,
     };
     let ran = replay.run(reader, lines);
     let Replay {
         writer,
+        session,
         output,
         tally,
         ..
@@ -142,6 +158,7 @@ fn replay_over<R: Source, W: Sink, B: Report>(
         Ok(()) => Ok(Replayed {
             lines: tally.lines,
             bad: tally.bad,
+            session,
         }),
         Err(fault) => Err(settled(writer, &output, fault)),
     }
@@ -150,16 +167,18 @@ fn replay_over<R: Source, W: Sink, B: Report>(
 impl<W: Sink, B: Report> Replay<'_, W, B> {
     // Reads and answers until the input ends, or until no more can be read or answered.
     fn run<R: Source>(&mut self, reader: &mut R, lines: &mut Lines) -> Result<(), ReplayFault>
-        requires start { IsAtStart self.old lines.old }
+        requires start { IsAtStart self.old.tally.lines self.old lines.old }
         ensures same { KeepsWriter self.old self.new }
         ensures ok { OnOk result ((input output : List ℕ)
             × Consumes (R.remaining reader.old) (R.remaining reader.new) input × IsAtEnd (R.remaining reader.new)
             × Appends (W.contents self.old.writer.now) (W.contents self.new.writer.now) output
-            × IsReplayed self.old.bad_lines input self.new.tally.lines self.new.tally.bad output) }
+            × IsReplayedIn self.old.bad_lines self.old.tally.lines self.old.session self.new.session input
+            self.new.tally.lines self.new.tally.bad output) }
         ensures err { IfErr result (λ fault. (input output : List ℕ)
             × Consumes (R.remaining reader.old) (R.remaining reader.new) input
             × Appends (W.contents self.old.writer.now) (W.contents self.new.writer.now) output
-            × Stops self.old.bad_lines fault (R.remaining reader.new) input output self.new.output.items) }
+            × Stops self.old.bad_lines self.old.tally.lines self.old.session fault (R.remaining reader.new) input output
+            self.new.output.items) }
         ensures cause { IfErr result (λ fault.
             HasCause R.Source W.Sink fault reader.old reader.new self.old.writer.now self.new.writer.now) }
     {

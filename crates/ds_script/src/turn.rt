@@ -1,6 +1,6 @@
 //! One read of a replay, and the answers to its lines.
 
-ghost use Rattle.std.specs.Prelude.{◌≡◌, ◌<◌, ◌^◌, true, suc, IfOk};
+ghost use Rattle.std.specs.Prelude.{◌≡◌, ◌<◌, ◌≤◌, ◌+◌, ◌^◌, true, suc, IfOk};
 ghost use Rattle.line_io.specs.Lines.{IsUnbroken};
 ghost use Rattle.ds_script.specs.Taking.{KeepsWriter, TakesTurn, KeepsCount};
 
@@ -18,7 +18,7 @@ impl<W: Sink, B: Report> Replay<'_, W, B> {
         lines: &mut Lines,
     ) -> Result<bool, ReplayFault>
         requires unbroken { IsUnbroken lines.old.rest }
-        requires count { self.old.tally.lines ≡ lines.old.count }
+        requires count { self.old.tally.lines ≤ lines.old.count + 2 ^ 32 }
         requires reads { lines.old.reads < 2 ^ 32 }
         ensures same { KeepsWriter self.old self.new }
         ensures turns { TakesTurn R.Source W.Sink reader.old reader.new self.old self.new lines.old.rest lines.new.rest result }
@@ -35,7 +35,7 @@ impl<W: Sink, B: Report> Replay<'_, W, B> {
         lines: &mut Lines,
     ) -> Result<bool, ReplayFault>
         requires unbroken { IsUnbroken lines.old.rest }
-        requires count { self.old.tally.lines ≡ lines.old.count }
+        requires count { self.old.tally.lines ≤ lines.old.count + 2 ^ 32 }
         requires reads { lines.old.reads < 2 ^ 32 }
         ensures same { KeepsWriter self.old self.new }
         ensures turns { TakesTurn R.Source W.Sink reader.old reader.new self.old self.new lines.old.rest lines.new.rest result }

@@ -6,6 +6,7 @@
 //! writing or a run of threads failed, and standard error says which.
 #![tactic(auto)]
 
+mod keeping;
 mod live;
 mod recording;
 mod replaying;
@@ -14,6 +15,7 @@ mod stepped;
 mod traces;
 mod watch;
 
+use crate::keeping::Files;
 use dsctl_cli::{Asked, Failure, Input, Terminals, Words};
 use std::io::IsTerminal;
 use std::process::ExitCode;
@@ -40,15 +42,29 @@ fn run<R: Runtime + AllocGlobal + Threads + Wait + Sync>(
     rt: &R,
     terminals: Terminals,
 ) -> Result<ExitCode, Failure> {
-    let Asked { words, file } = dsctl_cli::read(rt);
+    let Asked {
+        words,
+        file,
+        load,
+        save,
+    } = dsctl_cli::read(rt);
+    let files = Files {
+        script: named(&file),
+        load: named(&load),
+        save: named(&save),
+    };
     match words {
         Words::Live(crew) => live::run(rt, terminals, crew),
         Words::Shown => Ok(ExitCode::SUCCESS),
         Words::Usage => Ok(ExitCode::from(2)),
         Words::NoRoom => Err(Failure::NoRoom),
         Words::WriteFault(error) => Err(Failure::WriteFault(Some(error))),
-        reading => read_input(rt, terminals, reading, file.as_ref().map(|it| it.as_str())),
+        reading => read_input(rt, terminals, reading, files),
     }
+}
+
+fn named(name: &Option<String>) -> Option<&str> {
+    name.as_ref().map(|it| it.as_str())
 }
 
 // Opens the input that the command line names, and does what is asked for with it.
@@ -56,9 +72,9 @@ fn read_input<R: Runtime + AllocGlobal>(
     rt: &R,
     terminals: Terminals,
     words: Words,
-    file: Option<&str>,
+    files: Files<'_>,
 ) -> Result<ExitCode, Failure> {
-    let Ok(input) = Input::open(rt, file) else {
+    let Ok(input) = Input::open(rt, files.script) else {
         return Err(Failure::Unopened);
     };
     let terminals = terminals.at(&input);
@@ -67,7 +83,9 @@ fn read_input<R: Runtime + AllocGlobal>(
         Words::Verify => traces::judge_input(rt, terminals, input),
         Words::Upgrade => traces::upgrade_input(rt, terminals, input),
         Words::Record(form) => recording::record_input(rt, terminals, input, form),
-        Words::Replay(replaying) => replaying::replay_input(rt, terminals, input, replaying),
+        Words::Replay(replaying) => {
+            replaying::replay_input(rt, terminals, input, replaying, files)
+        }
         _ => Ok(ExitCode::from(2)),
     }
 }

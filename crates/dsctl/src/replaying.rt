@@ -1,9 +1,11 @@
 //! Answers a script.
 
+use crate::keeping::{Files, load, save};
 use crate::stepped::{LineNumber, Stepped};
 use ds_explain::{Audience, explain};
 use ds_script::{
-    BadLine, BadLines, ReplayFault, Replayed, Report, replay_reporting, replay_without_notes,
+    BadLine, BadLines, RING, ReplayFault, Replayed, Report, Session, replay_reporting,
+    replay_without_notes,
 };
 use dsctl_cli::{Answers, Failure, Greeting, Input, LastLine, Replaying, Terminals, Typed, greet};
 use line_io::{Plain, Sink, Source};
@@ -47,6 +49,8 @@ struct Explainer<'a, R> {
     rt: &'a R,
     audience: Audience,
     bad_lines: BadLines,
+    // How many lines the session had before.
+    before: u32,
     // The line of the input, if lines are passed over: they have no number.
     line: Option<&'a LineNumber>,
     // The kind of the text, if its front shows it.
@@ -66,20 +70,26 @@ impl<R: Runtime + AllocGlobal> Report for Explainer<'_, R> {
         }
         let number = match self.line {
             Some(line) => line.get(),
-            None => line.number,
+            None => line.number.saturating_sub(self.before as u64),
         };
         let line = BadLine { number, ..*line };
         explain(self.rt, self.audience, &line, self.kind);
     }
 }
 
-/// Answers a script, of either format. Greets and prompts a user at a terminal.
+/// Answers a script, of either format, in a new session or in one that a script left, and saves its store if that is
+/// asked for. Greets and prompts a user at a terminal.
 pub(crate) fn replay_input<R: Runtime + AllocGlobal>(
     rt: &R,
     terminals: Terminals,
     input: Input<R>,
     replaying: Replaying,
+    files: Files<'_>,
 ) -> Result<ExitCode, Failure> {
+    let Ok(session) = Session::open(rt.alloc(), RING) else {
+        return Err(Failure::NoRoom);
+    };
+    let (session, before) = load(rt, terminals, session, files.load)?;
     let bad_lines = bad_lines(replaying.go_on, terminals);
     greet(rt, terminals, greeting(bad_lines));
     let last = LastLine::new();
@@ -95,34 +105,47 @@ pub(crate) fn replay_input<R: Runtime + AllocGlobal>(
         rt,
         audience: audience(terminals),
         bad_lines,
+        before,
         line: has_notes.then_some(&line),
         kind: kind_of(&reader.inner, terminals, has_notes),
         unwritten: None,
     };
     let replayed = answer(
         rt.alloc(),
+        session,
+        before,
         &mut reader,
         &mut writer,
         &mut explainer,
         bad_lines,
         has_notes,
     );
+    let (bad, session) = match replayed {
+        Ok(Replayed { bad, session, .. }) => (Ok(bad), Some(session)),
+        Err(fault) => (Err(fault), None),
+    };
     let status = outcome(
-        replayed,
+        bad,
         terminals,
         explainer.unwritten.or(reader.inner.unwritten),
         reader.fault,
         writer.fault,
     )?;
-    match reader.inner.end_answer() {
-        Ok(()) => Ok(status),
-        Err(error) => Err(Failure::WriteFault(Some(error))),
+    if let Err(error) = reader.inner.end_answer() {
+        return Err(Failure::WriteFault(Some(error)));
     }
+    if let Some(session) = &session {
+        save(rt, session, files.save)?;
+    }
+    Ok(status)
 }
 
-// Answers the lines of a script. `has_notes`: its format has empty lines and comments, which are passed over.
-fn answer<R: Source, W: Sink, B: Report>(
+/// Answers the lines of a script that continues a session of `before` lines. `has_notes`: its format has empty lines and
+/// comments, which are passed over.
+pub(crate) fn answer<R: Source, W: Sink, B: Report>(
     alloc: Global,
+    session: Session,
+    before: u32,
     reader: &mut R,
     writer: &mut W,
     report: &mut B,
@@ -130,9 +153,9 @@ fn answer<R: Source, W: Sink, B: Report>(
     has_notes: bool,
 ) -> Result<Replayed, ReplayFault> {
     if has_notes {
-        replay_without_notes(alloc, reader, writer, report, bad_lines)
+        replay_without_notes(alloc, session, before, reader, writer, report, bad_lines)
     } else {
-        replay_reporting(alloc, reader, writer, report, bad_lines)
+        replay_reporting(alloc, session, before, reader, writer, report, bad_lines)
     }
 }
 
@@ -151,14 +174,14 @@ fn kind_of<R: Runtime, I: Read>(
 // Returns the exit status of a replay, or why printing a bad line's place, reading or answering failed. Bad lines that were skipped at the
 // prompt don't count.
 fn outcome(
-    replayed: Result<Replayed, ReplayFault>,
+    bad: Result<u64, ReplayFault>,
     terminals: Terminals,
     unwritten: Option<io::Error>,
     unread: Option<io::Error>,
     unanswered: Option<io::Error>,
 ) -> Result<ExitCode, Failure> {
-    match replayed {
-        Ok(Replayed { bad: 0, .. }) => Ok(ExitCode::SUCCESS),
+    match bad {
+        Ok(0) => Ok(ExitCode::SUCCESS),
         Ok(_) if terminals.are_both() => Ok(ExitCode::SUCCESS),
         Err(ReplayFault::BadLine { .. } | ReplayFault::ReadFault) if unwritten.is_some() => {
             Err(Failure::WriteFault(unwritten))

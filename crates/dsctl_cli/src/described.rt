@@ -42,6 +42,11 @@ pub(crate) fn valued<'a>(
         .hide_possible_values(true)
 }
 
+/// Returns an option that names a file.
+pub(crate) fn of_file<'a>(alloc: Global, name: &'a str, about: &'a str) -> Arg<'a> {
+    option(alloc, name, about).value_name("FILE")
+}
+
 /// The name of the argument that names an input.
 pub(crate) const FILE: &str = "file";
 

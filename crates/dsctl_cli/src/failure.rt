@@ -15,6 +15,10 @@ pub enum Failure {
     Live(&'static str),
     /// A file that the command line names can't be opened, as standard error says.
     Unopened,
+    /// A script to begin with has a bad line, or one that is refused, as standard error says.
+    Unloaded,
+    /// The store can't be saved.
+    Unsaved(io::Error),
 }
 
 impl Failure {
@@ -28,10 +32,11 @@ impl Failure {
         }
     }
 
-    /// Returns the exit status: 2 if a named file can't be opened, else 3.
+    /// Returns the exit status: 2 if a named file can't be opened, 1 if a script can't be loaded, else 3.
     pub fn status(&self) -> ExitCode {
         match self {
             Failure::Unopened => ExitCode::from(2),
+            Failure::Unloaded => ExitCode::from(1),
             _ => ExitCode::from(3),
         }
     }
@@ -41,9 +46,9 @@ impl Failure {
         match self {
             Failure::NoRoom => Some("noroom"),
             Failure::ReadFault(_) => Some("readfault"),
-            Failure::WriteFault(_) => Some("writefault"),
+            Failure::WriteFault(_) | Failure::Unsaved(_) => Some("writefault"),
             Failure::Live(word) => Some(word),
-            Failure::Unopened => None,
+            Failure::Unopened | Failure::Unloaded => None,
         }
     }
 
@@ -56,6 +61,7 @@ impl Failure {
             Failure::WriteFault(Some(error)) => {
                 eprintln!(rt; "dsctl: the answers can't be written: {error}")
             }
+            Failure::Unsaved(error) => eprintln!(rt; "dsctl: the store can't be saved: {error}"),
             _ => Ok(()),
         };
     }

@@ -13,8 +13,10 @@ line. The store keeps, for each name and kind, the change with the greatest
 version, and for each owner the highest floor, which ends what the owner left: a
 late or repeated message never brings back a dead driver's endpoint, nor what
 the driver published. There are two such stores, side a and side b, and maps of
-subscribers; all begin empty, in memory, and are gone when the program ends. The
-items that a store prints are a message, which can be delivered to any of them.
+subscribers; all begin empty, in memory, and are gone when the program ends:
+`dsctl replay --save FILE` saves the current store, and `--load FILE` begins
+with it. The items that a store prints are a message, which can be delivered to
+any of them.
 
 A script also drives RS, the reincarnation server, which starts drivers and
 restarts those that die, and a file server and a network server, which send

@@ -84,8 +84,9 @@ Exit status:
      settings have a fault: `bad WORD INDEX` is printed, and standard error
      names each; or the trace isn't legal: `illegal LINE` or `badline LINE`
      is printed, and standard error says what was expected there. `dsctl record`
-     and `dsctl upgrade`, which print a trace, report it on standard error only
-  2  the command line is wrong, or the file can't be opened
+     and `dsctl upgrade`, which print a trace, report it on standard error only;
+     or a line of the script that `--load` names is bad, or refused
+  2  the command line is wrong, or a file can't be opened
   3  memory, reading or writing failed, also where the reader of the answers
      went away: standard error has `noroom`, `readfault` or `writefault`, and
      at a terminal the system's reason; or `dsctl live` failed, with a word
@@ -96,6 +97,10 @@ pub(crate) const KEEP_GOING_ABOUT: &str = "Continue after a bad line; status 1 a
 pub(crate) const STOP_ABOUT: &str = "End at a bad line, at a terminal too";
 
 pub(crate) const ENDS_ABOUT: &str = "End each answer by an empty line";
+
+pub(crate) const LOAD_ABOUT: &str = "Run this script first, without printing its answers";
+
+pub(crate) const SAVE_ABOUT: &str = "Save the store at the end, as a script for --load";
 
 pub(crate) const LINE_ABOUT: &str = "Print them as a line of a script";
 

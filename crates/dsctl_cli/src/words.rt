@@ -1,12 +1,12 @@
 //! The command line.
 
-use crate::described::{FILE, add, add_made, described, file, flag, named, with_file};
+use crate::described::{FILE, add, add_made, described, file, flag, named, of_file, with_file};
 use crate::help::{ABOUT, LINES, LONG_ABOUT};
 use crate::help_traces::{UPGRADE_ABOUT, UPGRADE_LONG_ABOUT, VERIFY_ABOUT, VERIFY_LONG_ABOUT};
 use crate::help_word::print_explained;
 use crate::help_words::{
-    AFTER_HELP, ENDS_ABOUT, KEEP_GOING_ABOUT, LINE_ABOUT, SETTINGS_ABOUT, SETTINGS_LONG_ABOUT,
-    STOP_ABOUT,
+    AFTER_HELP, ENDS_ABOUT, KEEP_GOING_ABOUT, LINE_ABOUT, LOAD_ABOUT, SAVE_ABOUT, SETTINGS_ABOUT,
+    SETTINGS_LONG_ABOUT, STOP_ABOUT,
 };
 use crate::input::{SUBCOMMANDS, begins_line, explain_line, nearest_command};
 use crate::live_words::{add_live, crew_of};
@@ -18,12 +18,16 @@ use std::env::Args;
 use std::io;
 use std::rt::Runtime;
 
-/// What the command line asks for, and the file that it names.
+/// What the command line asks for, and the files that it names.
 #[derive(Drop)]
 pub struct Asked {
     pub words: Words,
     /// The name of the input. `None`, and `-`, are standard input.
     pub file: Option<String>,
+    /// The name of the script that a replay begins with, without its answers.
+    pub load: Option<String>,
+    /// The name of the file that gets a replay's store.
+    pub save: Option<String>,
 }
 
 /// What the command line asks for, or how it was answered.
@@ -96,7 +100,12 @@ pub fn read<R: Runtime + AllocGlobal>(rt: &R) -> Asked {
 
 // Returns this without a file.
 fn without_file(words: Words) -> Asked {
-    Asked { words, file: None }
+    Asked {
+        words,
+        file: None,
+        load: None,
+        save: None,
+    }
 }
 
 // Answers a command line that can't be read: out of memory, or not UTF-8.
@@ -146,6 +155,8 @@ fn parse<R: Runtime + AllocGlobal>(rt: &R, words: &[String]) -> Result<Asked, Er
         Some(words) => Ok(Asked {
             words,
             file: file_of(alloc, &matches)?,
+            load: replay_file(alloc, &matches, LOAD)?,
+            save: replay_file(alloc, &matches, SAVE)?,
         }),
         None => Err(too_many_keys(alloc)?),
     }
@@ -198,6 +209,22 @@ fn file_of(alloc: Global, matches: &ArgMatches<'_>) -> Result<Option<String>, Al
         Some((_, given)) => given.get_str(FILE),
         None => matches.get_str(FILE),
     };
+    copied(alloc, name)
+}
+
+// Returns a copy of the name of the file that an option of `replay` names, if it is given.
+fn replay_file(
+    alloc: Global,
+    matches: &ArgMatches<'_>,
+    option: &str,
+) -> Result<Option<String>, AllocError> {
+    match matches.subcommand() {
+        Some(("replay", given)) => copied(alloc, given.get_str(option)),
+        _ => Ok(None),
+    }
+}
+
+fn copied(alloc: Global, name: Option<&str>) -> Result<Option<String>, AllocError> {
     match name {
         Some(name) => Ok(Some(String::from_str(alloc, name)?)),
         None => Ok(None),
@@ -227,6 +254,11 @@ const STOP: &str = "stop";
 
 // The option to end each answer by an empty line.
 const ENDS: &str = "ends";
+
+// The options to begin with a saved store, and to save the store at the end.
+const LOAD: &str = "load";
+
+const SAVE: &str = "save";
 
 // Returns the program's command line.
 fn command<'a>(alloc: Global) -> Result<Command<'a>, AllocError> {
@@ -279,7 +311,9 @@ fn add_flags<'a>(alloc: Global, options: &mut Vec<Arg<'a>>) -> Result<(), AllocE
     add(options, flag(alloc, KEEP_GOING, KEEP_GOING_ABOUT))?;
     let stop = flag(alloc, STOP, STOP_ABOUT);
     add_made(options, stop.conflicts_with(KEEP_GOING))?;
-    add(options, flag(alloc, ENDS, ENDS_ABOUT))
+    add(options, flag(alloc, ENDS, ENDS_ABOUT))?;
+    add(options, of_file(alloc, LOAD, LOAD_ABOUT))?;
+    add(options, of_file(alloc, SAVE, SAVE_ABOUT))
 }
 
 // The tip for a file's name where none is read.
@@ -290,7 +324,9 @@ const ONE_FILE: &str = "dsctl: one file is read, and another word is too many";
 
 // The tip for a user who gave an option of `replay` without its subcommand.
 const AFTER_REPLAY: &str =
-    "dsctl: --keep-going, --stop and --ends follow a subcommand, as in dsctl replay --ends";
+    "dsctl: --keep-going, --stop, --ends, --load and --save follow a subcommand, as in dsctl replay --ends";
+
+const OF_REPLAY: [&str; 5] = ["--keep-going", "--stop", "--ends", "--load", "--save"];
 
 // The tip for a value that isn't a number, or is out of its range. Only `live` has such options.
 const A_NUMBER: &str =
@@ -298,11 +334,26 @@ const A_NUMBER: &str =
 
 // Returns a tip to add to `clap`'s message about a wrong command line.
 fn tip(given: &[String]) -> Option<&'static str> {
-    match given.get(1)?.as_str() {
-        "--keep-going" | "--stop" | "--ends" => Some(AFTER_REPLAY),
+    let word = given.get(1)?.as_str();
+    if is_of_replay(word) {
+        return Some(AFTER_REPLAY);
+    }
+    match word {
         "live" => names_a_file(given).then_some(NOTHING),
+        _ if !SUBCOMMANDS.contains(&word) && given.iter().any(|it| is_of_replay(it.as_str())) => {
+            Some(AFTER_REPLAY)
+        }
         _ => (names_count(given) > 1).then_some(ONE_FILE),
     }
+}
+
+// Whether a word is an option of `replay`, perhaps with its value.
+fn is_of_replay(word: &str) -> bool {
+    let name = match word.split_once('=') {
+        Some((name, _)) => name,
+        None => word,
+    };
+    OF_REPLAY.contains(&name)
 }
 
 // Likewise, by what is wrong.

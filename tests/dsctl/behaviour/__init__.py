@@ -2,7 +2,7 @@
 
 A run that doesn't end in time fails its behaviour.
 """
-from . import at_a_terminal, limits, prompts, second_opinion, streams, words
+from . import at_a_terminal, keeping, limits, prompts, second_opinion, streams, words
 from .by_chance import change_by_chance, command_by_chance, floor_by_chance, name_by_chance, value_by_chance
 from .running import expect, fault
 
@@ -15,6 +15,7 @@ ALL = [
     streams.reads_a_file_by_its_name,
     streams.a_file_that_cannot_be_opened,
     streams.judges_usage_before_input,
+    *keeping.ALL,
     limits.a_gigabyte_without_a_newline,
     limits.a_line_without_end,
     limits.a_million_lines,

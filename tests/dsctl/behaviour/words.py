@@ -137,7 +137,8 @@ def says_what_is_wrong_with_its_words(program):
     tips += [([near, "a.trace"], b"dsctl: the nearest command is `verify`") for near in ("verfy", "Verify")]
     tips += [(["live", "--publishers", it], b"dsctl: a number in the option's range was expected") for it in ("x", "9", "")]
     tips += [(it.split(), b"dsctl: `%s` begins a line of a script" % it.split()[0].encode()) for it in ("show", "retrieve mtu u32", "publish 0/2 new")]
-    tips += [([it], b"dsctl replay --ends") for it in ("--keep-going", "--stop", "--ends")]
+    tips += [([it], b"dsctl replay --ends") for it in ("--keep-going", "--stop", "--ends", "--load", "--save")]
+    tips += [(["a.ds", "--save", "b.ds"], b"dsctl replay --ends")]
     for words, tip in tips:
         ran = harness.run([program, *words], b"")
         assert (ran.status, ran.output) == (2, b"") and tip in ran.error, f"{words}: {ran}"

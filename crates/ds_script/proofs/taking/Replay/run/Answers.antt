@@ -1,7 +1,8 @@
-use Rattle.std.proofs.Common.{◌≡◌, ◌≢◌, ℕ, true, false, [], ap, sym, subst, ◌∙◌, inr, refl, rules}
+use Rattle.std.proofs.Common.{◌≡◌, ◌≢◌, ℕ, true, false, [], ap, sym, subst, ◌∙◌, inr, refl, rules, arith}
 use Rattle.std.proofs.lemmas.Result.{err_from_is_err_and}
 use Rattle.std.proofs.lemmas.List.Elements.{All-nil}
 use Rattle.line_io.specs.Lines.{IsUnbroken}
+use Rattle.line_io.specs.Reading.{LinesContent}
 use Rattle.line_io.specs.Streams.{CallsLead}
 use Rattle.ds_script.specs.Taking.{reached, written}
 use Rattle.ds_script.specs.declared.fault.ReplayFault.{ReplayFault}
@@ -18,9 +19,9 @@ loop-self-init g c =
     let had = written g.W.Sink c.args.self.now in
     let none : c.args.lines.now.rest ≡ [] = ap (λ l. l.rest) s.nothing in
     record {
-      come = come_none from had (reached c.args.self.now) c.args.lines.now.rest s.opened s.waiting s.lines s.bad none;
+      come = come_none from had (reached c.args.self.now) c.args.lines.now.rest s.waiting s.bad none;
       unbroken = subst IsUnbroken (sym none) (All-nil (λ (x : ℕ). x ≢ 10));
-      count = s.lines ∙ sym (ap (λ l. l.count) s.nothing);
+      count = omega (arith, s.few, ap (λ (l : LinesContent). l.count) s.nothing);
       led = subst (λ (n : ℕ). CallsLead g.R.Source.reads n c.args.reader.now c.args.reader.now) (sym (ap (λ l. l.reads) s.nothing)) refl;
       same = refl;
       wrote = no_calls g.W.Sink.writes c.args.self.now.writer.now;
@@ -37,10 +38,13 @@ returns-in_err-more-clause-err g c =
     let b = written g.W.Sink c.loop-self.self in
     let d = written g.W.Sink c.take_turn.new.self in
     let policy = c.args.self.now.bad_lines in
+    let before = c.args.self.now.tally.lines in
+    let first = c.args.self.now.session in
     let output = c.take_turn.new.self.output.items in
     let fault = c.in_err-more.field-0.0 in
-    where_known (λ (fault : ReplayFault). Stopped policy fault from to a d output) c.from_residual.result exit.0 fault exit.1 exit.2
-    (come_stop fault from mid to a b d policy (reached c.loop-self.self) c.loop-self.lines.rest output i.come i.unbroken
+    where_known (λ (fault : ReplayFault). Stopped policy before first fault from to a d output) c.from_residual.result exit.0 fault exit.1
+    exit.2
+    (come_stop fault from mid to a b d policy before first (reached c.loop-self.self) c.loop-self.lines.rest output i.come i.unbroken
     (c.in_err-more.ensures).turns.1)
 
 pub returns-in_err-more-clause-cause : goal.returns-in_err-more-clause-cause
@@ -62,7 +66,8 @@ returns-then-not-more-clause-ok g c =
     let b = written g.W.Sink c.loop-self.self in
     let d = written g.W.Sink c.take_turn.new.self in
     let last : c.in_ok-more.more ≡ false = search rules in
-    come_end from mid to a b d c.args.self.now.bad_lines (reached c.loop-self.self) (reached c.take_turn.new.self) c.loop-self.lines.rest
+    come_end from mid to a b d c.args.self.now.bad_lines c.args.self.now.tally.lines c.args.self.now.session (reached
+    c.loop-self.self) (reached c.take_turn.new.self) c.loop-self.lines.rest
     c.take_turn.new.lines.rest c.in_ok-more.more last i.come i.unbroken (c.in_ok-more.ensures).turns.2
 
 pub loop-self-preserved : goal.loop-self-preserved
@@ -76,7 +81,8 @@ loop-self-preserved g c =
     let b = written g.W.Sink c.loop-self.self in
     let d = written g.W.Sink c.take_turn.new.self in
     let e = c.in_ok-more.ensures in
-    let t = come_turn from mid to a b d c.args.self.now.bad_lines (reached c.loop-self.self) (reached c.take_turn.new.self)
+    let t = come_turn from mid to a b d c.args.self.now.bad_lines c.args.self.now.tally.lines c.args.self.now.session (reached
+    c.loop-self.self) (reached c.take_turn.new.self)
     c.loop-self.lines.rest c.take_turn.new.lines.rest c.in_ok-more.more more i.come e.turns.2 in
     let next = e.more more in
     record {
@@ -97,7 +103,8 @@ returns-clause-err g c =
     let to = g.R.Source.remaining c.loop-self.reader in
     let a = written g.W.Sink c.args.self.now in
     let b = written g.W.Sink c.loop-self.self in
-    come_over from to a b c.args.self.now.bad_lines (reached c.loop-self.self) c.loop-self.lines.rest i.come i.unbroken
+    come_over from to a b c.args.self.now.bad_lines c.args.self.now.tally.lines c.args.self.now.session (reached c.loop-self.self)
+    c.loop-self.lines.rest i.come i.unbroken
 
 pub returns-clause-cause : goal.returns-clause-cause
 returns-clause-cause g c =

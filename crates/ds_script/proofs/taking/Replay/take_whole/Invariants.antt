@@ -1,4 +1,4 @@
-use Rattle.std.proofs.Common.{◌≡◌, length}
+use Rattle.std.proofs.Common.{◌≡◌, ◌≤◌, ◌+◌, ◌^◌, length}
 use Rattle.ds_script.specs.Progress.{TakesText}
 use Rattle.ds_script.specs.Taking.{reached, written, KeepsWriter, OnlyWrites}
 use Rattle.ds_script.proofs.taking.Replay.take_whole.Given as goal
@@ -6,7 +6,7 @@ use Rattle.ds_script.proofs.taking.Replay.take_whole.Given as goal
 abbrev pub invariant-loop-self : goal.invariant-loop-self
 invariant-loop-self g l = record {
   text : TakesText (written g.W.Sink l.fn.self) (written g.W.Sink l.self) (reached l.fn.self) l.fn.lines.rest (reached l.self) l.lines.rest;
-  count : l.self.tally.lines ≡ l.lines.count;
+  count : l.self.tally.lines ≤ l.lines.count + 2 ^ 32;
   reads : l.lines.reads ≡ l.fn.lines.reads;
   same : KeepsWriter l.fn.self l.self;
   wrote : OnlyWrites g.W.Sink l.fn.self l.self;
