@@ -171,7 +171,7 @@ def descriptors_for_lines_are_looked_for_again(host):
     until(lambda: "\nprints\n" in host.log(), "it prints to the standard error of the supervisor")
     host.ask("service refresh s11")
     until(lambda: "\ns11: prints\n" in host.log(), "it prints to a pipe")
-    reader = until(lambda: next((it for it in host.processes() if pathlib.Path(f"/proc/{it}/comm").read_text() == "cat\n"), None), "the log program reads")
+    reader = until(lambda: host.processes_named("cat"), "the log program reads")[0]
     time.sleep(1.2)  # strays are looked for at once then
     os.kill(reader, signal.SIGKILL)
     host.logged("nolog s00 signal 9")

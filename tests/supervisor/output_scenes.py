@@ -1,22 +1,21 @@
 """Scenes of what services print while standard error is slow, full or gone, and of log programs that come later."""
 import contextlib
 import os
-import pathlib
-import re
 import signal
 import threading
 import time
 
-from scenes import scene
-from supervisors import equal
+from scenes import rests, scene
+from supervisors import equal, state_of
 from waiting import PATIENCE, until
 
 LINE = "#" * 40
 
 
 @contextlib.contextmanager
-def standard_error(host, pause=0.0, most=1 << 16):
-    """Reads the standard error of a supervisor from a pipe, at most MOST bytes between two pauses. What was read is in the list."""
+def standard_error(host, pause=0.0, most=1 << 16, first=None, go=None):
+    """Reads the standard error of a supervisor from a pipe, at most MOST bytes between two pauses. What was read is in the list. After the
+    FIRST readings it waits for the event `go`."""
     pipe, said, stops = host.home / "errors", [], threading.Event()
     os.mkfifo(pipe)
     file = os.open(pipe, os.O_RDONLY | os.O_NONBLOCK)
@@ -24,8 +23,9 @@ def standard_error(host, pause=0.0, most=1 << 16):
 
     def read():
         while not stops.is_set():
-            with contextlib.suppress(BlockingIOError):
-                said.append(os.read(file, most))
+            if len(said) != first or go.is_set():
+                with contextlib.suppress(BlockingIOError):
+                    said.extend(filter(None, [os.read(file, most)]))
             stops.wait(max(pause, 0.001))
 
     reader = threading.Thread(target=read)
@@ -49,11 +49,12 @@ def prints(count):
 @scene
 def no_line_is_lost_in_a_slow_pipe(host):
     """Two services print faster than standard error is read. They wait, others are served, and every line comes through, whole and in order."""
-    count = 6000
-    with standard_error(host, pause=0.02, most=1 << 14) as said:
+    count, go = 6000, threading.Event()
+    with standard_error(host, pause=0.02, most=1 << 14, first=6, go=go) as said:
         host.start({label: ({}, prints(count)) for label in "ab"})
-        until(lambda: len(said) > 5, "it is read")
+        until(lambda: len(said) == 6, "it is read")
         assert "printed" not in host.notes(), "a service doesn't wait"
+        go.set()
         for _ in range(20):
             begun = time.monotonic()
             equal(host.ask("retrieve a label"), "found 1/16")
@@ -89,42 +90,46 @@ def a_reader_that_is_gone_holds_up_nobody(host):
 def a_reader_that_stands_still_holds_up_no_end(host):
     """Standard error is full, and nobody reads on. The supervisor ends all the same, and answers until then."""
     with standard_error(host, pause=1000):
-        host.start({"a": ({}, prints(100000))})
-        equal(host.ask("retrieve a label"), "found 1/16")
-        time.sleep(0.5)
+        host.start({"a": ({}, "note('begins')\n" + prints(100000))})
+        host.noted("a 1/16 begins")
+        until(lambda: rests(host.process.pid), "it waits without polling")
         assert "printed" not in host.notes(), "it doesn't wait"
-        before = turns(host)
-        time.sleep(0.5)
-        assert turns(host) - before < 5, "it polls"
         begun = time.monotonic()
         host.process.send_signal(signal.SIGTERM)
         equal(host.process.wait(PATIENCE), 0)
         assert time.monotonic() - begun < 30, "it waits for its reader"
 
 
-def turns(host):
-    text = pathlib.Path(f"/proc/{host.process.pid}/status").read_text()
-    return int(re.search(r"^voluntary_ctxt_switches:\s*(\d+)", text, re.MULTILINE)[1])
-
-
 @scene
 def a_flood_of_lines_delays_others_little(host):
-    """Sixteen services print empty lines without end. Between two answers to a client, few of these lines are passed on."""
-    host.words = ["sh", "-c", 'exec "$@" 2> /dev/null', "sh", *host.words]
-    host.start({f"s{number}": ({}, "#!/bin/sh\nexec yes ''\n") for number in range(16)})
-    until(lambda: written(host) > 100000, "they print")
-    before, count = written(host), 20
-    for _ in range(count):
-        host.ask("retrieve s0 label")
-    each = (written(host) - before) // count
-    assert each < 20000, f"{each} lines for each answer"
+    """Sixteen services print empty lines without end. Few of these are passed on before a command that waits is carried out."""
+    floods = {f"s{number}": ({}, "#!/bin/sh\nexec yes ''\n") for number in range(16)}
+    host.start({**floods, "other": ({}, "#!/bin/sh\nexec sleep 1000\n")}, options=("--grace", "0"))
+    until(lambda: printed(host) > 1 << 19, "they print")
+    count = 20
+    each = sum(lines_before(host, "service refresh other", b"event=kill") for _ in range(count)) // count
+    assert each < 20000, f"{each} lines before each command"
     host.process.send_signal(signal.SIGTERM)
     equal(host.process.wait(PATIENCE), 0)
 
 
-def written(host):
-    """Returns how many writes the supervisor has made, one for each line."""
-    return int(pathlib.Path(f"/proc/{host.process.pid}/io").read_text().split("syscw: ")[1].split()[0])
+def printed(host):
+    return os.path.getsize(host.home / "log")
+
+
+def lines_before(host, line, event):
+    """Sends a line while the supervisor is stopped. Returns how many lines it then prints before this event."""
+    host.process.send_signal(signal.SIGSTOP)
+    until(lambda: state_of(host.process.pid) == "T", "it stops")
+    begun = printed(host)
+    host.client().sendall(line.encode() + b"\n")
+    host.process.send_signal(signal.SIGCONT)
+    host.answer(host.client())
+    with open(host.home / "log", "rb") as log:
+        log.seek(begun)
+        before, found, _ = log.read().partition(event)
+    assert found, f"no {event} after `{line}`"
+    return before.count(b"\n")
 
 
 @scene
@@ -139,7 +144,7 @@ def long_lines_are_cut(host):
 @scene
 def a_log_program_that_comes_later_is_used(host):
     """A log program is looked for at each start of its service. Once there is none, the supervisor reads the lines again."""
-    host.start({"a": ({}, '#!/bin/sh\necho "$DS_ENDPOINT prints"; printf "half"\nexec sleep 1000\n')})
+    host.start({"a": ({}, '#!/bin/sh\nprintf "%s prints\\nhalf" "$DS_ENDPOINT"\nexec sleep 1000\n')})  # by one write
     until(lambda: "a: 1/16 prints\n" in host.log(), "the supervisor reads")
     host.service("a/log", "#!/bin/sh\nexec cat >> out\n")
     host.ask("service refresh a")
@@ -147,7 +152,7 @@ def a_log_program_that_comes_later_is_used(host):
     until(lambda: (path / "out").exists() and "2/16 prints" in (path / "out").read_text(), "the log program reads")
     assert "a: half\n" in host.log() and "a: 2/16" not in host.log(), host.log()
     os.remove(path / "run")
-    os.kill(next(it for it in host.processes() if pathlib.Path(f"/proc/{it}/comm").read_text() == "cat\n"), signal.SIGKILL)
+    os.kill(host.processes_named("cat")[0], signal.SIGKILL)
     host.logged("nolog a signal 9")
     host.ask("service refresh a")
     until(lambda: "3/16 prints\n" in host.log(), "the supervisor reads again")

@@ -1,4 +1,5 @@
 """A dsrs over a folder of its own, with services, for tests/supervisor/run: how it is built, started and queried, and what its services do."""
+import contextlib
 import fcntl
 import os
 import pathlib
@@ -58,11 +59,24 @@ def equal(got, wanted):
     assert got == wanted, f"{got!r} instead of {wanted!r}"
 
 
-def lives(pid):
+def state_of(pid):
+    """Returns the letter of a process's state, or X if there is none."""
     try:
-        return pathlib.Path(f"/proc/{pid}/stat").read_text().rpartition(")")[2].split()[0] not in "ZX"
+        return pathlib.Path(f"/proc/{pid}/stat").read_text().rpartition(")")[2].split()[0]
     except (FileNotFoundError, ProcessLookupError):
-        return False
+        return "X"
+
+
+def lives(pid):
+    return state_of(pid) not in "ZX"
+
+
+def name_of(pid):
+    """Returns the name of a process's program, or nothing if it has ended."""
+    try:
+        return pathlib.Path(f"/proc/{pid}/comm").read_text().rstrip("\n")
+    except (FileNotFoundError, ProcessLookupError):
+        return ""
 
 
 def build(library, room, *flags, folder=ROOT / "daemon" / "rs"):
@@ -171,7 +185,8 @@ class Host:
 
     def kill_leftovers(self):
         for pid in self.processes() if self.process else ():
-            os.kill(pid, signal.SIGKILL)
+            with contextlib.suppress(ProcessLookupError):
+                os.kill(pid, signal.SIGKILL)
 
     # ---- what it reports ----
 
@@ -194,8 +209,13 @@ class Host:
 
     def ask(self, line, name=0):
         """Sends a line as the client of this name, and returns the answer."""
-        it, said = self.client(name), b""
+        it = self.client(name)
         it.sendall(line.encode() + b"\n")
+        return self.answer(it)
+
+    def answer(self, it):
+        """Returns the next answer to a client."""
+        said = b""
         while not said.endswith(b"\n\n"):
             some = it.recv(1 << 16)
             if not some:
@@ -234,7 +254,10 @@ class Host:
         path = self.home / "notes"
         return path.read_text() if path.exists() else ""
 
-    def noted(self, text):
+    def noted(self, text, seconds=PATIENCE):
         """Waits for a note with this text, and returns its line."""
         found = lambda: next((it for it in self.notes().splitlines() if text in it), None)  # noqa: E731
-        return until(found, lambda: f"a note `{text}`: {self.notes()[-1000:]} {self.log()[-500:]}")
+        return until(found, lambda: f"a note `{text}`: {self.notes()[-1000:]} {self.log()[-500:]}", seconds)
+
+    def processes_named(self, name):
+        return [it for it in self.processes() if name_of(it) == name]
