@@ -7,7 +7,7 @@ import time
 from fleets import Clock, Fleet, Gone
 from scenes import REST, number, numbers, offer, shows
 from scripted import SWALLOW, Scripted
-from waiting import until
+from waiting import PATIENCE, until
 
 LOAD = 3  # seconds
 LOOKED = "HGETALL ds:digests"  # a bridge asks this after each look at the stream, whose answer it judges with this one's
@@ -64,10 +64,15 @@ def compacted_under_load(fleet, draw):
     """The stream is compacted while there is always a change that is on its way."""
     bridge, end = fleet.start(), time.monotonic() + LOAD
 
+    def goes_on():
+        """Returns whether the load isn't at its end: on a busy machine it lasts until the stream was compacted often enough."""
+        now = time.monotonic()
+        return now < end or now < end + PATIENCE and int(bridge.state()["compactions"]) < LOAD
+
     def load(name):
         seq = 0
         with bridge.client() as client:
-            while time.monotonic() < end:
+            while goes_on():
                 client.send(*(f"offer {number(name, seq + at, 1)}" for at in range(1, 9)))
                 seq += 8
                 for _ in range(8):
@@ -77,14 +82,14 @@ def compacted_under_load(fleet, draw):
     for it in loads:
         it.start()
     longest = 0
-    while time.monotonic() < end:
+    while any(it.is_alive() for it in loads):
         longest = max(longest, fleet.entries())
         time.sleep(0.05)
     for it in loads:
         it.join()
     state = bridge.state()
     entries, compactions = int(state["told"]), int(state["compactions"])
-    assert compactions >= LOAD, f"{compactions} compactions of {entries} entries in {LOAD} seconds"
+    assert compactions >= LOAD, f"{compactions} compactions of {entries} entries in {LOAD} seconds or more"
     assert longest < entries / 2, f"the stream got {longest} of {entries} entries long"
 
 

@@ -179,14 +179,14 @@ def subscriptions_end_with_their_client(fleet, draw):
 
 def limits_of_clients(fleet, draw):
     """`state` shows the limits by redis's names. A client that sends nothing is dropped, and one that listens isn't."""
-    bridge = fleet.start("--maxclients", "4", "--timeout", "4", "--client-output-buffer-limit", "20000", "--maxmemory-clients", "100000")
+    bridge = fleet.start("--maxclients", "4", "--timeout", "10", "--client-output-buffer-limit", "20000", "--maxmemory-clients", "100000")
     state = bridge.state()
     names = ("maxclients", "timeout", "client-output-buffer-limit", "maxmemory-clients")
-    assert [state[it] for it in names] == ["4", "4", "20000", "100000"] and state["clients"] == "1", state
+    assert [state[it] for it in names] == ["4", "10", "20000", "100000"] and state["clients"] == "1", state
     with bridge.client() as idle, bridge.client() as listens:
-        assert listens.ask("listen 3") == ["listening 3"] and idle.ask("show") == ["shown 0"]
         began = time.monotonic()
-        assert idle.it.recv(1) == b"" and time.monotonic() - began > 3.9, "it is dropped early, or never"
+        assert listens.ask("listen 3") == ["listening 3"] and idle.ask("show") == ["shown 0"]
+        assert idle.it.recv(1) == b"" and time.monotonic() - began > 9.9, "it is dropped early, or never"
         time.sleep(1)
         assert listens.ask("show") == ["shown 0"]
         more = [bridge.client() for _ in range(3)]

@@ -66,7 +66,7 @@ def kill(it, label):
 def a_service_that_is_killed(stage):
     """A client finds the next instance each time, and gets the answer of the one that it found."""
     it, seen = host(stage, "d"), []
-    player = stage.player(timeout=30000)
+    player = stage.player()
     for _ in range(4):
         where, who, said = player("connect d").split(" ")
         equal((who, said), (where, "hello"))
@@ -81,7 +81,7 @@ def a_service_that_is_killed(stage):
 @scene
 def an_instance_that_answers_pings(stage):
     """It lives for many periods, publishes, is `ready`, and its server watches another one's label over its own connection."""
-    it = host(stage, "d", "f", fields="period = 30\nstartup = 3000\n")
+    it = host(stage, "d", "f", fields="period = 400\nstartup = 3000\n")
     player = stage.player()
     first = until(lambda: player("retrieve d.n u32"), "it publishes")
     until(lambda: player("retrieve d.n u32") != first, "it publishes again")
@@ -90,7 +90,7 @@ def an_instance_that_answers_pings(stage):
     it.logged("began d 3/")
     until(lambda: player("retrieve f.saw str") == "d 3/16", "the watch sees the next instance")
     before = it.status()["f"][1]
-    until(lambda: int(it.status()["f"][3]) >= 3, "it lives for ten periods")
+    until(lambda: int(it.status()["f"][3]) >= 12, "it lives for three periods")
     equal(it.status()["f"][1], before)
     assert not it.has_logged("died f"), it.log()[-1000:]
     player.end()
@@ -102,11 +102,11 @@ def a_watch_of_services(stage):
     """It sees each death and each start, in order."""
     it = host(stage, "d")
     player = stage.player()
-    player.plays(("watch d 1", "watch 0"), ("next 0 5000", "anew"), ("next 0 5000", "d label rs 1.0 = 1/16"))
+    player.plays(("watch d 1", "watch 0"), ("next 0 60000", "anew"), ("next 0 60000", "d label rs 1.0 = 1/16"))
     for generation in (1, 2, 3):
         kill(it, "d")
-        player.plays(("next 0 30000", f"d label rs {generation}.1 -"), ("next 0 30000", f"! d {generation}"))
-        equal(player("next 0 30000"), f"d label rs {generation + 1}.0 = {generation + 1}/16")
+        player.plays(("next 0 60000", f"d label rs {generation}.1 -"), ("next 0 60000", f"! d {generation}"))
+        equal(player("next 0 60000"), f"d label rs {generation + 1}.0 = {generation + 1}/16")
     player.end()
     it.end()
 
@@ -115,8 +115,8 @@ def a_watch_of_services(stage):
 def a_daemon_that_is_killed(stage):
     """A watch of a dsrs begins anew with the next one, whose generations are higher, and a client finds its services."""
     it = host(stage, "d")
-    player = stage.player(timeout=30000)
-    player.plays(("watch d 1", "watch 0"), ("next 0 5000", "anew"), ("next 0 5000", "d label rs 1.0 = 1/16"))
+    player = stage.player()
+    player.plays(("watch d 1", "watch 0"), ("next 0 60000", "anew"), ("next 0 60000", "d label rs 1.0 = 1/16"))
     it.kill()
     equal(player("next 0 200"), "fault lost")
     equal(player("retrieve d label"), "fault lost")
@@ -135,7 +135,7 @@ def a_daemon_that_is_killed(stage):
 def a_client_that_waits_for_its_daemon(stage):
     """`connect` finds a service whose dsrs is killed meanwhile."""
     it = host(stage, "d")
-    player = stage.player(timeout=60000)
+    player = stage.player()
     it.kill()
     player.begin("connect d")
     it.start()
@@ -151,7 +151,7 @@ def eight_subscriptions(stage):
     it = host(stage, "d")
     player, other = stage.player(), stage.player()
     for number in range(8):
-        player.plays((f"watch d 1", f"watch {number}"), (f"next {number} 5000", "anew"))
+        player.plays((f"watch d 1", f"watch {number}"), (f"next {number} 60000", "anew"))
     player.plays(("subscribe d 1", "fault notallowed"))
     other.plays(("subscribe d 1", "fault notallowed"))
     player.plays(("unwatch 3", "ok"), ("subscribe d 1", "sub 123"), ("check 123", "d label rs 1.0 = 1/16|"))
@@ -175,7 +175,7 @@ def a_line_that_is_too_long(stage):
 def a_daemon_that_stops(stage):
     """Calls end at their timeouts while dsrs is stopped, and afterwards each gets its own answer."""
     it = host(stage, "d")
-    player = stage.player(timeout=300)
+    player = stage.player(timeout=5000)
     it.process.send_signal(signal.SIGSTOP)
     for name in ("d", "x"):
         equal(player(f"retrieve {name} label"), "fault timeout")
@@ -304,14 +304,14 @@ def a_watch_catches_up_after_its_connection_was_cut(stage):
     stage.path = f"{stage.home}/line"
     line, player = Line(stage.path, it.socket), stage.player()
     publishes(it, 1, 5)
-    player.plays(("watch eth.* 1", "watch 0"), ("next 0 5000", "anew"), *((f"next 0 5000", label(it)) for it in range(1, 6)))
+    player.plays(("watch eth.* 1", "watch 0"), ("next 0 60000", "anew"), *((f"next 0 60000", label(it)) for it in range(1, 6)))
     line.cut()
     publishes(it, 6, 300)
     equal(player("next 0 100"), "fault lost")
     line = Line(stage.path, it.socket)
-    player.plays(*(("next 0 30000", label(it)) for it in range(6, 306)), ("next 0 100", "fault timeout"))
+    player.plays(*(("next 0 60000", label(it)) for it in range(6, 306)), ("next 0 100", "fault timeout"))
     publishes(it, 306, 1)
-    equal(player("next 0 30000"), label(306))
+    equal(player("next 0 60000"), label(306))
     player.end()
 
 
@@ -320,8 +320,8 @@ def a_watch_after_more_than_the_journal_keeps(stage):
     """It gets a snapshot, and then what follows."""
     _, it = bridge(stage)
     stage.path = f"{stage.home}/line"
-    line, player = Line(stage.path, it.socket), stage.player(timeout=20000)
-    player.plays(("watch eth.* 1", "watch 0"), ("next 0 5000", "anew"), ("next 0 100", "fault timeout"))
+    line, player = Line(stage.path, it.socket), stage.player()
+    player.plays(("watch eth.* 1", "watch 0"), ("next 0 60000", "anew"), ("next 0 100", "fault timeout"))
     line.cut()
     many = "".join(f"publish 0/2 over eth{generation % 7} label {generation}.0 = {generation}/16\n" for generation in range(1, 5001))
     with socket.socket(socket.AF_UNIX) as other:
@@ -331,9 +331,9 @@ def a_watch_after_more_than_the_journal_keeps(stage):
         while got.count(b"\n\n") < 5000:
             got += other.recv(1 << 16)
     line = Line(stage.path, it.socket)
-    player.plays(("next 0 30000", "anew"), *(("next 0 30000", label(generation)) for generation in sorted(range(4994, 5001), key=lambda it: it % 7)))
+    player.plays(("next 0 60000", "anew"), *(("next 0 60000", label(generation)) for generation in sorted(range(4994, 5001), key=lambda it: it % 7)))
     publishes(it, 5001, 1)
-    equal(player("next 0 30000"), label(5001))
+    equal(player("next 0 60000"), label(5001))
     line.cut()
     player.end()
 
@@ -344,15 +344,15 @@ def a_dsfleet_that_is_killed(stage):
     fleet, it = bridge(stage)
     stage.path, eth0 = it.socket, "eth0 label rs 3.0 = 3/16"
     equal(it.ask("publish 0/2 new eth0 label 3.0 = 3/16"), ["taken"])
-    player = stage.player(timeout=20000)
+    player = stage.player()
     player.plays(("as 3/16", "ok"), ("publish eth0.mtu u32 1500", "ok"), ("watch eth0.* 3", "watch 0"))
-    player.plays(("next 0 5000", "anew"), ("next 0 5000", eth0), ("next 0 5000", "eth0.mtu u32 eth0 3.0 = 1500"))
+    player.plays(("next 0 60000", "anew"), ("next 0 60000", eth0), ("next 0 60000", "eth0.mtu u32 eth0 3.0 = 1500"))
     it.kill()
     equal(player("publish eth0.mtu u32 1"), "fault lost")
     fleet.start(at=it.name) if hasattr(it, "name") else it.start()
-    player.plays(("next 0 30000", "anew"), ("next 0 5000", eth0), ("next 0 5000", "eth0.mtu u32 eth0 3.0 = 1500"))
-    player.plays(("publish eth0.mtu u32 9000", "ok"), ("next 0 30000", "eth0.mtu u32 eth0 3.2 = 9000"), ("retrieve eth0.mtu u32", "9000"))
-    player.plays(("delete eth0.mtu u32", "ok"), ("next 0 30000", "eth0.mtu u32 eth0 3.3 -"), ("retrieve eth0.mtu u32", "fault notfound"))
+    player.plays(("next 0 60000", "anew"), ("next 0 60000", eth0), ("next 0 60000", "eth0.mtu u32 eth0 3.0 = 1500"))
+    player.plays(("publish eth0.mtu u32 9000", "ok"), ("next 0 60000", "eth0.mtu u32 eth0 3.2 = 9000"), ("retrieve eth0.mtu u32", "9000"))
+    player.plays(("delete eth0.mtu u32", "ok"), ("next 0 60000", "eth0.mtu u32 eth0 3.3 -"), ("retrieve eth0.mtu u32", "fault notfound"))
     player.plays(("as 4/16", "fault notallowed"), ("publish eth0.other u32 1", "ok"))
     player.end()
 
@@ -364,14 +364,14 @@ def cursors_of_a_dsfleet(stage):
     stage.path = it.socket
     publishes(it, 1, 3)
     player = stage.player()
-    player.plays(("watch eth.* 1", "watch 0"), ("next 0 5000", "anew"), *((f"next 0 5000", label(it)) for it in range(1, 4)), ("next 0 100", "fault timeout"))
+    player.plays(("watch eth.* 1", "watch 0"), ("next 0 60000", "anew"), *((f"next 0 60000", label(it)) for it in range(1, 4)), ("next 0 100", "fault timeout"))
     incarnation, position = map(int, player("cursor 0").split())
     publishes(it, 4, 1)
-    player.plays((f"watch eth.* 1 {incarnation} {position}", "watch 1"), ("next 1 5000", label(4)), ("next 1 100", "fault timeout"))
-    player.plays((f"watch eth.* 1 {incarnation - 1} {position}", "watch 2"), ("next 2 5000", "anew"), ("next 2 5000", label(1)))
-    player.plays((f"watch eth.* 1 {incarnation} {position + 99}", "watch 3"), ("next 3 5000", "anew"), ("next 3 5000", label(1)))
+    player.plays((f"watch eth.* 1 {incarnation} {position}", "watch 1"), ("next 1 60000", label(4)), ("next 1 100", "fault timeout"))
+    player.plays((f"watch eth.* 1 {incarnation - 1} {position}", "watch 2"), ("next 2 60000", "anew"), ("next 2 60000", label(1)))
+    player.plays((f"watch eth.* 1 {incarnation} {position + 99}", "watch 3"), ("next 3 60000", "anew"), ("next 3 60000", label(1)))
     player.plays(("subscribe eth.* 1", "sub 123"), ("check 123", "".join(f"{label(it)}|" for it in range(1, 5))))
     publishes(it, 5, 1)
-    player.plays(("notice 20000", "notice 123"), ("check 123", f"{label(5)}|"))
+    player.plays(("notice 60000", "notice 123"), ("check 123", f"{label(5)}|"))
     player.end()
 

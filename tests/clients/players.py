@@ -145,7 +145,7 @@ class Stage:
         """Returns the command that starts a player."""
         return [sys.executable, self.built.python] if self.language == "python" else [self.built.players[self.language]]
 
-    def player(self, timeout=5000, opens=True, **how):
+    def player(self, timeout=1000 * PATIENCE, opens=True, **how):
         """Starts a player, which connects to the stage's socket."""
         self.open.append(Player(self.words(), env=self.environment(how.pop("named", {})), **how))
         if opens:

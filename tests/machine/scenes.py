@@ -8,7 +8,7 @@ import time
 
 import tables
 from harm import Flip, Kill, Stop
-from machines import counts_of
+from machines import READY, counts_of
 from outcomes import failures_of
 from supervisors import ROOT, Skipped, equal
 
@@ -73,6 +73,19 @@ def harmed(machine, harm, application):
         return ended(application)
     finally:
         harm.stop()
+
+
+def worked(machine, so, *works):
+    """Lets clients of the file server work, one after the other, and all again until something is so."""
+    for _ in range(ROUNDS):
+        for words in works:
+            all_is_well(ended(machine.files(*words)))
+        if so():
+            break
+
+
+def complains(machine, why):
+    return any(it[1] == "complains" and it[4] == why for it in machine.notes_of())
 
 
 def harmed_often(machine, harm, least, *words):
@@ -207,7 +220,7 @@ def a_block_that_both_disks_lost_is_refused(make):
 @scene
 def a_driver_that_reads_wrongly_is_blamed(make):
     with make(READS_WRONGLY) as machine:
-        all_is_well(ended(machine.files("read", 2, 32)))
+        worked(machine, lambda: complains(machine, "it reads a right disk wrongly"), ("read", 2, 32))
         all_recovered(machine, "disk0")
         whys = {why for _, word, _, _, why in machine.notes_of() if word == "complains"}
         assert "it reads a right disk wrongly" in whys, "nobody complained"
@@ -219,8 +232,7 @@ def a_driver_that_reads_wrongly_is_blamed(make):
 @scene
 def what_a_driver_wrote_wrongly_is_healed(make):
     with make(WRITES_WRONGLY) as machine:
-        all_is_well(ended(machine.files("write", 2, 32)))
-        all_is_well(ended(machine.files("check", 0, 32)))
+        worked(machine, lambda: machine.count("healed"), ("write", 2, 32), ("check", 0, 32))
         images_are(machine)
         assert machine.count("healed") > 0, "nothing was healed"
         machine.end()
@@ -229,17 +241,17 @@ def what_a_driver_wrote_wrongly_is_healed(make):
 @scene
 def a_driver_that_breaks_the_protocol_is_blamed(make):
     with make(ANSWERS_HALF) as machine:
-        all_is_well(ended(machine.files("read", 2, 32)))
+        worked(machine, lambda: complains(machine, "data"), ("read", 2, 32))
         all_recovered(machine, "disk0")
-        assert any(it[1] == "complains" and it[4] == "data" for it in machine.notes_of()), "nobody complained"
+        assert complains(machine, "data"), "nobody complained"
         machine.end()
 
 
 @scene
 def a_driver_that_does_not_answer_is_blamed(make):
     with make(IS_SILENT) as machine:
-        all_is_well(ended(machine.files("read", 2, 32)))
-        assert any(it[1] == "complains" and it[4] == "no answer" for it in machine.notes_of()), "nobody complained"
+        worked(machine, lambda: complains(machine, "no answer"), ("read", 2, 32))
+        assert complains(machine, "no answer"), "nobody complained"
         machine.end()
 
 
@@ -247,7 +259,7 @@ def a_driver_that_does_not_answer_is_blamed(make):
 def a_driver_that_wants_more_is_ended(make):
     """The kernel ends a driver that makes another system call."""
     with make(OPENS_A_FILE) as machine:
-        all_is_well(ended(machine.files("read", 1, 32)))
+        worked(machine, lambda: failures_of(machine.supervised.read(), machine.notes_of(), "disk0"), ("read", 1, 32))
         equal({it.cause for it in all_recovered(machine, "disk0")}, {"exception"})
         machine.end()
 
@@ -300,7 +312,8 @@ def the_readme(make):
     lines = [line.strip() for line in text.splitlines() if line.startswith("    ") and not line.strip().startswith("tools/build")]
     folder = make.room / "readme"
     script = "\n".join(["set -e", *lines, "wait %2", "kill %1", "wait %1"]).replace("/tmp/", f"{folder}/").replace("crates/ds_c/out/libds_c.a", make.library)
-    script = script.replace(" read 4096 10 32", " read 4096 2 32").replace("socket &", "socket 2>/dev/null &\nsleep 1")
+    ready = f"until [ $({folder}/bin/dsask {folder}/machine/socket status 2>/dev/null | grep -c ' up \\| ready ') = {len(READY)} ]; do sleep 0.1; done"
+    script = script.replace(" read 4096 10 32", " read 4096 2 32").replace("socket &", f"socket 2>/dev/null &\n{ready}")
     ran = subprocess.run(["bash", "-c", script], cwd=ROOT, capture_output=True, text=True, timeout=5 * PATIENCE)
     counts = counts_of(ran.stdout)
     assert ran.returncode == 0 and counts, ran.stdout[-300:] + ran.stderr[-1000:]

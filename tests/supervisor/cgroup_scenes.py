@@ -14,7 +14,7 @@ from waiting import until
 CHAIN = """
 import os, sys, time
 if os.fork(): os._exit(0)
-for _ in range(10):
+for _ in range(40):
     os.setsid()
     if os.fork(): time.sleep(1000)
 open("../../notes", "a").write(f"{sys.argv[1]} left {os.getpid()}\\n")
@@ -24,7 +24,7 @@ LEAVES = f"""
 def leave():
     subprocess.run(["/usr/bin/env", "-i", sys.executable, "-c", {CHAIN!r}, label + " " + me])
 """
-SOON = 3  # seconds, too few to kill a chain link by link
+SOON = 20  # seconds, too few to kill a chain link by link
 
 
 def mounted():

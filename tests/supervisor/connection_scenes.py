@@ -99,6 +99,7 @@ live()
     late = "time.sleep(0.3)\n" + TAKES
     host.start({"d": ({"limit": 5}, late), "f": ({"class": "server"}, asks)})
     host.noted("f 2/17 from 1/16")
+    host.noted("d 1/16 handed peer 2/17 from 2/17")  # else d might die with unread bytes, which resets the connection
     host.ask("service refresh d")
     host.noted("f 2/17 then b''")
     host.noted("f 2/17 again connected 3/16 from 3/16")

@@ -1,10 +1,9 @@
 """Scenes of the log programs of services."""
 import os
 import signal
-import time
 
 from scenes import LIVES, scene
-from supervisors import equal
+from supervisors import equal, lives
 from waiting import until
 
 
@@ -33,11 +32,11 @@ def a_log_program_that_ends_is_started_again(host):
     host.service("a", "#!/bin/sh\necho one; echo two; echo three\nexec sleep 1000\n")
     host.service("a/log", '#!/bin/sh\nread line && echo "$line" >> out\nexit 5\n')
     host.start({"a": ({}, None)})
-    begun = time.monotonic()
     until(lambda: len(lines(host)) == 3, lambda: f"it reads: {lines(host)}")
     equal(lines(host), ["one", "two", "three"])
-    assert time.monotonic() - begun > 1.5, "it starts at once"
-    host.logged("nolog a status 5", 2)
+    host.logged("nolog a status 5", 3)
+    ended = [float(it.split()[0]) for it in host.ask("log").splitlines() if " nolog a " in it]
+    assert all(then - before > 0.9 for before, then in zip(ended, ended[1:])), f"it starts at once: {ended}"
     assert not host.has_logged("died a") and not host.has_logged("stray"), host.log()
     host.end()
 
@@ -54,7 +53,7 @@ def a_log_program_that_fails_or_stays(host):
     first = until(lambda: lines(host, "b"), "it runs")[0].split()
     os.kill(int(first[0]), signal.SIGKILL)
     until(lambda: len(lines(host, "b")) == 2, "it runs again")
-    assert not os.path.exists(f"/proc/{first[1]}"), "what a log program started outlives it"
+    assert not lives(first[1]), "what a log program started outlives it"
     host.end()
     assert "a: one\n" in host.log(), host.log()[-500:]
 
@@ -67,8 +66,8 @@ def ends_of_pipes_that_do_not_wait_are_not_passed_on(host):
     host.service("a/log", reads)
     host.start({"a": ({"limit": 5}, None)})
     equal(host.noted("a 2/16 waits").split()[-1], "True")
-    until(lambda: len(lines(host)) == 2, lambda: f"it runs again: {lines(host)}")
-    equal(lines(host), ["True", "True"])
+    until(lambda: len(lines(host)) > 1, lambda: f"it runs again: {lines(host)}")
+    equal(set(lines(host)), {"True"})
     host.end()
 
 
@@ -78,7 +77,7 @@ def a_log_program_is_killed_with_its_supervisor(host):
     host.start({"a": ({}, LIVES)})
     pid = int(until(lambda: lines(host), "it runs")[0])
     host.kill()
-    until(lambda: not os.path.exists(f"/proc/{pid}"), "it ends")
+    until(lambda: not lives(pid), "it ends")
 
 
 @scene

@@ -159,7 +159,7 @@ def a_start_that_is_held_back_holds_no_kill_back(host):
     readonly = host.home / "readonly"
     host.words = ["env", f"LD_PRELOAD={build(host)}", f"READONLY={readonly}", *host.words]
     beats = "note('there')\nwhile True:\n    said = hear()\n    note('asked')\n    dsrs.sendall(b'beat\\n')\n"
-    host.start({"a": ({"limit": 1000}, LIVES), "hb": ({"period": 200, "limit": 9}, beats)})
+    host.start({"a": ({"limit": 1000}, LIVES), "hb": ({"period": 500, "limit": 9}, beats)})
     host.noted("hb 2/17 there")
     readonly.touch()
     until(lambda: host.ask("service refresh a") == "refused noroom", "the generations that are kept are used up")

@@ -4,6 +4,7 @@ import pathlib
 import re
 import signal
 
+from log_scenes import lines
 from scenes import LIVES, scene
 from supervisors import equal
 from waiting import until
@@ -97,7 +98,7 @@ def removed_services_go_down_first(host):
     host.service("a", STAYS.replace("note('asked')", "(note('asked'), print('bye', flush=True))"))
     host.service("a/log", "#!/bin/sh\ncat > out\necho end >> out\n")
     host.service("n", LIVES)
-    host.start({"a": ({}, None), "b": ({}, LIVES)}, options=("--grace", "300"))
+    host.start({"a": ({}, None), "b": ({}, LIVES)}, options=("--grace", "4000"))
     catches(host, "a")
     reload(host, described("b", 1) + described("n", 0))
     host.logged("began n 3/16")
@@ -106,8 +107,8 @@ def removed_services_go_down_first(host):
     assert "asked" in host.notes(), host.notes()
     equal([host.ask(f"retrieve {it} label") for it in "abn"], ["refused notfound", "found 2/17", "found 3/16"])
     equal(host.ask("service up a"), "refused unknownlabel")
-    until(lambda: (host.home / "services/a/log/out").read_text().endswith("end\n"), "its log program ends")
-    equal((host.home / "services/a/log/out").read_text(), "bye\nend\n")
+    until(lambda: lines(host)[-1:] == ["end"], "its log program ends")
+    equal(lines(host), ["bye", "end"])
     reload(host, "service = []\n")
     in_force(host, 2)
     equal(host.status(), {})
@@ -149,7 +150,7 @@ def settings_that_change_nothing(host):
 def reloads_in_a_row(host):
     """The next reload replaces one that isn't done. A service that it took down starts again if it is in the settings again."""
     host.service("c", LIVES)
-    host.start({"a": ({}, STAYS), "b": ({}, LIVES)}, options=("--grace", "500"))
+    host.start({"a": ({}, STAYS), "b": ({}, LIVES)}, options=("--grace", "5000"))
     host.logged("began b 2/17")
     good = (host.home / "settings.toml").read_text()
     pid = host.pid("b")

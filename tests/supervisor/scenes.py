@@ -10,7 +10,7 @@ import subprocess
 import sys
 import time
 
-from supervisors import ROOT, Skipped, equal, lives
+from supervisors import ROOT, Skipped, equal, lives, name_of
 from waiting import PATIENCE, until
 
 LIVES = "live()\n"
@@ -258,15 +258,16 @@ signal.signal(signal.SIGTERM, lambda *_: (note("asked to end"), os._exit(0) if l
 note("there")
 while True: time.sleep(1)
 '''
-    host.start({label: ({}, body) for label in ("kind", "rude")}, options=("--grace", "8000"))
-    host.noted("kind 1/16 there"), host.noted("rude 2/17 there")
-    for label, least, most in (("kind", 0, 7.8), ("rude", 7.8, 20)):  # Python may see a signal after its sleep only
+    for label, grace, least, most in (("kind", 60000, 0, 50), ("rude", 8000, 7.8, 50)):  # Python may see a signal after its sleep only
+        host.start({label: ({}, body)}, options=("--grace", str(grace)))
+        endpoint = host.status()[label][1]
+        host.noted(f"{label} {endpoint} there")
         host.ask(f"service down {label}")
         host.logged(f"gone {label}")
         took = host.when(f"gone {label}") - host.when(f"kill {label}")
         assert least <= took <= most, f"{label} took {took:.2f} s"
-        host.noted(f"{label} {'1/16' if label == 'kind' else '2/17'} asked to end")
-    host.end()
+        host.noted(f"{label} {endpoint} asked to end")
+        host.end()
 
 
 @scene
@@ -286,7 +287,7 @@ if me == "1/16":
             time.sleep(1000)
         os._exit(0)
     os.wait()
-    time.sleep(0.1)
+    while not os.path.exists("../../notes") or "stray" not in open("../../notes").read(): time.sleep(0.01)
     os._exit(3)
 live()
 '''
@@ -344,7 +345,7 @@ while True: time.sleep(1)
     leaves = "#!/bin/sh\nsetsid sleep 1000 &\nexec sleep 1000\n"
     host.start({"a": ({}, helped), "b": ({"limit": 9}, leaves)}, options=("--grace", "60000"))
     pid = int(host.noted("helper").split()[-1])
-    until(lambda: len(host.processes()) == 4, "all are there")
+    until(lambda: len(host.processes_named("sleep")) == 2, "b and its stray are there")
     host.ask("service down a")
     host.noted("stops")
     os.kill(host.pid("b"), signal.SIGKILL)
@@ -389,6 +390,7 @@ def children_from_before_the_supervisor_live(host):
     pid = int(file.read_text())
     assert lives(pid), host.log()
     os.kill(pid, signal.SIGKILL)
+    until(lambda: not lives(pid), "it ends")
     host.end()
 
 
@@ -427,6 +429,7 @@ def a_stray_as_old_as_its_supervisor_is_killed(host):
     for _ in range(8):
         host.start({"a": ({"limit": 1}, hides)})
         pid = int(until(lambda: (host.home / "hidden").exists() and (host.home / "hidden").read_text(), "it is there"))
+        until(lambda: name_of(pid) == "sleep", "it sleeps")  # one that executes a program has no environment meanwhile
         os.kill(host.pid("a"), signal.SIGKILL)
         until(lambda: not lives(pid), "it is killed")
         host.end()
@@ -517,10 +520,10 @@ while True:
     notify("STATUS=as ever\\nWATCHDOG=1")
 '''
     foreign = 'if not os.fork():\n    while True: notify("WATCHDOG=1"), time.sleep(0.05)\ntime.sleep(1000)\n'
-    host.start({"line": ({"period": 400}, LIVES), "notify": ({"period": 400}, watchdog), "mute": ({"period": 400}, "live(False)\n"),
-                "child": ({"period": 400}, foreign)})
+    host.start({"line": ({"period": 800}, LIVES), "notify": ({"period": 800}, watchdog), "mute": ({"period": 800}, "live(False)\n"),
+                "child": ({"period": 800}, foreign)})
     host.logged("kill mute 3/18 cause 4"), host.logged("kill child 4/19 cause 4")
-    host.noted("watchdog 8000000 True")
+    host.noted("watchdog 16000000 True")
     host.logged("ready notify 2/17")
     time.sleep(3)
     assert not host.has_logged("kill line") and not host.has_logged("kill notify"), host.log()
@@ -541,11 +544,11 @@ def a_service_that_stands_still(host):
 
 @scene
 def a_supervisor_that_stood_still_kills_nobody(host):
-    host.start({"a": ({"period": 260}, LIVES), "b": ({"period": 280}, LIVES)})
+    host.start({"a": ({"period": 600}, LIVES), "b": ({"period": 620}, LIVES)})
     host.logged("began b 2/17")
-    time.sleep(3)
+    time.sleep(7)
     host.process.send_signal(signal.SIGSTOP)
-    time.sleep(8)
+    time.sleep(18)
     host.process.send_signal(signal.SIGCONT)
     host.logged("late")
     time.sleep(1)
@@ -727,7 +730,7 @@ def a_file_of_generations_has_one_supervisor(host):
     host.path = host.home / "other"
     host.start()
     host.ended(3)
-    assert "busy" in host.log().splitlines()[-1], host.log()
+    assert "busy" in host.log(), host.log()  # the first one logs, too
     host.process, host.path, host.clients = first, path, {}
     host.ask("service refresh a")
     equal(host.ask("retrieve a label"), "found 2/16")
@@ -786,7 +789,7 @@ def a_folder_that_others_may_write_is_left_alone(host):
 @scene
 def one_that_talks_without_end_holds_up_nobody(host):
     flood = 'while True: dsrs.sendall(b"show\\n" * 1000)\n'
-    host.start({"flood": ({"period": 300}, flood), "a": ({"period": 300}, LIVES)})
+    host.start({"flood": ({"period": 800}, flood), "a": ({"period": 800}, LIVES)})
     host.logged("kill flood")
     equal(host.ask("retrieve a label"), "found 2/17")
     assert not host.has_logged("kill a"), host.log()
@@ -1028,11 +1031,11 @@ def the_session_of_the_guide(host):
 def the_clock_of_the_guide_beats(host):
     """With a `period` the clock of examples/services answers each ping, continues to publish, and prints nothing."""
     shutil.copytree(ROOT / "examples/services/clock", host.home / "services/clock")
-    settings = '[[service]]\nlabel = "clock"\nclass = "server"\nlimit = 0\nperiod = 300\npublishes = ["clock.time"]\n'
+    settings = '[[service]]\nlabel = "clock"\nclass = "server"\nlimit = 0\nperiod = 800\npublishes = ["clock.time"]\n'
     host.start(settings=settings)
     first = until(lambda: host.ask("retrieve clock.time u32").startswith("found ") and host.ask("retrieve clock.time u32"), "the clock publishes")
     until(lambda: host.ask("retrieve clock.time u32") not in (first, "refused notfound"), "it publishes again")
-    time.sleep(8)
+    time.sleep(20)  # more than two periods
     assert host.ask("retrieve clock label") == "found 1/16", host.log()
     assert "clock: " not in host.log() and "event=died" not in host.log(), host.log()
     host.end()
@@ -1125,10 +1128,12 @@ live()
             while f"round {number}" not in host.notes():
                 host.ask("status")
                 said += errors.read(1 << 15) or b""
-        while said.count(b'"service":"a"') < 600:
+        end = time.monotonic() + PATIENCE
+        while said.count(b'"service":"a"') < 600 and time.monotonic() < end:
             said += errors.read(1 << 15) or b""
         host.end()
         said += errors.read(1 << 20) or b""
+    equal(said.count(b'"service":"a"'), 600)
     for line in said.splitlines():
         try:
             json.loads(line)

@@ -7,7 +7,7 @@ import subprocess
 
 from scenes import LIVES, memory, scene
 from supervisors import Host, Skipped, equal
-from waiting import until
+from waiting import PATIENCE, until
 
 
 @contextlib.contextmanager
@@ -55,7 +55,7 @@ while True:
                 until(lambda: two.ask("retrieve d label") == "found 1/16", "the label crosses")
                 until(lambda: two.ask("retrieve d.n u32") == "found 7", "what it publishes crosses")
                 two.noted("f 1/200 seen d label rs 1.0 = 1/16")
-                equal(one.ask("nameof 1/200"), "named f")
+                until(lambda: one.ask("nameof 1/200") == "named f", "the server's label crosses")
                 os.kill(one.pid("d"), signal.SIGKILL)
                 two.noted("f 1/200 seen d label rs 2.0 = 2/16")
                 one.ask("service down d")
@@ -104,7 +104,7 @@ live()
             host.start({"e": ({"publishes": ["e.m"]}, body)}, options=("--stream", other, "--slot", "200"))
             until(lambda: host.ask("retrieve e.m mem") != "refused notfound", "it publishes")
             before = memory(host)
-            host.noted("published")
+            host.noted("published", 10 * PATIENCE)
             grown = memory(host) - before
             assert grown < 64 << 20, f"{grown >> 20} MB"
             os.symlink(host.home / "redis", host.home / "redis2")
