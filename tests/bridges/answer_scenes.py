@@ -200,8 +200,8 @@ def an_answer_that_trickles(fleet, draw):
 
 
 def others_come_while_replicas_are_missing(fleet, draw):
-    """While a bridge waits three minutes for a replica, what others compacted reaches it, and it looks for losses."""
-    waits, other = fleet.start("--replicas", "1", "--within", "180000"), fleet.start()
+    """While a bridge waits a minute for a replica, what others compacted reaches it, and it looks for losses."""
+    waits, other = fleet.start("--replicas", "1", "--within", "60000"), fleet.start()
     with waits.client() as client:
         begun = time.monotonic()
         client.send(f"offer {number('own', 1, 1)}")
@@ -215,5 +215,5 @@ def others_come_while_replicas_are_missing(fleet, draw):
         shows(waits, [number("own", 1, 1), *lines])  # a reading may wait for ten
         fleet.ask("DEL", "ds:items")
         until(lambda: "event=lost" in waits.said(), "it notices a loss")
-        assert time.monotonic() - begun < 175, "what others did waits for the replica"
+        assert time.monotonic() - begun < 55, "what others did waits for the replica"
         assert not client.has_answer(0.2)

@@ -15,7 +15,7 @@
 #include <time.h>
 #include <unistd.h>
 
-enum { MORTAL, STUBBORN, SERVICES, TICK = 10, GRACE = 300, SECONDS = 60 /* TICK, GRACE: milliseconds */ };
+enum { MORTAL, STUBBORN, SERVICES, TICK = 10, GRACE = 3000, SECONDS = 60 /* TICK, GRACE: milliseconds */ };
 
 static const char settings[] =
     "slots = 4\n"
