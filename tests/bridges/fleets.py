@@ -7,6 +7,7 @@ import contextlib
 import functools
 import os
 import pathlib
+import random
 import re
 import shutil
 import signal
@@ -20,6 +21,7 @@ from waiting import PATIENCE, until
 
 ROOT = pathlib.Path(__file__).resolve().parent.parent.parent
 TICK = 0.005
+LEAST_PORT = 10000
 FAULT = re.compile(r"^.*(ERROR: |runtime error|==\d+== ).*$", re.MULTILINE)  # of a sanitizer, or of valgrind
 DOWN_AFTER = 2000  # milliseconds after which a Sentinel considers a master dead: a busy one may be silent for some hundred
 MEMORY = "/dev/shm"  # where a server that syncs each change isn't held up by a disk
@@ -66,9 +68,13 @@ def build_over(library, program, source, *flags):
 
 
 def free_port():
-    with socket.socket() as it:
-        it.bind(("127.0.0.1", 0))
-        return it.getsockname()[1]
+    """Returns a free port below those of outgoing connections, one of which could have it before its server starts, or while it is away."""
+    with open("/proc/sys/net/ipv4/ip_local_port_range", encoding="ascii") as range_:
+        most = int(range_.read().split()[0])
+    while True:
+        with socket.socket() as it, contextlib.suppress(OSError):
+            it.bind(("127.0.0.1", random.randrange(LEAST_PORT, most) if most > LEAST_PORT else 0))
+            return it.getsockname()[1]
 
 
 class Fleet:
@@ -123,10 +129,11 @@ class Fleet:
         raise AssertionError("redis-server doesn't start")
 
     def answers(self):
+        """Returns whether the server answers, and not another one at its port."""
         end = time.monotonic() + PATIENCE
         while self.server.poll() is None and time.monotonic() < end:
             try:
-                return self.ask("PING") == b"PONG"
+                return self.ask("PING") == b"PONG" and b"process_id:%d\r" % self.server.pid in self.ask("INFO", "server")
             except (OSError, Denied):
                 time.sleep(TICK)
         return False

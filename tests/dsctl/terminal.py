@@ -1,5 +1,6 @@
 """The program at a pseudo terminal, and the pictures of it that the documents show."""
 import os
+import pathlib
 import pty
 import re
 import select
@@ -61,7 +62,7 @@ def pieces(program, typed, words=(), settings=()):
     os.close(theirs)
     seen = b""
     for piece in [*typed, b"\x04"]:
-        time.sleep(0.2)
+        wait_for_reading(started.pid)
         os.write(ours, piece)
     try:
         while select.select([ours], [], [], harness.SECONDS)[0] and (read := shown(ours)):
@@ -72,6 +73,14 @@ def pieces(program, typed, words=(), settings=()):
         started.wait()
         os.close(ours)
     return Seen(seen.replace(b"\r\n", b"\n"), started.returncode)
+
+
+def wait_for_reading(pid, late=harness.SECONDS):
+    """Waits until a program has read what was typed, and sleeps, as it does only while it waits for more."""
+    end = time.monotonic() + late
+    time.sleep(0.2)  # in which the terminal hands over what was typed
+    while time.monotonic() < end and pathlib.Path(f"/proc/{pid}/stat").read_text().rpartition(")")[2].split()[0] in "RD":
+        time.sleep(0.01)
 
 
 def session(program, words, typed, streams=("stdin", "stdout", "stderr"), prompt=PROMPT):

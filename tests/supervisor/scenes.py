@@ -1072,7 +1072,7 @@ def no_answer_of_a_dead_instance(host):
     """bench/find gets an answer of each instance of a service that it kills, and none of one that it found dead."""
     ran = subprocess.run([ROOT / "bench/find", "--kills", "4", "--seconds", "3", host.room], capture_output=True, text=True, timeout=4 * PATIENCE)
     said = re.fullmatch(r"kills 4, answers (\d+), of [2-5] endpoints, none of a dead one, longest gap \d+ ms\n", ran.stdout)
-    assert ran.returncode == 0 and said and int(said[1]) > 100, f"{ran}"
+    assert ran.returncode == 0 and said and int(said[1]) > 9, f"{ran}"
 
 
 # ---- what services print ----
