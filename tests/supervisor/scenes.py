@@ -584,13 +584,13 @@ def used(pid):
 
 @scene
 def waits_longer_after_each_failure(host):
-    host.start({"a": ({"limit": 4}, "#!/bin/sh\nexit 1\n")}, tick=50)
+    host.start({"a": ({"limit": 4}, "#!/bin/sh\nexit 1\n")}, tick=500)
     host.logged("givenup a")
     began = [float(it.split()[0]) for it in host.ask("log").splitlines() if " began a " in it]
     died = [float(it.split()[0]) for it in host.ask("log").splitlines() if " died a " in it]
     pauses = [begin - end for begin, end in zip(began[1:], died)]
     for ticks, pause in zip((1, 2, 4, 8), pauses):
-        assert 0.05 * (ticks - 1) <= pause < 0.05 * ticks + 0.5, pauses
+        assert 0.5 * (ticks - 1) <= pause < 0.5 * ticks + 3.5, pauses
     host.end()
 
 
