@@ -175,13 +175,13 @@ def a_line_that_is_too_long(stage):
 def a_daemon_that_stops(stage):
     """Calls end at their timeouts while dsrs is stopped, and afterwards each gets its own answer."""
     it = host(stage, "d")
-    player = stage.player(timeout=5000)
+    player = stage.player(timeout=300)
     it.process.send_signal(signal.SIGSTOP)
     for name in ("d", "x"):
         equal(player(f"retrieve {name} label"), "fault timeout")
     it.process.send_signal(signal.SIGCONT)
-    until(lambda: player("retrieve d label") == "1/16", "it answers again")
-    player.plays(("nameof 1/16", "d"), ("ask log x", "fault norequest"))
+    for line, wanted in (("retrieve d label", "1/16"), ("nameof 1/16", "d"), ("ask log x", "fault norequest")):
+        equal(until(lambda line=line: (lambda it: it if it != "fault timeout" else None)(player(line)), "it answers again"), wanted)
     player.end()
     it.end()
 

@@ -248,7 +248,7 @@ static void look(struct ds_watch *watch) {
 
 static void live(void) {
     struct ds_watch *watch = NULL;
-    must(ds_instance_open(&client, 5000));
+    must(ds_instance_open(&client, 60000));
     must(ds_instance_notify("READY=1"));
     int turn = getenv("TURN") ? atoi(getenv("TURN")) : 20; /* milliseconds */
     if (getenv("DS_SUB")) must(ds_watch_open(&watch, client, "d", DS_LABEL, NULL));

@@ -149,7 +149,7 @@ def look(me, watch):
 
 
 def live():
-    with Instance(5) as me:
+    with Instance(60) as me:
         listener, number = me.listener(), 0
         me.notify("READY=1")
         watch = me.watch("d", [Endpoint]) if "DS_SUB" in os.environ else None

@@ -184,7 +184,7 @@ fn look(me: &mut Instance, label: &str, watch: &mut Watch) -> Result<(), ClientE
 }
 
 fn live() -> Result<(), ClientError> {
-    let mut me = Instance::open(Some(Duration::from_secs(5)))?;
+    let mut me = Instance::open(Some(Duration::from_secs(60)))?;
     let (label, listener) = (env::var("DS_LABEL").unwrap_or_default(), me.listener()?);
     let turn = time(&env::var("TURN").unwrap_or_default()).unwrap_or(Duration::from_millis(20));
     listener.set_nonblocking(true).map_err(ClientError::Lost)?;
