@@ -223,7 +223,7 @@ class Answers(unittest.TestCase):
         thread.join()
 
     def test_a_late_answer_is_no_other_calls(self):
-        with Client(self.server.path, 0.05) as client:
+        with Client(self.server.path, 3) as client:
             with self.server.lock:
                 self.assertRaises(socket.timeout, client.ask, "retrieve eth0 label")
                 self.assertRaises(socket.timeout, client.ask, "retrieve eth0 u32")
@@ -288,7 +288,8 @@ class AtOnce(unittest.IsolatedAsyncioTestCase):
 
                 following = asyncio.create_task(follow())
                 await other.ask(LABEL)
-                await asyncio.sleep(0.05)
+                while not noticed and not following.done():
+                    await asyncio.sleep(0.01)
                 await other.ask("delete 0/2 eth0 label 3.1")
                 await asyncio.wait_for(following, PATIENCE)
                 self.assertEqual(noticed, [(40, "eth0 label rs 3.0 = 3/16"), (40, "eth0 label rs 3.1 -")])
