@@ -76,7 +76,7 @@ def harmed(machine, harm, application):
 
 
 def worked(machine, so, *works):
-    """Lets clients of the file server work, one after the other, and all again until something is so."""
+    """Lets clients of the file server work in order, and again until something is so."""
     for _ in range(ROUNDS):
         for words in works:
             all_is_well(ended(machine.files(*words)))
@@ -128,6 +128,7 @@ def kills(make):
 def kills_of_the_only_disk(make):
     with make(disks=1) as machine:
         harmed_often(machine, Kill(machine, "disk0", 0.25), 4, "write", 4, 32)
+        all_is_well(ended(machine.files("read", 0.1, 32)))  # by what follows the last kill
         all_recovered(machine, "disk0", 4)
         machine.end()
 
@@ -137,6 +138,7 @@ def stops(make):
     """RS notices a driver that is stopped, by its heartbeats or a complaint."""
     with make(disks=1, period=MISSED) as machine:
         harmed_often(machine, Stop(machine, "disk0", 0.8), 3, "read", 4, 32)
+        all_is_well(ended(machine.files("read", 0.1, 32)))  # by what follows the last stop
         failures = all_recovered(machine, "disk0", 3)
         assert {it.cause for it in failures} <= {"heartbeat", "complaint"}, [it.cause for it in failures]
         machine.end()
@@ -312,7 +314,8 @@ def the_readme(make):
     lines = [line.strip() for line in text.splitlines() if line.startswith("    ") and not line.strip().startswith("tools/build")]
     folder = make.room / "readme"
     script = "\n".join(["set -e", *lines, "wait %2", "kill %1", "wait %1"]).replace("/tmp/", f"{folder}/").replace("crates/ds_c/out/libds_c.a", make.library)
-    ready = f"until [ $({folder}/bin/dsask {folder}/machine/socket status 2>/dev/null | grep -c ' up \\| ready ') = {len(READY)} ]; do sleep 0.1; done"
+    up = f"{folder}/bin/dsask {folder}/machine/socket status 2>/dev/null | grep -c ' up \\| ready '"
+    ready = f"until [ $({up}) = {len(READY)} ]; do sleep 0.1; done"
     script = script.replace(" read 4096 10 32", " read 4096 2 32").replace("socket &", f"socket 2>/dev/null &\n{ready}")
     ran = subprocess.run(["bash", "-c", script], cwd=ROOT, capture_output=True, text=True, timeout=5 * PATIENCE)
     counts = counts_of(ran.stdout)
