@@ -25,10 +25,10 @@ module _ (world : WorldRecord) (side : Side) (old new : ServersRecord) (before a
     elim a.2 [
       | inl done ↦ inl (done, refl, refl)
       | inr refused ↦ inr (
-          inr (refused.none, refused.takes),
-          ap (λ (v : ServersRecord). session_of world side v) refused.kept,
-          refused.told,
-        )
+        inr (refused.none, refused.takes),
+        ap (λ (v : ServersRecord). session_of world side v) refused.kept,
+        refused.told,
+      )
     ],
   )
 
