@@ -128,7 +128,7 @@ entries_refused command number session m is at there =
 pub ring_answers : (command : ScriptCommand) (ring : ℕ) (old : SessionContent) (out : List ℕ) (new : SessionContent) →
     command ≡ Ring ring → AnswersRing ring old out new ⊎ IsLineRefused old out new → AnswersOrRefuses command old out new
 ring_answers command ring old out new is (inl a) = subst (λ (k : ScriptCommand). AnswersOrRefuses k old out new) (sym is) (inr a)
-ring_answers command ring old out new is (inr r) = subst (λ (k : ScriptCommand). AnswersOrRefuses k old out new) (sym is) (inl r)
+ring_answers command ring old out new is (inr r) = subst (λ (k : ScriptCommand). AnswersOrRefuses k old out new) (sym is) (inl (tt, r))
 
 pub side_answers : (command : ScriptCommand) (side : OneSide) (old new : SessionContent) → command ≡ Side side → new ≡ turned old side →
     AnswersOrRefuses command old (side_line side) new
