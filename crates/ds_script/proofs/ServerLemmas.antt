@@ -26,8 +26,7 @@ module _ (world : WorldRecord) (side : Side) (old new : ServersRecord) (before a
       | inl done ↦ inl (done, refl, refl)
       | inr refused ↦ inr (
         inr (refused.none, refused.takes),
-        ap (λ (v : ServersRecord). session_of world side v) refused.kept,
-        refused.told,
+        (ap (λ (v : ServersRecord). session_of world side v) refused.kept, refused.told),
       )
     ],
   )
