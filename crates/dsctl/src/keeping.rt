@@ -86,11 +86,11 @@ impl<R: Runtime + AllocGlobal> Report for Unloadable<'_, R> {
 
 /// Answers a script in a new session, without printing its answers, and returns the session, with how many lines the
 /// script has. A script with a bad line, or with one that is refused, isn't loaded, as standard error says.
-pub(crate) fn load<R: Runtime + AllocGlobal>(
-    rt: &R,
+pub(crate) fn load<'a, R: Runtime + AllocGlobal>(
+    rt: &'a R,
     terminals: Terminals,
     session: Session,
-    name: Option<&str>,
+    name: Option<&'a str>,
 ) -> Result<(Session, u32), Failure> {
     let Some(name) = name else {
         return Ok((session, 0));
@@ -98,6 +98,29 @@ pub(crate) fn load<R: Runtime + AllocGlobal>(
     let Ok(input) = Input::open(rt, Some(name)) else {
         return Err(Failure::Unopened);
     };
+    let mut writer = Plain::new(Unshown {
+        matched: Some(0),
+        is_refused: false,
+    });
+    let begun = load_input(rt, terminals, session, name, input, &mut writer)?;
+    if writer.inner.is_refused {
+        let _ = eprintln!(rt;
+            "dsctl: `{name}` can't be loaded, one of its lines is refused: dsctl {name} shows it"
+        );
+        return Err(Failure::Unloaded);
+    }
+    Ok(begun)
+}
+
+// Like `load`, for the input that the file is. The writer notes a refusal.
+fn load_input<'a, R: Runtime + AllocGlobal>(
+    rt: &'a R,
+    terminals: Terminals,
+    session: Session,
+    name: &'a str,
+    input: Input<R>,
+    writer: &mut Plain<Unshown>,
+) -> Result<(Session, u32), Failure> {
     let line = LineNumber::new();
     let typed = Typed::unprompted(rt, input);
     let mut reader = Plain::new(Stepped::new(rt, typed, false, &line));
@@ -105,10 +128,6 @@ pub(crate) fn load<R: Runtime + AllocGlobal>(
         .inner
         .take_header()
         .map_err(|error| Failure::ReadFault(Some(error)))?;
-    let mut writer = Plain::new(Unshown {
-        matched: Some(0),
-        is_refused: false,
-    });
     let mut report = Unloadable {
         rt,
         name,
@@ -121,19 +140,12 @@ pub(crate) fn load<R: Runtime + AllocGlobal>(
         session,
         0,
         &mut reader,
-        &mut writer,
+        writer,
         &mut report,
         BadLines::End,
         has_notes,
     );
-    let begun = loaded(answered, reader.fault)?;
-    if writer.inner.is_refused {
-        let _ = eprintln!(rt;
-            "dsctl: `{name}` can't be loaded, one of its lines is refused: dsctl {name} shows it"
-        );
-        return Err(Failure::Unloaded);
-    }
-    Ok(begun)
+    loaded(answered, reader.fault)
 }
 
 fn audience(terminals: Terminals) -> Audience {
