@@ -18,7 +18,7 @@ AT_ONCE = 1 << 16  # bytes that are received at a time
 CODING = "utf-8", "surrogateescape"  # by which any bytes pass
 WORDS = {it.word: it for it in Refused.__subclasses__()}
 SOONEST = 1e-6  # seconds of a timeout that is over, since 0 would be none
-HUNG_UP = "dsfleet hung up"
+HUNG_UP = "the daemon hung up"
 MOST = 256  # items of a check
 PUBLIC = range(120, 128)  # the subscriptions that dsrs has for its clients
 WORD_OF = {kind: word for word, (kind, _) in SPELLED.items()}
@@ -99,7 +99,7 @@ class Client:
 
     A call that takes longer than `timeout` seconds raises socket.timeout, which is TimeoutError from Python 3.10 on. Later calls
     still get their own answers, unless the line couldn't be sent within that time: then the client is closed. ConnectionError means
-    that dsfleet hung up: `reconnect`. A `connect` and a `Watch` do so themselves.
+    that the daemon hung up: `reconnect`. A `connect` and a `Watch` do so themselves.
     """
 
     endpoint: Optional[Endpoint] = None  # under which the client publishes

@@ -75,6 +75,27 @@ class Map(Handle):
             name, kind = bytes(key.name[: key.name_length]), kinds[key.kind]
             yield Entry(str(name, "ascii"), kind, self._value(kind, name))
 
+    def __len__(self) -> int:
+        """Returns how many live entries it has."""
+        return sum(1 for _ in self)
+
+    def __bool__(self) -> bool:
+        return True  # also while it is empty
+
+    def __contains__(self, key: object) -> bool:
+        """Returns whether a live entry has this name and kind.
+
+        >>> with Map("eth0.*", kinds=[Endpoint, int]) as driver:
+        ...     _ = driver.take(Items(b"eth0.mtu u32 eth0 4.0 = 1500\\n"))
+        ...     ("eth0.mtu", int) in driver, ("eth0", Endpoint) in driver, len(driver)
+        (True, False, 1)
+        """
+        try:
+            self[cast(Tuple[str, type], key)]
+        except NotFound:
+            return False
+        return True
+
     def _steps(self, key: MapKey) -> bool:
         """Goes to the next key. Returns whether there is one."""
         try:
